@@ -19,8 +19,8 @@ built = @begun=$$(date +%s); mkdir -p crates/$@/out; \
 	fi
 
 $(libraries):
-	$(call built,cd ../.. && bin/build-library $(ROOMS) $@ $(call below,$@))
+	$(call built,cd ../.. && bin/build-library $(ROOMS) $(MOST) $@ $(call below,$@))
 
 # (building runs the program too, which says how it is called: what counts is that it is there)
 $(PROGRAM):
-	$(call built,rt run; test -x out/$@)
+	$(call built,rt run --jobs $(MOST); test -x out/$@)

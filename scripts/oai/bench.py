@@ -224,7 +224,7 @@ def plot(tables, folder):
     print(f"plots: {folder}")
 
 
-def bench(folder=None, *sizes):
+def bench(folder=None, *items: int):
     """How fast a server is, and how that grows with the number of items.
 
     Its items have records of 1.6 kB of XML, and every tenth is in a set: 1,000, 10,000 and 100,000, or ITEMS, up to
@@ -241,10 +241,8 @@ def bench(folder=None, *sizes):
     in which answers were waited for; and the most memory that the server had meanwhile, with how long the file is then.
     It judges nothing. Where a FOLDER is given and gnuplot is there, a plot of each operation goes there (apt-get
     install gnuplot-nox). CACHES are other caches, PLACES one of `memory` and `file`, LONG the seconds, 30 if not set.
-
-    Usage: scripts/run bench [FOLDER [ITEMS..]]
     """
-    sizes = [int(it) for it in sizes] or SIZES
+    sizes = items or SIZES
     tables = {}
     for place, cache in itertools.product(PLACES, CACHES):
         runs = tables[place, cache] = {}

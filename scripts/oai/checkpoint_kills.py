@@ -162,8 +162,6 @@ def checkpoint_kills():
     last write, only then renamed, then the folder is synced, and the journal of before is never removed or emptied. It
     names what differs; its last line is `N kills, M differences`, and its status is 0 where M is 0. Packages of Debian:
     apt-get install strace
-
-    Usage: scripts/run checkpoint-kills
     """
     needs("strace")
     with tempfile.TemporaryDirectory() as top:

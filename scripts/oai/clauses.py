@@ -41,17 +41,14 @@ def functions(path):
         yield found.group(1), parameters(text[:end]), clauses
 
 
-def clauses(*names):
+def clauses(*crates):
     """Counts the clauses, the functions and the modules of crates.
 
     A clause is a line of src/ that begins with `requires` or `ensures`, a module one that begins with `mod` in
     src/lib.rt; a module of another file is a part of that file's. Functions with more than eight clauses or six
-    parameters (`self` not counted) are listed.
-
-    Usage: scripts/run clauses [CRATE..], which is every crate if none is named
+    parameters (`self` not counted) are listed. It counts the crates given, or all.
     """
-    names = names or sorted(path.name for path in (TOP / "crates").iterdir())
-    for name in names:
+    for name in crates or sorted(path.name for path in (TOP / "crates").iterdir()):
         source = TOP / "crates" / name / "src"
         files = sorted(source.rglob("*.rt"))
         count = sum(1 for path in files for line in path.read_text().split("\n") if CLAUSE.match(line))

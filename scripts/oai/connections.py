@@ -104,7 +104,7 @@ def deposit_file(server, path):
     return len(lines)
 
 
-def serving(program, config, target, *files):
+def serving(program, config, target, *lines):
     """Measures a server of many connections.
 
     These are the processor time of a deposited line, requests a second with 1, 64 and 512 clients by wrk, an answer
@@ -113,13 +113,11 @@ def serving(program, config, target, *files):
     `crates/oaihostd/out/oaihostd serve`; PLACE is the path of a file or a folder that is not there yet. TARGET is what
     is asked, as `/oai/a?verb=Identify`; LINES are files of deposit lines for the repository `a`. It prints a line of
     figures for each measurement, and judges nothing.
-
-    Usage: scripts/run serving PROGRAM CONFIG TARGET [LINES..]
     """
     needs("wrk")
     allow_files(8_192)
     with tempfile.TemporaryDirectory(prefix="serving-") as folder, Process([*program.split(" "), config, "0", f"{folder}/place"]) as server:
-        for path in files:
+        for path in lines:
             before = server.processor()
             count = deposit_file(server, path)
             print(f"{count} lines deposited: {(server.processor() - before) / count * 1e6:.1f} us of a processor each", flush=True)
@@ -197,8 +195,6 @@ def daemon_bench():
     after a load and after a start on its journal. Each figure is the median of RUNS runs, interleaved, 5 if it is not
     set. It prints a line for each, with the load average; it judges nothing. ITEMS is the number of items, 20000 if it
     is not set.
-
-    Usage: scripts/run daemon-bench
     """
     needs("wrk")
     allow_files(8_192)

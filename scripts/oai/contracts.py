@@ -1,4 +1,4 @@
-"""Writes docs/CONTRACTS.md from the sources.
+"""Lists the contracts, from the sources.
 
 An entry is a law, or a public function that the crate exports and whose clauses cite relations of specs/ (their names begin with a verb, as `IsAsked` and
 `Keeps` do): its name, of a law the first sentence of its doc comment, and these relations, behind those of a file the file. Functions that
@@ -7,19 +7,19 @@ follow one another and have the same relations are one entry.
 
 import collections
 import itertools
+import pathlib
 import re
 import textwrap
 
 from oai.crates import proved
 from oai.programs import TOP
 
-PAGE = TOP / "docs/CONTRACTS.md"
 HEAD = """# Contracts
 
-Written by `scripts/run contracts` from the sources; do not edit. Of each crate: its laws, each with the first sentence
-of its doc comment, and the functions that it exports whose clauses cite relations of `specs/`, with these relations,
-as `Word` (File). The file is the crate's own where no other crate is named. What a function does is in its doc comment.
-Functions that follow one another and cite the same are one entry.
+Written by `scripts/run contracts` from the sources. Of each crate: its laws, each with the first sentence of its doc
+comment, and the functions that it exports whose clauses cite relations of `specs/`, with these relations, as `Word`
+(File). The file is the crate's own unless another crate is named. What a function does is in its doc comment. Functions
+that follow one another and cite the same are one entry.
 """
 USE = re.compile(r"ghost use Rattle\.(oai_\w+)\.specs\.(\w+)\.\{([^}]*)\}")
 OWNER = re.compile(r"^(?:impl(?:<[^{]*?>)? (?:(?!.* for )(\w+))|pub trait (\w+))", re.MULTILINE)
@@ -115,12 +115,12 @@ def page():
     return "\n".join(text) + "\n"
 
 
-def contracts(place=None):
-    """Writes docs/CONTRACTS.md from the sources; to standard output instead where `-` is given.
+def contracts(file=None):
+    """Lists the contracts of all crates: their laws, and the functions whose clauses cite relations of specs/.
 
-    Usage: scripts/run contracts [-]
+    The list is Markdown, made from the sources; it goes to standard output, or into FILE.
     """
-    if place == "-":
+    if file is None:
         print(page(), end="")
     else:
-        PAGE.write_text(page())
+        pathlib.Path(file).write_text(page())

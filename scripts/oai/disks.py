@@ -32,7 +32,7 @@ IDENTIFIER = re.compile(rb"<identifier>([^<]*)</identifier>")
 def on_small_disk(name, folder, size):
     """Runs the script itself once more, where a file system in memory of so many bytes is mounted on the folder, and no other program sees it: it is gone
     with the last process that does. The status."""
-    inner = 'mount -t tmpfs -o size="$1" none "$2" && exec "$3" "$4" "$2"'
+    inner = 'mount -t tmpfs -o size="$1" none "$2" && exec "$3" "$4" --within "$2"'
     mounted = ["unshare", "--mount", "--propagation", "private", "sh", "-c", inner, "-"]
     return subprocess.run([*mounted, size, folder, TOP / "scripts/run", name], check=False).returncode
 
@@ -152,7 +152,7 @@ def fill_pages(folder, cache):
     return trial
 
 
-def full_disk(folder=None):
+def full_disk(*, within=None):
     """Shows what a server does whose file of pages stands on a full file system.
 
     One in memory, of 400 kilobytes, is mounted where no other program sees it, half of it is taken by another file, and
@@ -160,18 +160,17 @@ def full_disk(folder=None):
     answered 500, with how many of its lines were done; what was stored before is answered as before, deposits of other
     states and deletions are answered 500 or done, and once the other file is gone the lines that were not done are
     deposited, and all is there. It names what is answered otherwise; the last line is `N answers, M differ`, and the
-    status is 0 where M is 0. It needs root, to mount the file system.
-
-    Usage: scripts/run full-disk
+    status is 0 where M is 0. It needs root, to mount the file system. WITHIN is for its own use: the folder on which
+    that is mounted.
     """
     needs("unshare", root=True)
     oaihost()
-    if folder is None:
+    if within is None:
         with tempfile.TemporaryDirectory() as folder:
             return on_small_disk("full-disk", folder, "400k")
     all_of_them = Trial()
     for cache in CACHES:
-        trial = fill_pages(folder, cache)
+        trial = fill_pages(within, cache)
         all_of_them.checked, all_of_them.differ = all_of_them.checked + trial.checked, all_of_them.differ + trial.differ
     return all_of_them.ended("answers")
 
@@ -247,23 +246,22 @@ def try_starts(trial, folder):
     trial.check("a folder that cannot be written", ending(start(f"{folder}/new")), (1, "folder: cannot open"))
 
 
-def daemon_full_disk(folder=None):
+def daemon_full_disk(*, within=None):
     """Shows what `oaihostd` does whose folder stands on a full file system, or on one that cannot be written.
 
     One in memory, of 200 kilobytes, is mounted where no other program sees it, and items are deposited until the
     journal finds no room. The server then ends, no answer that waited leaves, and a start with room has all that was
     acknowledged. A start that finds no room, or may not write, ends with what it should say. It names what differs; its
-    last line is `N checked, M differ`, and its status is 0 where M is 0. It needs root, to mount the file system.
-
-    Usage: scripts/run daemon-full-disk
+    last line is `N checked, M differ`, and its status is 0 where M is 0. It needs root, to mount the file system. WITHIN
+    is for its own use: the folder on which that is mounted.
     """
     needs("unshare", root=True)
     oaihostd()
-    if folder is None:
+    if within is None:
         with tempfile.TemporaryDirectory() as folder:
             return on_small_disk("daemon-full-disk", folder, "200k")
     trial = Trial()
     with tempfile.NamedTemporaryFile() as pages:
-        try_commit(trial, folder, pages.name)
-        try_starts(trial, folder)
+        try_commit(trial, within, pages.name)
+        try_starts(trial, within)
     return trial.ended()

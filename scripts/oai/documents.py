@@ -196,7 +196,7 @@ def check_odd(count):
     check_asked(count, "the four classes", configuration(100, 60, 1, 10), "".join(it + "\n" for it in asked))
 
 
-def valid(scripts="100", lines="200", seed="57"):
+def valid(scripts: int = 100, lines: int = 200, seed: int = 57):
     """Shows that documents are valid by a schema of OAI-PMH.
 
     That is scripts/valid/OAI-PMH.xsd, which is written from the text of the protocol. The documents are
@@ -210,14 +210,12 @@ def valid(scripts="100", lines="200", seed="57"):
     A document that is refused counts in a class where it is valid once the texts of that class are replaced; it is
     named where it is in none. The last line is `N documents, M refused outside the four classes`; the status is 0 where
     M is 0. It needs what `interop` needs; OAIHOSTD and ITEMS are as there.
-
-    Usage: scripts/run valid [SCRIPTS [LINES [SEED]]], which are 100, 200 and 57 if not given
     """
     interop.check_needs()
     count = Count()
     differences = check_schema()
     check_odd(count)
-    check_fuzz(count, int(scripts), int(lines), int(seed))
+    check_fuzz(count, scripts, lines, seed)
     differences += interop.harvest_all(lambda *place: KeptHarvest(*place, count)).differences
     print("documents: " + ", ".join(f"{name}: {number}" for name, number in count.documents.items()))
     print("refused by the schema: " + ", ".join(f"{name}: {count.classes[name]}" for name in CLASSES))
@@ -229,7 +227,7 @@ def valid(scripts="100", lines="200", seed="57"):
 
 # ---- well-formed documents
 
-WRITTEN = ["crates/tests_texts/src/documents/expected.rt", EXAMPLE]
+WRITTEN = ["crates/tests_repositories/src/documents/expected.rt", EXAMPLE]
 
 
 def split_documents(path):
@@ -253,12 +251,10 @@ def is_well_formed(folder, document):
 def well_formed(*files):
     """Shows, by a parser that is not this repository's own, that documents are well-formed XML.
 
-    They are those that the tests want (crates/tests_texts/src/documents/expected.rt), and those of an example
+    They are those that the tests want (crates/tests_repositories/src/documents/expected.rt), and those of an example
     (examples/first-steps.expected). A document begins with its XML declaration and ends with the end tag of its root.
     The parser is xmllint, of the Debian package libxml2-utils (apt-get install libxml2-utils). It also tells of a
     namespace that is no URI, as a test has one; that is no fault of form.
-
-    Usage: scripts/run well-formed [FILE..]
     """
     needs("xmllint")
     bad = False

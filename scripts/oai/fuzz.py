@@ -177,7 +177,7 @@ def in_words(seen):
     return ", ".join(f"{name}: {seen[name]}" for name in sorted(seen, key=place))
 
 
-def fuzz(scripts="1000", lines="200", seed="57"):
+def fuzz(scripts: int = 1000, lines: int = 200, seed: int = 57):
     """Compares what the program answers to scripts at random.
 
     A script is a number of exchanges with three repositories: deposits, small, large, refused and again; deletions,
@@ -190,11 +190,8 @@ def fuzz(scripts="1000", lines="200", seed="57"):
     line is `N scripts, M differences`; the status is 0 where M is 0. A script has a seed of its own, SEED and the ones
     after it: one is run again by `scripts/run fuzz 1 LINES ITS-SEED`. JOBS is how many scripts run side by side, 2 if
     not set.
-
-    Usage: scripts/run fuzz [SCRIPTS [LINES [SEED]]], which are 1000, 200 and 57 if not given
     """
     oaihost()
-    scripts, lines, seed = int(scripts), int(lines), int(seed)
     found, counts, asked, traced = 0, collections.Counter(), collections.Counter(), collections.Counter()
     with ProcessPoolExecutor(JOBS) as pool:
         for differences, *counted in pool.map(try_script, range(seed, seed + scripts), [lines] * scripts):
@@ -242,15 +239,14 @@ def next_line(author, is_late):
     return f"{answer.status} {seconds} {len(body)} {hash_of(body)} {it.line()}"
 
 
-def lives(seed="4"):
-    """Writes a file of crates/tests_durable: twenty lives of three repositories, as the model answers what is asked in them.
+def lives(seed: int = 4):
+    """Writes a file of crates/tests_serving: twenty lives of three repositories, as the model answers what is asked in them.
 
     They stand one behind the other. Of each answer stand its status, how many bytes its body has, and their 64-bit
-    FNV-1a hash. What is asked is as `fuzz` asks it.
-
-    Usage: scripts/run lives [SEED] >crates/tests_durable/src/written_lives.rt
+    FNV-1a hash. What is asked is as `fuzz` asks it. It is written to standard output, for
+    crates/tests_serving/src/written_lives.rt.
     """
-    author = Author(int(seed))
+    author = Author(seed)
     lines = []
     for life in range(LIVES):
         lines += [next_line(author, life * 4 > LIVES * 3) for _ in range(EXCHANGES)] + ["end"]

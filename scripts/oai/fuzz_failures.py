@@ -141,7 +141,7 @@ def tally(cases, told):
     return int(differing > 0)
 
 
-def fuzz_failures(scripts="300", lines="60", seed="71"):
+def fuzz_failures(scripts: int = 300, lines: int = 60, seed: int = 71):
     """Compares what a host answers to scripts at random where a device or a store fails with what it answers where none does.
 
     A script is a number of exchanges with three repositories, as those of `fuzz`, but that a deposit may have several
@@ -164,14 +164,12 @@ def fuzz_failures(scripts="300", lines="60", seed="71"):
     script, which it writes into a file of the folder FOLDER (that of temporary files if it is not set). The last line
     is `N scripts, M differences`; the status is 0 where M is 0. A script has a seed of its own, SEED and the ones after
     it. COPY is a folder for the copy, which then stays.
-
-    Usage: scripts/run fuzz-failures [SCRIPTS [LINES [SEED]]], which are 300, 60 and 71 if not given
     """
     with Tool("fuzz_failures") as tool:
         watch(tool.place)
         cases, told = tool.place / "cases", tool.place / "outcomes"
         shutil.rmtree(cases, ignore_errors=True)
         cases.mkdir()
-        write(cases, int(scripts), int(lines), int(seed))
+        write(cases, scripts, lines, seed)
         tool.rt("try", "--seconds", 300, "--cases", cases, output=told)
         return tally(cases, told)

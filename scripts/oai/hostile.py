@@ -332,8 +332,6 @@ def hostile(*parts):
     as n log n. An input GROWS FASTER where it is above 1.5, or where a run has not ended within 600 seconds. The last
     line is `N inputs, M grow faster`; the status is 0 where M is 0. PARTS are parts of the kinds' names: only those are
     counted that have one of them. JOBS is how many runs are made side by side, 2 if not set.
-
-    Usage: scripts/run hostile [PART..]
     """
     needs("valgrind")
     oaihost()

@@ -6,7 +6,7 @@ from oai.clients import get, open_socket, request_of
 from oai.items import NAME, configuration
 from oai.servers import Server
 
-# Within how many seconds the server lets a client go that sends nothing, and one that reads nothing; and how early that may be.
+# Within how many seconds the server closes the connection of a client that sends nothing, and of one that reads nothing; and how early that may be.
 SENDS_NOTHING = 80
 READS_NOTHING = 300
 SOONEST = 50
@@ -29,7 +29,7 @@ def asks(client):
     raise SystemExit("the server took all requests of a client that reads nothing")
 
 
-def is_let_go(server, idle, what, most):
+def is_closed(server, idle, what, most):
     """Whether the next client is served within so many seconds after the idle one did its part, and not at once."""
     with open_socket(server.port, room=4096) as client:
         idle(client)
@@ -49,17 +49,15 @@ def is_let_go(server, idle, what, most):
 def idle_clients():
     """Shows that a client which sends or reads nothing does not keep the others waiting for ever.
 
-    One sends nothing, and another one reads nothing of what it is answered. The server lets it go once a read, or a
-    write, has done nothing for 60 seconds, and serves the next one. The first is let go after a minute, the second
-    after some three: the buffers of the system take a part of what is written at last. The status is 0 where that is
+    One sends nothing, and another one reads nothing of what it is answered. The server closes the connection once a
+    read, or a write, has done nothing for 60 seconds, and serves the next one. The first is closed after a minute, the
+    second after some three: the buffers of the system take a part of what is written at last. The status is 0 where that is
     so. Where OAIHOSTD is set that program is tried, which serves the next client at once.
-
-    Usage: scripts/run idle-clients
     """
     with Server(configuration(100, 60, 10, 10)) as server:
         each = [
-            is_let_go(server, lambda client: None, "a client that sends nothing", SENDS_NOTHING),
-            is_let_go(server, asks, "a client that reads nothing", READS_NOTHING),
+            is_closed(server, lambda client: None, "a client that sends nothing", SENDS_NOTHING),
+            is_closed(server, asks, "a client that reads nothing", READS_NOTHING),
         ]
-    print("idle-clients: each was let go in time" if all(each) else "idle-clients: a client that does nothing is not let go in time")
+    print("idle-clients: each connection was closed in time" if all(each) else "idle-clients: the connection of a client that does nothing is not closed in time")
     return int(not all(each))

@@ -13,7 +13,7 @@ from oai.programs import needs, oaihost
 from oai.servers import Server, write_configuration
 
 PAGE = "docs/PERFORMANCE.md"
-SECTION = "\n## Instructions of five operations\n"
+SECTION = "\n## Instructions\n"
 
 START = 1_704_067_200  # 2024-01-01T00:00:00Z
 
@@ -98,18 +98,18 @@ OPERATIONS = {
 
 
 def last_figures():
-    """The last figure of each operation in the page's section on them, as it stands there."""
+    """The figure of each operation under `ask` in the page's table of them, as it stands there: its third column."""
     figures = {}
     with open(PAGE, encoding="utf-8") as page:
         section = page.read().split(SECTION, 1)[1].split("\n## ", 1)[0]
     for line in section.splitlines():
         cells = [it.strip() for it in line.strip().strip("|").split("|")]
         if cells[0] in OPERATIONS:
-            figures[cells[0]] = cells[-1]
+            figures[cells[0]] = cells[2]
     return figures
 
 
-def instructions(size="1000"):
+def instructions(items: int = 1000):
     """Counts the instructions of five operations of the program, by valgrind's callgrind.
 
     A record of ListRecords and a header of ListIdentifiers in a harvest by tokens in parts of 100, GetRecord of an item
@@ -117,15 +117,13 @@ def instructions(size="1000"):
     runs `ask` twice for each, with different numbers of them, and divides the difference. 1,000 items, whose records
     have 1.6 kB of XML, are loaded before, or as many as ITEMS says. It prints a table, with the last figures of
     docs/PERFORMANCE.md beside them; it judges nothing. What is deposited comes from a fixed seed.
-
-    Usage: scripts/run instructions [ITEMS]
     """
     needs("valgrind")
-    last, size = last_figures(), int(size)
+    last = last_figures()
     with tempfile.TemporaryDirectory(prefix="oaihost-") as folder, ThreadPoolExecutor(os.cpu_count()) as pool:
-        counter = Counter(folder, size)
+        counter = Counter(folder, items)
         figures = list(pool.map(counter.each, OPERATIONS.values()))
-    print(f"| Instructions, {size:,} items | now | last in {PAGE} |")
+    print(f"| Instructions, {items:,} items | now | last in {PAGE} |")
     print("|---|---:|---:|")
     for name, figure in zip(OPERATIONS, figures):
         print(f"| {name} | {figure:,} | {last.get(name, '-')} |")
@@ -243,7 +241,7 @@ def figures_of(size):
         return ServerCounter(server, size).figures()
 
 
-def instructions_growth(*sizes):
+def instructions_growth(*items: int):
     """Counts how the instructions of the server's operations change with the number of items.
 
     valgrind's callgrind counts: a record of ListRecords and a header of ListIdentifiers in parts of 100, GetRecord, a
@@ -252,11 +250,9 @@ def instructions_growth(*sizes):
     whose pages the cache holds, and only its instructions are counted. It prints a table with the ratio of the last
     size to the first; it judges nothing. What is deposited comes from a fixed seed. 1,000,000 items take some quarter
     of an hour and 3 GB of a disk.
-
-    Usage: scripts/run instructions-growth [ITEMS..], which are 1000 and 1000000 if not given
     """
     needs("valgrind", "callgrind_control")
-    sizes = [int(it) for it in sizes] or SIZES
+    sizes = items or SIZES
     columns = [figures_of(size) for size in sizes]
     print("| Instructions | " + " | ".join(f"{size:,} items" for size in sizes) + " | ratio |")
     print("|---|" + "---:|" * (len(sizes) + 1))

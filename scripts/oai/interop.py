@@ -13,6 +13,7 @@ import time
 
 from oai.clients import post
 from oai.items import DUBLIN_CORE, EARLIEST, JOURNAL, NAME, any_fields, configuration, deposit
+from oai.model import covers, shown_sets
 from oai.programs import needs
 from oai.servers import Server
 
@@ -43,17 +44,6 @@ DC_NAMESPACE = "http://purl.org/dc/elements/1.1/"
 DC_ROOT = "{http://www.openarchives.org/OAI/2.0/oai_dc/}dc"
 
 
-def covers(outer, inner):
-    """Whether the second set is the first, or lies in it."""
-    return inner == outer or inner.startswith(outer + ":")
-
-
-def shown(sets):
-    """The sets that an item shows: none twice, and none that another one lies in."""
-    once = list(dict.fromkeys(sets))
-    return [it for it in once if not any(other != it and covers(it, other) for other in once)]
-
-
 class Archive:
     """What a repository must tell, by the lines that were deposited and the datestamps that answered them."""
 
@@ -72,7 +62,7 @@ class Archive:
                 "identifier": line["deposit"],
                 "datestamp": stamp,
                 "status": "live",
-                "sets": shown(line["sets"]),
+                "sets": shown_sets(line["sets"]),
                 "records": line["records"],
             }
 
@@ -387,8 +377,6 @@ def interop():
         apt-get install libhttp-oai-perl libxml2-utils
     Where OAIHOSTD is set that program is tried; ITEMS is the number of items, 5000 if it is not set: a multiple of 250,
     at least 1000.
-
-    Usage: scripts/run interop
     """
     check_needs()
     harvest = harvest_all(Harvest)

@@ -2,7 +2,7 @@
 
 import os
 
-# The gates behind which a record is whole.
+# The open commit bytes, each of which is followed by a whole record.
 OPEN = (b"+", b"&")
 
 

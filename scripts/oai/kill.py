@@ -259,7 +259,7 @@ def compare_parts(connection, known, model):
 
 
 def tear(path, end, chance):
-    """Cuts or overwrites bytes behind the gate that ends the journal, at `end`."""
+    """Cuts or overwrites bytes after the commit byte that ends the journal, at `end`."""
     size = os.path.getsize(path)
     way = chance.randrange(3)
     with open(path, "r+b") as file:
@@ -380,26 +380,24 @@ def rounds(config, folder, count, chance, known):
     return count
 
 
-def kill(count, seed=None):
-    """Kills a server with -9 at N random moments, starts it again each time, and shows that it kept what it acknowledged.
+def kill(count: int, seed: int = None):
+    """Kills a server with -9 at COUNT random moments, restarts it each time, and shows that acknowledged writes are durable.
 
     That is every deposit and every deletion, with its datestamp; every token that it handed out; and no number of a
     list is given twice. A round: six clients deposit, delete, list and ask for parts of lists at two repositories,
     until the server is killed somewhere in between; it is started again on its folder; and then are compared: what its
     journal holds with what was acknowledged, each item that the round touched with what was acknowledged of it and with
-    a model that performed the journal's records, and each part of a list that a token was handed out for with the part
+    a model that replayed the journal's records, and each part of a list that a token was handed out for with the part
     that was given before, and with the model's. The journal has to be found good beside the server, and all of its
-    records behind it. Every third round it is started on a copy of its folder first, in which the bytes behind the gate
-    that ends the journal are cut or overwritten: it has to find the same records there. Before every second start
+    records behind it. Every third round it is started on a copy of its folder first, in which the bytes after the
+    commit byte that ends the journal are cut or overwritten: it has to find the same records there. Before every second start
     `checkpoint` is called, and half of the times killed somewhere in between: the journal is then as it was, or a
     checkpoint, at which all lists have ended.
 
     It writes its seed to standard error, and names each difference; its last line is `N kills, 0 differences`, and its
     status is 0 where there are none.
-
-    Usage: scripts/run kill N [SEED]
     """
-    count, seed = int(count), random.randrange(1 << 32) if seed is None else int(seed)
+    seed = random.randrange(1 << 32) if seed is None else seed
     print(f"seed {seed}", file=sys.stderr)
     chance, kills, differences = random.Random(seed), 0, 0
     with tempfile.TemporaryDirectory(prefix="kill-") as place:

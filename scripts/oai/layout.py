@@ -35,22 +35,20 @@ def is_compiled(tool):
     return True
 
 
-def tools(*arguments):
+def tools(*names, write: bool = False):
     """Looks at the programs of scripts/tools: whether `rt fmt` lays them out so, and `rt try` compiles them.
 
-    The gate does not prove them: they measure times, or run where memory is refused. With `write` it writes their files
-    as `rt fmt` does. With the name of a program it looks at that one alone. The last line is `N tools, M differ`; the
+    The gate does not prove them: they measure times, or run where memory is refused. With `--write` it writes their
+    files as `rt fmt` does. With names of programs it looks at those alone. The last line is `N tools, M differ`; the
     status is 0 where M is 0.
-
-    Usage: scripts/run tools [write] [NAME]
     """
-    names = [it for it in arguments if it != "write"] or list(uses(TOOLS / "programs.txt"))
+    names = names or list(uses(TOOLS / "programs.txt"))
     differ = 0
     for name in names:
         with Tool(name) as tool:
             if name == "refuse_growth":
                 prepare(tool, letters=1)
-            laid_out = is_laid_out(tool, "write" in arguments)
+            laid_out = is_laid_out(tool, write)
             compiled = is_compiled(tool)
             print(f"{name}: {'compiled' if compiled else 'not compiled'}, {'laid out' if laid_out else 'not laid out'}", flush=True)
             differ += not (compiled and laid_out)

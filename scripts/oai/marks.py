@@ -1,4 +1,4 @@
-"""The planted bugs that are refused by a name alone: a line of their files says so, and a sentence of docs/PROVING.md counts them."""
+"""Mutants that are killed only by a dangling name: a line of their files says so, and a sentence of docs/PROVING.md counts them."""
 
 import re
 import sys
@@ -6,19 +6,19 @@ import textwrap
 
 from oai.programs import TOP
 
-# The line of an edit which is refused only since a proof file names what it takes away. What tries the edits reads no such line.
+# The line of a mutant that is killed only since a proof file names what it removes. What tries the mutants reads no such line.
 MARK = "refused: by a name"
 
-# What a log of the gate says of an edit: its crate, its file, and why it is refused.
+# What a log of the gate reports of a mutant: its crate, its file, and why it is killed.
 JUDGED = re.compile(r"^(?:rt: )?must-fail (\w+)/(\S+\.edit): refused, as it must be(.*)$", re.M)
 
-# Where it says that of one which is refused by a name alone.
+# What it reports of one that is killed only by a dangling name.
 BY_A_NAME = "only because a proof file names what the edit took away"
 
 PAGE = TOP / "docs/PROVING.md"
 
 # The paragraph that has the sentence.
-COUNTED = re.compile(r"^There are \d+ edits in `planted/`.*?(?=\n\n)", re.M | re.S)
+COUNTED = re.compile(r"^There are \d+ mutants in `planted/`.*?(?=\n\n)", re.M | re.S)
 
 
 def edits(folder):
@@ -30,7 +30,7 @@ def is_marked(edit):
 
 
 def mark(edit, by_a_name):
-    """Has the file of the edit say that it is refused by a name, or no longer; whether that changed it."""
+    """Has the file of the mutant say that it is killed by a dangling name, or no longer; whether that changed it."""
     if is_marked(edit) == by_a_name:
         return False
     lines = [it for it in edit.read_text().rstrip("\n").split("\n") if it != MARK]
@@ -39,12 +39,12 @@ def mark(edit, by_a_name):
 
 
 def sentence():
-    """How many edits there are, and how many of them are refused by a name alone."""
+    """How many mutants there are, and how many of them are killed only by a dangling name."""
     planted, tried = edits("planted"), edits("must-fail")
     named = [sum(is_marked(it) for it in those) for those in (planted, tried)]
     return (
-        f"There are {len(planted)} edits in `planted/` and {len(tried)} in `must-fail/`. The line `{MARK}` marks those that their last try refused for that "
-        f"alone: so far {named[0]} of `planted/` and {named[1]} of `must-fail/`."
+        f"There are {len(planted)} mutants in `planted/` and {len(tried)} in `must-fail/`. The line `{MARK}` marks those that were killed only by a dangling "
+        f"name: so far {named[0]} and {named[1]}."
     )
 
 
@@ -59,20 +59,18 @@ def write_sentence():
 
 
 def marks(log=None):
-    """Marks the edits that the gate refuses by a name alone, and counts them in docs/PROVING.md.
+    """Marks the mutants that the gate kills only by a dangling name, and counts them in docs/PROVING.md.
 
-    Each edit of must-fail/ that the log of a gate speaks of gets the line `refused: by a name`, or loses it. The log is
+    Each mutant of must-fail/ that the log of a gate reports gets the line `refused: by a name`, or loses it. The log is
     what `bash .ci/run` or `rt must-fail` prints. Those of planted/ are marked by `scripts/run planted`. The last line
-    says how many edits are marked.
-
-    Usage: scripts/run marks [LOG]
+    says how many are marked.
     """
     changed = 0
     if log is not None:
         with open(log, encoding="utf-8", errors="replace") as it:
             judged = JUDGED.findall(it.read())
         if not judged:
-            sys.exit(f"marks: {log} says of no edit that it was refused")
+            sys.exit(f"marks: {log} reports no mutant as killed")
         for crate, name, why in judged:
             file = TOP / "crates" / crate / "must-fail" / name
             changed += file.is_file() and mark(file, BY_A_NAME in why)

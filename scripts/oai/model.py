@@ -130,6 +130,7 @@ def read_bound(text):
 
 
 def covers(outer, inner):
+    """Whether the second set is the first, or lies in it."""
     return inner == outer or inner.startswith(outer + ":")
 
 

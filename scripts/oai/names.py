@@ -3,11 +3,13 @@
 import importlib
 
 GROUPS = {
-    "The pages and the sources": {
+    "The tests, the pages and the sources": {
+        "test": "tests",
         "readme": "readme",
         "contracts": "contracts",
         "words": "words",
         "clauses": "clauses",
+        "statement": "statement",
         "pages": "pages",
         "lives": "fuzz",
         "planted": "planted",
@@ -31,6 +33,7 @@ GROUPS = {
         "full-disk": "disks",
         "daemon-full-disk": "disks",
         "idle-clients": "idle",
+        "proxy-answers": "proxy",
         "proxy-load": "proxy",
         "fuzz-failures": "fuzz_failures",
         "refuse-growth": "refusals",

@@ -266,8 +266,6 @@ def package():
     last line is `N checked, M differ`, and the status is 0 where M is 0. ROOT is a folder in which debootstrap made a
     fresh root, of which a copy is used; where it is not set one is made, which asks a mirror of Debian. It needs root,
     and packages of Debian: apt-get install curl debhelper debootstrap lintian systemd-container
-
-    Usage: scripts/run package
     """
     needs("curl", "dh", "lintian", "debootstrap", "systemd-nspawn", "nsenter", root=True)
     trial = Trial()

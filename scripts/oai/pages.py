@@ -16,7 +16,7 @@ class Shell:
         self.run("ip link set lo up")
 
     def run(self, command):
-        """The lines that the command prints. Behind one that leaves a program running it waits for what that says first."""
+        """The lines that the command prints. After one that leaves a program running it waits for its first output."""
         self.count += 1
         end = f"--end of {self.count}--"
         wait = 1.5 if command.rstrip().endswith("&") else 0.2
@@ -51,11 +51,11 @@ def run_page(path):
         printed = shell.run("\n".join(lines[at + 1 : end]))
         written += lines[at : end + 1]
         at = end + 1
-        if lines[at : at + 2] == ["", "```"]:
-            at = lines.index("```", at + 2) + 1
-            written += ["", "```", *printed, "```"]
+        if lines[at] == "```":
+            at = lines.index("```", at + 1) + 1
+            written += ["```", *printed, "```"]
         elif printed:
-            print(f"{path.name}: no block for what is printed behind line {end + 1}: {printed}")
+            print(f"{path.name}: no block for what is printed after line {end + 1}: {printed}")
     shell.close()
     path.write_text("\n".join(written))
 
@@ -64,10 +64,8 @@ def pages(*paths):
     """Runs the commands of pages, as they stand, and writes into them what is printed.
 
     Each block of `sh` is run in one shell for each page, in the folder of the repository and in a network of its own,
-    in which the page's ports are free; and what it prints, on both streams, is put into the block that stands behind
-    it. It needs root, and the programs that the page needs.
-
-    Usage: scripts/run pages [PAGE..], which are docs/OPERATIONS.md and docs/PROTOCOL.md if none is named
+    in which the page's ports are free; what it prints, on both streams, is written into the block right after it. PAGES
+    are docs/OPERATIONS.md and docs/PROTOCOL.md if none is given. It needs root, and the programs that the page needs.
     """
     needs("unshare", "ip", root=True)
     for page in paths or ["docs/OPERATIONS.md", "docs/PROTOCOL.md"]:

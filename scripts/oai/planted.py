@@ -1,4 +1,4 @@
-"""Tries the planted bugs of the crates.
+"""Tries the mutants of the crates that stand in planted/.
 
 Bugs of different functions share a check, as a batch. Where a function is not proved, a check may pass over those that call it.
 So no function of a batch calls another one of it, and each is judged by its own goals.
@@ -48,12 +48,12 @@ OF_SPECS = re.compile(r"^(?:\./)?specs/\S+: error: ", re.M)
 # The line of an edit that names the crate of tests that refuses it, where no clause does.
 BY_TESTS = re.compile(r"^refused: by (tests_\w+)$", re.M)
 
-# What is told of a bug that a check judged.
+# What is reported of a mutant that a check judged.
 REFUSED, NAMED, TESTED, PROVED = "refused", "only named", "proved: refused by its tests alone", "NOT REFUSED"
 
 
 class Edit:
-    """A planted bug: the changes that it makes, and the functions in which it makes them."""
+    """A mutant: the changes that it makes, and the functions in which it makes them."""
 
     def __init__(self, path, texts):
         self.name = os.path.basename(path).removesuffix(".edit")
@@ -319,7 +319,7 @@ def try_all(crate, edits, texts, judged):
 
 
 def planted_in(crate, texts, wanted):
-    """The planted bugs of a crate: those of the wanted names, or all where none is named."""
+    """The mutants of a crate: those of the wanted names, or all where none is named."""
     folder = f"{crate}/planted"
     names = sorted(it.removesuffix(".edit") for it in os.listdir(folder) if it.endswith(".edit"))
     return [Edit(f"{folder}/{it}.edit", texts) for it in names if not wanted or it in wanted]
@@ -357,7 +357,7 @@ def tried(name, wanted):
 
 
 def told(name, edits, found):
-    """Prints what became of the edits of a crate, and marks those that are refused by a name; how many were refused."""
+    """Prints what became of the mutants of a crate, and marks those that are killed only by a dangling name; how many were killed."""
     for edit in edits:
         if found[edit] != REFUSED:
             print(f"{name}/{edit.name}: {found[edit]}")
@@ -369,22 +369,21 @@ def told(name, edits, found):
 
 
 def planted(*names):
-    """Tries the planted bugs of the crates, which the prover must refuse like those of must-fail/.
+    """Tries the mutants of planted/, which the prover must kill like those of must-fail/.
 
-    They are crates/NAME/planted/*.edit. The gate tries each edit by a check of its own: here bugs of different
-    functions share one check. It works on copies, a crate in each, and over kept work. What became of each bug is kept
-    in crates/NAME/out, under a digest of the texts that it was judged on, so a run that was stopped goes on where it
-    ended. It names each bug that got through, and each that was refused only because a proof file names what the edit
-    took away, which says little of the contract: the file of such a bug gets the line `refused: by a name`, and
-    docs/PROVING.md counts these. A bug with a line `refused: by TESTS` is proved, and named; these tests refuse it, and
-    are not run here. Its last line is `N refused, M not`; the status is 0 where M is 0.
-
-    Usage: scripts/run planted [CRATE|CRATE/EDIT..]
+    They are crates/NAME/planted/*.edit; NAMES are crates, or single mutants as CRATE/EDIT, and all if none is given.
+    The gate tries each mutant by a check of its own: here those of different functions share one check. It works on
+    copies, a crate in each, and over kept work. What became of each mutant is kept in crates/NAME/out, under a digest
+    of the texts that it was judged on, so a run that was stopped goes on where it ended. It names each mutant that
+    survived, and each that was killed only by a dangling name, that is because a proof file names what the edit took
+    away, which says little of the contract: the file of such a mutant gets the line `refused: by a name`, and
+    docs/PROVING.md counts these. A mutant with a line `refused: by TESTS` is proved, and named; these tests kill it,
+    and are not run here. Its last line is `N refused, M not`; the status is 0 where M is 0.
     """
     needs("rt")
     unknown = [it for it in names if not os.path.isdir(f"crates/{it}/planted") and not os.path.isfile(planted_file(it))]
     if unknown:
-        sys.exit(f"planted: there are no planted bugs in {' '.join(unknown)}")
+        sys.exit(f"planted: there are no mutants in {' '.join(unknown)}")
     wanted = {it.split("/")[0]: {edit.partition("/")[2] for edit in names if edit.startswith(f"{it.split('/')[0]}/")} for it in names}
     listed = [it for it in sorted(os.listdir("crates")) if os.path.isdir(f"crates/{it}/planted") and (not names or it in wanted)]
     refused = others = 0

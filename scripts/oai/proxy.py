@@ -1,6 +1,8 @@
 """nginx before a server, by the lines of web/nginx.conf."""
 
 import collections
+import gzip
+import http.client
 import json
 import pathlib
 import shutil
@@ -14,6 +16,7 @@ import urllib.request
 from oai.items import deposit
 from oai.programs import EXAMPLE, TOP, needs
 from oai.servers import serve_durably
+from oai.trials import Trial
 
 HOST = "archive.example"
 
@@ -92,22 +95,20 @@ def load_of(proxy, depositor):
         return load.stdout.read()
 
 
-def proxy_load(minutes="10"):
+def proxy_load(minutes: int = 10):
     """Shows that `oaihostd` behind nginx, with the lines of web/nginx.conf, answers no request with a status of 500 or above.
 
     There is one deposit every 59 to 61 seconds, so that kept connections are at the edge of their time, for ten minutes
     (or as many as are given); then `wrk` with 64 clients for a minute beside deposits. Its last line is `N requests, M
     of 5xx`, by nginx's log, and its status is 0 where M is 0 and each deposit was done. Packages of Debian: apt-get
     install nginx-light wrk openssl
-
-    Usage: scripts/run proxy-load [MINUTES]
     """
     needs("nginx", "wrk", "openssl")
     with tempfile.TemporaryDirectory() as place, tempfile.TemporaryFile("w+") as notes:
         shutil.copy(TOP / EXAMPLE, f"{place}/archive.json")
         with serve_durably(EXAMPLE, f"{place}/archive", errors=notes) as server, Proxy(place, server.port, [("192.0.2.17", "127.0.0.1")]) as proxy:
             depositor = Depositor(proxy)
-            for minute in range(1, int(minutes) + 1):
+            for minute in range(1, minutes + 1):
                 depositor.deposit()
                 time.sleep(59 + minute % 5 / 2)
             said = load_of(proxy, depositor)
@@ -119,3 +120,41 @@ def proxy_load(minutes="10"):
         print(f"{often} of {depositor.count} deposits are answered {said!r}")
     print(f"{sum(statuses.values())} requests, {wrong} of 5xx")
     return int(wrong > 0 or bool(depositor.others))
+
+
+def answer_through(proxy, target, body=None, source="127.0.0.1", **fields):
+    """What the proxy answers to a request from that address: its status, its fields and its body."""
+    trust = ssl._create_unverified_context()
+    connection = http.client.HTTPSConnection("127.0.0.1", proxy.port, context=trust, source_address=(source, 0))
+    connection.request("GET" if body is None else "POST", target, body, fields)
+    answer = connection.getresponse()
+    found = answer.status, answer.headers, answer.read()
+    connection.close()
+    return found
+
+
+def proxy_answers():
+    """Compares what clients are answered through nginx, with the lines of web/nginx.conf.
+
+    A response that is compressed, a request with more fields than the server accepts, a deposit from an address that is
+    allowed and one from another, and bodies above the limits. Its last line is `N checked, M differ`, and its status is
+    0 where M is 0. Packages of Debian: apt-get install nginx-light openssl
+    """
+    needs("nginx", "openssl")
+    trial, deposits = Trial(), "127.0.0.2"
+    with tempfile.TemporaryDirectory() as place:
+        shutil.copy(TOP / EXAMPLE, f"{place}/archive.json")
+        with serve_durably(EXAMPLE, f"{place}/archive") as server, Proxy(place, server.port, [("192.0.2.17", deposits)]) as proxy:
+            line = json.dumps(deposit("oai:a:1", [], {"oai_dc": []}))
+            status, _, said = answer_through(proxy, "/deposit/a", line, deposits)
+            trial.check("a deposit from the allowed address", (status, said[:3]), (200, b"ok "))
+            trial.check("a deposit from another address", answer_through(proxy, "/deposit/a", line)[0], 403)
+            status, fields, packed = answer_through(proxy, "/oai/a?verb=ListIdentifiers&metadataPrefix=oai_dc", **{"Accept-Encoding": "gzip"})
+            trial.check("a compressed response", (status, fields["Content-Encoding"]), (200, "gzip"))
+            trial.check("its document", b"<identifier>oai:a:1</identifier>" in gzip.decompress(packed), True)
+            many = {f"F{number}": "x" for number in range(70)}
+            trial.check("a request of 70 fields", answer_through(proxy, "/oai/a?verb=Identify", **many)[0], 200)
+            trial.check("a large form", answer_through(proxy, "/oai/a", bytes(2**20 + 1))[0], 413)
+            trial.check("a large deposit", answer_through(proxy, "/deposit/a", bytes(2**21 + 1), deposits)[0], 413)
+            trial.check("another path", answer_through(proxy, "/oai/none")[0], 404)
+    return trial.ended()

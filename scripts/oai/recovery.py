@@ -71,26 +71,23 @@ def journals(top, config, count, requests):
     return one, two, few, many
 
 
-def recovery(count="10000", requests="5000"):
-    """Measures what a start of `oaihostd` costs for what its journal has.
+def recovery(items: int = 10_000, requests: int = 5_000):
+    """Measures what crash recovery of `oaihostd` costs.
 
-    Journals are made by a server: of N and 2N items deposited in messages of 500, and behind N of them of K and 2K
-    requests for parts of a list by tokens. For each it prints how many records and bytes the journal has, how many
+    Journals are made by a server: of ITEMS and twice as many items, deposited in messages of 500, and behind ITEMS of
+    them of REQUESTS and twice as many requests for parts of a list by tokens. For each it prints how many records and bytes the journal has, how many
     seconds a start takes, and how many megabytes of memory it then has; and then, of the differences, how many
-    instructions, by valgrind's callgrind, a line takes that is performed again, and a request by a token. It judges
+    instructions, by valgrind's callgrind, a line takes that is replayed, and a request by a token. It judges
     nothing.
-
-    Usage: scripts/run recovery [N [K]], which are 10000 and 5000 if not given
     """
     needs("valgrind")
-    count, requests = int(count), int(requests)
     with tempfile.TemporaryDirectory(prefix="oaihostd-") as top:
         config = f"{top}/config.json"
         write_configuration(config, CONFIGURATION)
-        names = f"{count} items", f"{2 * count} items", f"{requests} requests by tokens", f"{2 * requests} requests by tokens"
-        first, second, third, fourth = [measured(name, config, it) for name, it in zip(names, journals(top, config, count, requests))]
-    print(f"a line performed again: {(second - first) // count} instructions")
-    print(f"a request by a token performed again: {(fourth - third) // requests} instructions")
+        names = f"{items} items", f"{2 * items} items", f"{requests} requests by tokens", f"{2 * requests} requests by tokens"
+        first, second, third, fourth = [measured(name, config, it) for name, it in zip(names, journals(top, config, items, requests))]
+    print(f"a line replayed: {(second - first) // items} instructions")
+    print(f"a request by a token replayed: {(fourth - third) // requests} instructions")
 
 
 def turn_of(number, turn):
@@ -105,15 +102,12 @@ def turn_bodies(items, turn):
         yield "".join(turn_of(number, turn) for number in range(first, min(first + BODY, items))).encode()
 
 
-def checkpoint_size(items="1000000", times="10"):
+def checkpoint_size(items: int = 1_000_000, times: int = 10):
     """Shows how long a journal is before and behind a checkpoint, and how long that takes.
 
     And that a dump of it has each item. So many items are deposited so many times, in messages of 500 lines. The status
     is 0 where the journal is then at most 1.2 times as long as the bytes of its items.
-
-    Usage: scripts/run checkpoint-size [ITEMS [TIMES]], which are 1000000 and 10 if not given
     """
-    items, times = int(items), int(times)
     with tempfile.TemporaryDirectory(prefix="checkpoint-") as place:
         config, folder = f"{place}/config.json", f"{place}/archive"
         journal = f"{folder}/journal"

@@ -6,6 +6,7 @@ import re
 import shutil
 import subprocess
 import sys
+import typing
 from pathlib import Path
 
 from oai.programs import TOP, needs
@@ -170,7 +171,7 @@ def tally(counted: Path, refused: Path, words: list[str]) -> int:
     return int(differences > 0)
 
 
-def refuse_growth(letters="1", *words):
+def refuse_growth(letters: int = 1, *scripts: typing.Literal["exchange", "run", "pieces", "clock", "token", "recover", "copy"]):
     """Refuses each request for memory in turn.
 
     A program is made in a copy of the crates, with the script of crates/tests_fixtures/src/scripts.rt, on a host over
@@ -182,7 +183,7 @@ def refuse_growth(letters="1", *words):
                  one, and behind an answered 503 the message
       clock      commands at a later moment, each on a host of its own: behind one that is refused, Identify at the first moment
       token      the token of a list's second part: where it is refused, that of the third part is none that was handed out; then the token again
-      recover    the script's journal, performed again: a recovery that is refused is made once more, and what is asked then is answered as by the
+      recover    the script's journal, replayed: a recovery that is refused is made once more, and what is asked then is answered as by the
                  host that ended
       copy       a harvester's copy that catches up with one harvest after the other: where a call is refused, its items are as before; then it again
     Answers and pages, and the items of the copy, must be those of the undisturbed run. Of each it prints how many
@@ -191,12 +192,10 @@ def refuse_growth(letters="1", *words):
     `N refused, M differences`, and the status is 0 where M is 0. LETTERS is how long the title of the first item is, 1
     if not given. COPY is a folder for the copy, which then stays; PARTS is how many runs go on side by side, 1 if not
     set.
-
-    Usage: scripts/run refuse-growth [LETTERS [exchange|run|pieces|clock|token|recover|copy]..]
     """
-    words = list(words) or SCRIPTS
+    words = list(scripts) or SCRIPTS
     with Tool("refuse_growth") as tool:
-        prepare(tool, int(letters))
+        prepare(tool, letters)
         cases, counted = tool.place / "cases", tool.place / "counted"
         shutil.rmtree(cases, ignore_errors=True)
         cases.mkdir()
@@ -225,22 +224,20 @@ def has_tests(crate):
     return any(re.search(r"^#\[test\]", it.read_text(encoding="utf-8"), re.MULTILINE) for it in (CRATES / crate / "src").rglob("*.rt"))
 
 
-def refuse_allocations(count="60", *crates):
+def refuse_allocations(count: int = 60, *crates):
     """Runs the tests of crates with the first, second, .. allocation of each test refused in turn.
 
     They are the tests of each crate that has some, or of the crates given. It goes up to a count (60 if none is given),
     and prints which tests failed and the lines at which they stopped. A test fails where the refused allocation was its
     own: it should stop at a line of its own that wants an answer, and none should stop inside a crate or answer
     something else in its place. It stops where the tests of a crate do not pass with no allocation refused.
-
-    Usage: scripts/run refuse-allocations [COUNT [CRATE..]]
     """
     needs("rt")
     for crate in crates or sorted(it.name for it in CRATES.iterdir() if has_tests(it.name)):
         if not re.search(r"^test result: ok\. [1-9]", tried(crate), re.MULTILINE):
             print(f"{crate}: its tests do not run, or fail where no allocation is refused", file=sys.stderr)
             return 2
-        for number in range(1, int(count) + 1):
+        for number in range(1, count + 1):
             print(f"== {crate}: allocation {number} refused", flush=True)
             lines = collections.Counter(it for it in tried(crate, "--fail-alloc", str(number)).splitlines() if TOLD.search(it))
             for line, often in sorted(lines.items(), key=lambda it: (-it[1], it[0]))[:20]:

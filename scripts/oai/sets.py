@@ -69,19 +69,17 @@ def memory_with(sets):
         return server.memory() * 2**20
 
 
-def set_costs(size="1000000", turns="5"):
+def set_costs(items: int = 1_000_000, turns: int = 5):
     """What a harvest and a first part of a set cost beside those of all items, and what memory sets take.
 
-    SIZE items, 1,000,000 if not given, of which every tenth is in the set, with the file of the pages on a disk, and
+    Of ITEMS items, 1,000,000 if not given, every tenth is in the set, with the file of the pages on a disk, and
     CACHES of 64 pages and 4,096. On one server for each cache, in turns, five if TURNS is not given: a harvest of all
     in parts of 100, one of the set, and for five seconds each first parts of all, of the set, and of the set within the
     middle half of the datestamps. It prints the medians. Then, of 500,000 items in three sets each, of 10 to 1,000:
     how many bytes of memory an item takes more than where there are no sets. It judges nothing.
-
-    Usage: scripts/run set-costs [SIZE [TURNS]]
     """
     for cache in CACHES:
-        rows = list(measured_turns(int(size), cache, int(turns)))
+        rows = list(measured_turns(items, cache, turns))
         print_table(list(rows[0]), rows)
         print()
     without = memory_with(0)

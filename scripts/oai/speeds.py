@@ -19,8 +19,6 @@ def pool_speed():
     many were made and how many nanoseconds one took. Files lie in the copy, so they stand in the system's page cache.
     It judges nothing. It takes some three gigabytes of memory. COPY is a folder for the copy, which then stays: for
     other tools to look at.
-
-    Usage: scripts/run pool-speed
     """
     return measured("pool_speed")
 
@@ -33,8 +31,6 @@ def store_speed():
     were made and how many nanoseconds one took by the clock, and after the load how many pages are named and how full
     they are. Files lie in the copy, so they stand in the system's page cache. It judges nothing. It takes some gigabyte
     of memory. COPY is a folder for the copy, which then stays: for other tools to look at.
-
-    Usage: scripts/run store-speed
     """
     return measured("store_speed")
 
@@ -47,8 +43,6 @@ def journal_speed():
     for each how many calls were made, and how many microseconds they took in all. Each commit of records makes two
     syncs, one of none makes none. The file lies in FOLDER, or in the copy: what a sync costs is that of its disk. It
     judges nothing.
-
-    Usage: scripts/run journal-speed
     """
     place = os.environ.get("FOLDER")
     if not place:

@@ -164,8 +164,6 @@ def exit_statuses():
     nothing, where its input or its output fails, where the file of a server's pages cannot be emptied, and where a
     server cannot listen. And that the file is emptied once the configuration is read, and that a server of whose file
     another program cuts a part goes on. It names each case that differs; its status is 0 where none does.
-
-    Usage: scripts/run exit-statuses
     """
     trial = Called(oaihost(), 20)
     with tempfile.TemporaryDirectory() as place:
@@ -253,9 +251,9 @@ def try_damages(trial, folder):
     second = data.index(b" deposit a ")
     begins = second - 11
     damages = {
-        "the first gate closed": (0, "-", 0), "a byte of the first head": (1, "x", 0), "a moment": (second - 1, "x", begins),
+        "the first commit byte closed": (0, "-", 0), "a byte of the first head": (1, "x", 0), "a moment": (second - 1, "x", begins),
         "a kind": (second + 1, "x", begins), "a length": (second + 11, "x", begins), "a byte of a body": (second + 40, "x", begins),
-        "a gate before another group closed": (begins, "-", begins),
+        "a commit byte before another group closed": (begins, "-", begins),
     }  # fmt: skip
     for what, (at, byte, place) in damages.items():
         other = changed_journal(folder, what, at, byte)
@@ -291,8 +289,6 @@ def daemon_statuses():
     in use, at a port that is taken, and at a journal of another program, of another version, or with a changed byte in
     its first frame, in a head, a body, a length or a gate. And that a start which was cut off before it had a journal
     is made again. It names each case that differs; its status is 0 where none does.
-
-    Usage: scripts/run daemon-statuses
     """
     trial = Called(oaihostd(), 5)
     with tempfile.TemporaryDirectory() as place:

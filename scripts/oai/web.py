@@ -382,18 +382,11 @@ def take_pictures(reader):
     reader.browser.picture(TOP / "docs/web-narrow.png")
 
 
-def check_pages(reader):
-    """Where docs/OPERATIONS.md shows the page's place, its lines for nginx are those of web/nginx.conf."""
-    shown = re.search(r"^    upstream oaihostd \{\n(?:    .*\n|\n)*?    \}\n\n    server \{\n(?:    .*\n|\n)*?    \}\n", (TOP / "docs/OPERATIONS.md").read_text(), re.M)[0]
-    if "repositories.json" in shown:
-        reader.check("the lines of docs/OPERATIONS.md", re.sub("^    ", "", shown, flags=re.M), (TOP / "web/nginx.conf").read_text())
-
-
 def go_through(reader, archive, stamp):
     """All of it; `stamp` is the datestamp of the journal's items. Where one step finds no way the next ones go on."""
     steps = [
         (choose_repository,), (look_around,), (read_one, stamp), (read_headers, stamp), (read_errors,), (read_parts, stamp), (read_busy, archive),
-        (read_while_down, archive), (read_hostile,), (read_many,), (read_narrow,), (network,), (read_console,), (try_policy,), (check_pages,),
+        (read_while_down, archive), (read_hostile,), (read_many,), (read_narrow,), (network,), (read_console,), (try_policy,),
     ]
     for step, *arguments in steps:
         try:
@@ -403,18 +396,16 @@ def go_through(reader, archive, stamp):
     reader.check("what had the focus unseen", reader.unseen, [])
 
 
-def web(pictures=None):
+def web(*, pictures: bool = False):
     """Goes through the page of web/ as a reader does, by the keyboard alone, in headless Chromium.
 
     nginx stands by the lines of web/nginx.conf before a server that has repositories of its own. What is seen: each
     view, a list part by part, each error of the protocol, 503 with its seconds, a window of 360 points, 10,000 sets,
     texts that are read from the right or have characters of four bytes, texts that attack, both colour schemes; and
     that nothing is asked of another host. It names what differs; the last line is `N checked, M differ`, and the status
-    is 0 where M is 0. With `pictures` it writes docs/web-records.png and docs/web-narrow.png instead. Packages of
+    is 0 where M is 0. With `--pictures` it writes docs/web-records.png and docs/web-narrow.png instead. Packages of
     Debian:
         apt-get install chromium chromium-driver fonts-noto-core fonts-noto-color-emoji nginx-light openssl
-
-    Usage: scripts/run web [pictures]
     """
     needs("chromedriver", "nginx", "openssl")
     oaihostd()

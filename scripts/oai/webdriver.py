@@ -30,11 +30,8 @@ class Browser:
             "browserName": "chrome", "acceptInsecureCerts": True, "goog:chromeOptions": options,
             "goog:loggingPrefs": {"browser": "ALL", "performance": "ALL"},
         }
-        # By the standard WebDriver a path begins with the name of this member, without its last two letters.
-        member = "sessionId"
-        self.address += f"/{member[:-2]}"
-        made = self.send("POST", "", {"capabilities": {"alwaysMatch": capabilities}})
-        self.address += f"/{made[member]}"
+        self.address += "/session"  # (every command is one of an HTTP session: section 8)
+        self.address += f"/{self.send('POST', '', {'capabilities': {'alwaysMatch': capabilities}})['sessionId']}"
 
     def send(self, method, path, body=None):
         """A command, and the value of its answer."""

@@ -8,17 +8,48 @@ from oai.programs import TOP
 HEAD = re.compile(r"^(?:(?:abbrev|unfoldable)\s+)?pub\s+(?:(record|data)\s+)?([^\s:({]+)(.*)$")
 CONSTRUCTOR = re.compile(r"^  ([^\s:({-][^\s:({]*)\s*:")
 TYPE = re.compile(r"^ *pub(?:\(crate\))? (?:struct|enum|trait) (\w+)", re.MULTILINE)
-# What is not a word of the field, and what is: return, report, write, parse, page, incomplete list, snapshot, out of memory.
+# What is not a word of the field, and what is. Words of the specification stay: Exchange, Call, Answer, Ask, Reply, front, piece, moment and the like.
 PHRASES = {
-    "(?:is|are) told": "is returned, is reported",
+    "keeps? what (?:it|was|is|they|he) (?:has |have )?acknowledged": "acknowledged writes are durable",
+    "(?:answers?|responses?) (?:leaves?|left) before": "a response is sent only after",
+    "(?:what was |be |is |are |was |were )?performed again": "replayed",
+    "performs? [a-z ]{0,30}again": "replays",
+    "performing [a-z ]{0,30}again": "replaying",
+    "(?:at|of|behind|before|after) a start": "at startup, crash recovery",
+    "any end is an ordinary one": "crash-only",
+    "(?:closed|open|changed|first|last) gates?|behind (?:a|the) gate": "commit byte",
+    "gates and groups|gates": "commit bytes, commit groups",
+    "something else than a crash": "corruption",
+    "names? [a-z ]{0,20}once (?:more|less)": "increments, drops its reference count",
+    "named once (?:more|less)": "its reference count is raised, lowered",
+    "lets? [a-z ]{0,20}go|is let go|are let go|let go": "drops, releases",
+    "(?:is|are) exchanged for": "is swapped in for",
+    "pages? of entries": "leaf page",
+    "what is known of (?:its |the |their |some |many )?items": "per-page statistics, zone maps",
+    "leaves? the cache|used longest ago": "is evicted; least recently used",
+    "by halves": "binary search",
+    "costs? the same for each": "is O(part), independent of its offset",
+    "fronts? of (?:the|its|their|his) answers": "a prefix of the responses",
+    "(?:is|are|was|were|be) told": "is returned, is reported",
     "told": "returned, reported, written",
     "tells?": "returns, reports",
     "said": "reported, written, stated",
     "asks? nothing": "is refused by its path, method or type",
-    "lies once": "returns a wrong byte in one read",
-    "want of memory": "out of memory",
+    "room (?:is|was|for [a-z' ]{1,40} is) taken": "space is reserved",
+    "where (?:the )?memory is (?:there|wanting)|want of memory": "out of memory; when memory is available",
+    "(?:that|which|who) (?:lies|lied|lie)(?! (?:in|at|on|below|above|between|within|behind|before))|lies once": "a corrupt read, a faulty device",
+    "planted bugs?": "mutants",
+    "g[eo]ts? through": "survives, survived",
+    "refused (?:only )?by (?:a|its) name": "killed only by a dangling name",
+    "beside other work": "on a loaded machine",
+    "by chance": "in random order",
+    "(?:before|behind) the stroke": "left, right of the slash",
+    "of one processor": "CPU minutes",
     "puts? out": "writes",
 }
+
+# Where a phrase is meant as it stands: the end of a page's path, the phrase, and why.
+MEANT = []
 
 
 def definitions(path):
@@ -63,41 +94,51 @@ def ambiguous_types(words):
             yield name, sorted(files) + sorted(others)
 
 
+# Each phrase is a group of its own; it may go on in the next line.
+FORMS = "|".join(f"(?P<p{number}>{phrase})" for number, phrase in enumerate(PHRASES))
+PATTERN = re.compile(rf"\b(?:{FORMS})\b".replace(" ", r"\s+").replace(r"[a-z\s+]", r"[a-z\s]").replace(r"[a-z'\s+]", r"[a-z'\s]"), re.IGNORECASE)
+
+
 def phrases_in(text):
-    """The phrases in a text, each with its place and what to write; the longest where several are in one."""
-    pattern = "|".join(f"({phrase})" for phrase in PHRASES)
-    for found in re.finditer(rf"\b(?:{pattern})\b", text, re.IGNORECASE):
-        yield found.start(), found[0], list(PHRASES.values())[found.lastindex - 1]
+    """The phrases in a text, each with its place and what to write."""
+    for found in PATTERN.finditer(text):
+        yield found.start(), " ".join(found[0].split()), list(PHRASES.values())[int(found.lastgroup[1:])]
 
 
 def prose(text):
     """A page with its blocks of code and its words in backquotes blanked, each line in its place."""
     text = re.sub(r"^```.*?^```", lambda block: re.sub(r"[^\n]", " ", block[0]), text, flags=re.MULTILINE | re.DOTALL)
     text = re.sub(r"^    .*$", lambda line: " " * len(line[0]), text, flags=re.MULTILINE)
+    return quiet(text)
+
+
+def comments(text):
+    """The doc comments of a source, all else blanked, each line in its place."""
+    lines = (re.sub(r"^\s*//[/!]", "", line) if re.match(r"\s*//[/!]", line) else "" for line in text.split("\n"))
+    return quiet("\n".join(lines))
+
+
+def quiet(text):
+    """A text with its words in backquotes blanked."""
     return re.sub(r"`[^`\n]*`", lambda word: " " * len(word[0]), text)
 
 
-def check_pages():
-    """Prints each phrase of a page; how many there are."""
-    pages = [TOP / "README.md", *sorted(TOP.glob("docs/*.md")), *sorted(TOP.glob("crates/*/README.md"))]
+def check(paths, text_of):
+    """Prints each phrase of the files, but those that are meant; how many there are."""
     count = 0
-    for page in pages:
-        text = page.read_text() if page.name == "CONTRACTS.md" else prose(page.read_text())
-        for place, phrase, better in sorted(phrases_in(text)):
-            print(f"{page.relative_to(TOP)}:{text.count(chr(10), 0, place) + 1}: '{phrase}': {better}")
-            count += 1
+    for path in paths:
+        name, text = str(path.relative_to(TOP)), text_of(path.read_text())
+        for place, phrase, better in phrases_in(text):
+            if not any(name.endswith(page) and phrase.lower() == meant for page, meant, _ in MEANT):
+                print(f"{name}:{text.count(chr(10), 0, place) + 1}: '{phrase}': {better}")
+                count += 1
     return count
 
 
-def count_comments():
-    """How many of the phrases stand in the doc comments of src/."""
-    comments = (
-        line
-        for path in TOP.glob("crates/*/src/**/*.rt")
-        for line in path.read_text().split("\n")
-        if re.match(r"\s*//[/!]", line)
-    )
-    return len(list(phrases_in("\n".join(comments))))
+def check_all():
+    """How many phrases there are in the pages, and in doc comments."""
+    pages = [TOP / "README.md", *sorted(TOP.glob("docs/*.md")), TOP / "scripts/README.md", *sorted(TOP.glob("crates/*/README.md"))]
+    return check(pages, prose), check(sorted(TOP.glob("crates/*/src/**/*.rt")), comments)
 
 
 def words(*crates):
@@ -107,11 +148,9 @@ def words(*crates):
     definition of a file of specs/ (abbrev, unfoldable, record, data, or with none of these), or a constructor of a
     `data`. The definitions of one word whose text is the same count as one. Then the types of src/ (struct, enum,
     trait) of whose name there is another one in src/, or a definition in specs/ of another crate. Then the phrases of
-    PHRASES in the pages, each with its line, and how many there are in the doc comments of src/. Blocks of code are not
-    looked at. The status is 1 where a page has such a phrase; and, with the names of crates after it, where one of them
-    defines a word of several meanings.
-
-    Usage: scripts/run words [CRATE..]
+    PHRASES in the pages and in the doc comments of src/, each with its line and what to write; but those of MEANT.
+    Blocks of code and words in backquotes are not looked at. The status is 1 where there is such a phrase; and, with
+    the names of crates after it, where one of them defines a word of several meanings.
     """
     places = collections.defaultdict(dict)
     for path in sorted(TOP.glob("crates/*/specs/*.antt")):
@@ -119,18 +158,16 @@ def words(*crates):
         for word, text in definitions(path):
             places[word].setdefault(text, []).append(f"{crate}/{path.name}")
     several = {word: texts for word, texts in places.items() if len(texts) > 1}
-    wanted = set(crates)
     refused = 0
     for word, texts in sorted(several.items()):
         names = [name for group in texts.values() for name in group]
-        if wanted and any(name.split("/")[0] in wanted for name in names):
-            refused += 1
+        refused += any(name.split("/")[0] in crates for name in names)
         print(f"{word}: {', '.join(names)}")
     print(f"{len(several)} of {len(places)} words have several meanings")
     ambiguous = list(ambiguous_types(places))
     for name, files in ambiguous:
         print(f"type {name}: {', '.join(files)}")
     print(f"{len(ambiguous)} types of src/ have a name with another meaning")
-    found = check_pages()
-    print(f"{found} phrases in pages, {count_comments()} in doc comments, which are looked at and not refused")
-    return 1 if refused or found else 0
+    in_pages, in_comments = check_all()
+    print(f"{in_pages} phrases in pages, {in_comments} in doc comments")
+    return int(bool(refused or in_pages or in_comments))

@@ -10,7 +10,8 @@ use Rattle.oai_answers.specs.declared.errors.ErrorCode.TheVariants.{BadArgument,
 use Rattle.oai_item.specs.declared.deleted_record.DeletedRecord.{DeletedRecord}
 use Rattle.oai_answers.specs.declared.tokens.Extent.{Extent}
 
--- what was asked, as the attributes of `request` repeat it: the arguments, decoded, as far as they were given (section 3.2)
+-- the request, as the attributes of `request` repeat it: the arguments, decoded, as far as they were given (section
+-- 3.2)
 pub record Attributes : Type 0 where
   pub verb : Option (List ℕ)
   pub identifier : Option (List ℕ)
@@ -32,8 +33,8 @@ no_arguments = record {
   token = None;
 }
 
--- what Identify returns of a repository beside its base URL: its name, the addresses of its administrators, the lower
--- limit of its datestamps in seconds from 1970 on, what it keeps of deleted records, how fine its datestamps are (section 4.2)
+-- what Identify returns of a repository besides its base URL: its name, the addresses of its administrators, the
+-- earliestDatestamp in seconds from 1970 on, its policy on deleted records, and its granularity (section 4.2)
 pub record Description : Type 0 where
   pub name : List ℕ
   pub addresses : List (List ℕ)
@@ -41,22 +42,22 @@ pub record Description : Type 0 where
   pub deleted : DeletedRecord
   pub granularity : Granularity
 
--- an item in a format: its record there is written, with datestamps of that granularity (section 2.5)
+-- an item in a format: its record there is written, with datestamps at that granularity (section 2.5)
 pub record Dissemination : Type 0 where
   pub item : ItemState
   pub granularity : Granularity
   pub format : Format
 
--- how a list goes on behind the part of it that is answered (section 3.5)
+-- how a list continues after the part that is answered (section 3.5)
 pub data Continuation : Type 0 where
-  -- the list is whole: there is nothing behind it, and nothing before it
+  -- the list is whole: nothing precedes or follows
   whole : Continuation
-  -- records remain: when the token expires in seconds from 1970 on, where the part stands in the list, and the token
+  -- records remain: when the token expires in seconds from 1970 on, the position of the part in the list, and the token
   remains : ℤ → Extent → List ℕ → Continuation
-  -- the part completes the list, and stands there in it
+  -- the part completes the list, at that position
   completes : Extent → Continuation
 
--- a part of a list, or the whole: the items in their order, how fine the datestamps are, and how the list goes on
+-- a part of a list, or the whole: the items in their order, the granularity, and how the list continues
 pub record Page : Type 0 where
   pub items : List ItemState
   pub granularity : Granularity
@@ -72,7 +73,8 @@ pub data Answer : Type 0 where
   lists_headers : Page → Answer
   lists_records : Format → Page → Answer
 
--- the arguments that `request` repeats beside an answer: none beside badVerb and badArgument, where it is the base URL alone (section 3.2)
+-- the arguments that `request` repeats with an answer: none with badVerb and badArgument, where it is the base URL
+-- alone (section 3.2)
 abbrev pub arguments_told : Answer → Attributes → Attributes
 arguments_told (fails BadVerb) asked = no_arguments
 arguments_told (fails BadArgument) asked = no_arguments
@@ -85,7 +87,7 @@ pub record Document : Type 0 where
   pub asked : Attributes
   pub answer : Answer
 
--- the format is listed: each is where no item is asked about, else those in which that item has a record (section 4.4)
+-- the format is listed: each is if no item is given, otherwise those in which that item has a record (section 4.4)
 abbrev pub is_offered : Option ItemState → Format → Bool
 is_offered None format = true
 is_offered (Some item) format = has_record format.prefix item.formats

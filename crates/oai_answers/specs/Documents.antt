@@ -1,5 +1,6 @@
--- The bytes of the XML document of an answer: OAI-PMH 2.0, sections 3.2, 3.3, 3.5, 3.6 and 4, and its schema. There is no white
--- space between elements, and an element without content has a start tag and an end tag. Each part stands before what holds it.
+-- The bytes of the XML document of an answer: OAI-PMH 2.0, sections 3.2, 3.3, 3.5, 3.6 and 4, and its schema. There is
+-- no white space between elements, and an element without content has a start tag and an end tag. Each part is defined
+-- before the one that contains it.
 use Rattle.std.specs.Prelude.{ℕ, Bool, true, false, if◌then◌else◌, List, [], ◌++◌, codes, Option, Some, None}
 use Rattle.std.specs.Fmt.{decimal}
 use Rattle.std.specs.List.{flat_map}
@@ -23,12 +24,12 @@ use Rattle.oai_answers.specs.declared.metadata.Qualifier.TheVariants.{Dc, Bare}
 
 -- The root and the request. Section 3.2
 
--- the XML declaration (XML 1.0, section 2.8), a line end, and the start tag of the root, with its namespaces (Namespaces in XML 1.0,
--- section 3) and its schema (XML Schema Part 1, section 2.6.3)
+-- the XML declaration (XML 1.0, section 2.8), a line end, and the start tag of the root, with its namespaces
+-- (Namespaces in XML 1.0, section 3) and its schema (XML Schema Part 1, section 2.6.3)
 unfoldable pub head : List ℕ
 head = codes "<?xml version=\"1.0\" encoding=\"UTF-8\"?>\n<OAI-PMH xmlns=\"http://www.openarchives.org/OAI/2.0/\" xmlns:xsi=\"http://www.w3.org/2001/XMLSchema-instance\" xsi:schemaLocation=\"http://www.openarchives.org/OAI/2.0/ http://www.openarchives.org/OAI/2.0/OAI-PMH.xsd\">"
 
--- an argument, where it was given
+-- an argument, if it was given
 abbrev pub given_attribute : List ℕ → Option (List ℕ) → List ℕ
 given_attribute name None = []
 given_attribute name (Some value) = attribute name value
@@ -86,13 +87,13 @@ error_element code =
 
 -- Identify. Section 4.2
 
--- what is kept of deleted records
+-- the policy on deleted records
 abbrev pub deleted_text : DeletedRecord → List ℕ
 deleted_text No = codes "no"
 deleted_text Transient = codes "transient"
 deleted_text Persistent = codes "persistent"
 
--- how fine datestamps are
+-- the granularity of datestamps
 abbrev pub granularity_text : Granularity → List ℕ
 granularity_text Day = codes "YYYY-MM-DD"
 granularity_text Second = codes "YYYY-MM-DDThh:mm:ssZ"
@@ -133,7 +134,7 @@ sets_element sets = element (codes "ListSets") (flat_map set_element sets)
 
 -- Metadata. Section 2.5
 
--- what stands before the name of a field: the prefix of a namespace and a colon, or nothing
+-- what precedes the name of a field: the prefix of a namespace and a colon, or nothing
 abbrev pub qualifier_of : Qualifier → List ℕ
 qualifier_of Dc = codes "dc:"
 qualifier_of Bare = []
@@ -142,24 +143,25 @@ qualifier_of Bare = []
 unfoldable pub field_element : List ℕ → Field → List ℕ
 field_element qualifier field = text_element (qualifier ++ field.name) field.text
 
--- the start tag of unqualified Dublin Core, with its namespaces and its schema (the OAI's guidelines for repository implementers, oai_dc)
+-- the start tag of unqualified Dublin Core, with its namespaces and its schema (the OAI's guidelines for repository
+-- implementers, oai_dc)
 unfoldable pub dublin_core_start : List ℕ
 dublin_core_start = codes "<oai_dc:dc xmlns:oai_dc=\"http://www.openarchives.org/OAI/2.0/oai_dc/\" xmlns:dc=\"http://purl.org/dc/elements/1.1/\" xmlns:xsi=\"http://www.w3.org/2001/XMLSchema-instance\" xsi:schemaLocation=\"http://www.openarchives.org/OAI/2.0/oai_dc/ http://www.openarchives.org/OAI/2.0/oai_dc.xsd\">"
 
--- unqualified Dublin Core: an element for each field, of the names of DCES 1.1
+-- unqualified Dublin Core: an element for each field, with the names of DCES 1.1
 unfoldable pub dublin_core_metadata : List Field → List ℕ
 dublin_core_metadata fields =
     dublin_core_start
     ++ flat_map (field_element (codes "dc:")) fields
     ++ end_tag (codes "oai_dc:dc")
 
--- where the schema of a namespace lies: the two, with a space between them (XML Schema Part 1, section 2.6.3)
+-- the location of the schema of a namespace: the two, with a space between them (XML Schema Part 1, section 2.6.3)
 unfoldable pub schema_location : Format → List ℕ
 schema_location format = spelled_attribute (codes "xsi:schemaLocation")
     (escaped_attribute format.namespace ++ plain (codes " ") ++ escaped_attribute format.schema)
 
--- the start tag of a declared format, with its namespaces and its schema: the first is the default one, so that no name in it needs a
--- prefix (Namespaces in XML 1.0, sections 3 and 6.2)
+-- the start tag of a declared format, with its namespaces and its schema: the first is the default one, so that no name
+-- in it needs a prefix (Namespaces in XML 1.0, sections 3 and 6.2)
 unfoldable pub declared_start : Format → List ℕ
 declared_start format =
     plain (codes "<") ++ plain format.root
@@ -181,7 +183,7 @@ metadata format fields =
 
 -- Headers and records. Sections 2.5, 2.5.1 and 4.1
 
--- the start tag of a header, with a status where the record is deleted
+-- the start tag of a header, with a status if the record is deleted
 abbrev pub header_start : Bool → List ℕ
 header_start true = plain (codes "<header>")
 header_start false = plain (codes "<header status=\"deleted\">")
@@ -195,7 +197,7 @@ header_element granularity item =
     ++ flat_map (text_element (codes "setSpec")) item.sets
     ++ end_tag (codes "header")
 
--- the part of a record behind its header, the fields of the item's record in the format: a deleted record has none
+-- the part of a record after its header, the fields of the item's record in the format: a deleted record has none
 unfoldable pub metadata_part : Format → ItemState → List ℕ
 metadata_part format item =
     if item.live
@@ -211,14 +213,14 @@ get_record_element d = element (codes "GetRecord") (record_element d.granularity
 
 -- Lists of headers and of records. Sections 3.5, 4.3 and 4.5
 
--- how many records the whole list has, and how many of them stand before this part
+-- how many records the whole list has, and how many of them precede this part
 unfoldable pub extent_attributes : Extent → List ℕ
 extent_attributes extent =
     spelled_attribute (codes "completeListSize") (decimal extent.size)
     ++ spelled_attribute (codes "cursor") (decimal extent.cursor)
 
--- the element `resumptionToken`: none where the list is whole, else the token, or nothing in it where the list ends here. When
--- the token expires is written in seconds, whatever the granularity of the datestamps
+-- the element `resumptionToken`: none if the list is whole, otherwise the token, or the empty one if the list ends
+-- here. When the token expires is written in seconds, whatever the granularity of the datestamps
 unfoldable pub token_element : Continuation → List ℕ
 token_element whole = []
 token_element (remains expires extent token) =
@@ -251,7 +253,7 @@ answer_element base (gives_record d) = get_record_element d
 answer_element base (lists_headers page) = identifiers_element page
 answer_element base (lists_records format page) = records_element format page
 
--- the bytes of the document, a line end behind its last tag
+-- the bytes of the document, with a line end after its last tag
 unfoldable pub document : Document → List ℕ
 document d =
     head

@@ -1,10 +1,10 @@
--- The markup of which documents are made: tags, elements and attributes. XML 1.0, sections 3 and 3.1.
+-- The markup of documents: tags, elements and attributes. XML 1.0, sections 3 and 3.1.
 use Rattle.std.specs.Prelude.{ℕ, List, ◌++◌, codes}
 use Rattle.oai_names.specs.Escapes.{escaped_text, escaped_attribute}
 use Rattle.oai_answers.specs.declared.tags.Tag.{Tag}
 use Rattle.oai_answers.specs.declared.tags.Tag.TheVariants.{Record, Header, Identifier, Datestamp, SetSpec, Metadata, DublinCore}
 
--- bytes that stand as they are: the bytes themselves. It marks them for the prover, and changes nothing
+-- bytes that are written unescaped: the bytes themselves. It marks them for the prover, and changes nothing
 unfoldable pub plain : List ℕ → List ℕ
 plain bytes = bytes
 
@@ -28,7 +28,7 @@ text_element name text = element name (escaped_text text)
 unfoldable pub attribute_start : List ℕ → List ℕ
 attribute_start name = plain (codes " ") ++ plain name ++ plain (codes "=\"")
 
--- Attribute ::= Name Eq AttValue, the value being spelled already
+-- Attribute ::= Name Eq AttValue, with the value already escaped
 unfoldable pub spelled_attribute : List ℕ → List ℕ → List ℕ
 spelled_attribute name value = attribute_start name ++ value ++ plain (codes "\"")
 

@@ -1,4 +1,4 @@
--- What the bytes of a document show to a reader: all but what the document does not print. OAI-PMH 2.0, sections 2.5, 3.2, 3.5, 3.6
+-- What the bytes of a document show to a reader: all that the document prints. OAI-PMH 2.0, sections 2.5, 3.2, 3.5, 3.6
 -- and 4.
 use Rattle.std.specs.Prelude.{◌≡◌, ◌⊎◌, ℕ, Bool, true, if◌then◌else◌, List, map, codes, Option, None, Some}
 use Rattle.std.specs.Fmt.{decimal}
@@ -18,7 +18,8 @@ use Rattle.oai_item.specs.declared.deleted_record.DeletedRecord.{DeletedRecord}
 
 -- ---- what is seen
 
--- of a header (section 2.5): whether the record is live, its identifier, its datestamp as it is printed, and its setSpecs in order
+-- of a header (section 2.5): whether the record is live, its identifier, its datestamp as it is printed, and its
+-- setSpecs in order
 pub record SeenHeader : Type 0 where
   pub live : Bool
   pub identifier : List ℕ
@@ -40,8 +41,8 @@ pub record SeenRecord : Type 0 where
   pub header : SeenHeader
   pub metadata : Option SeenMetadata
 
--- of how a list goes on (section 3.5): nothing; or a token, with expirationDate, completeListSize and cursor as they are printed; or the empty
--- token, with completeListSize and cursor
+-- of how a list continues (section 3.5): nothing; or a token, with expirationDate, completeListSize and cursor as they
+-- are printed; or the empty token, with completeListSize and cursor
 pub data SeenToken : Type 0 where
   no_token : SeenToken
   seen_token : List ℕ → List ℕ → List ℕ → List ℕ → SeenToken
@@ -141,9 +142,9 @@ document_seen d = record {
   answer = answer_seen d.base d.answer;
 }
 
--- ---- of which documents that can be said
+-- ---- the documents for which that holds
 
--- a format of a repository (section 3.4): oai_dc, or one that keeps the rules of a declared format
+-- a format of a repository (section 3.4): oai_dc, or one that satisfies the rules of a declared format
 abbrev pub IsGoodFormat : Format → Type 0
 IsGoodFormat format = (format ≡ dublin_core) ⊎ (is_allowed format ≡ true)
 
@@ -151,7 +152,7 @@ IsGoodFormat format = (format ≡ dublin_core) ⊎ (is_allowed format ≡ true)
 abbrev pub has_own_fields : Format → ItemState → Bool
 has_own_fields format item = are_fields_of (Some format) (fields_in format.prefix item.formats)
 
--- the records of an answer are such
+-- the records of an answer are in such formats, with such fields
 abbrev pub IsRegular : Answer → Type 0
 IsRegular (fails code) = Unit {0}
 IsRegular (identifies d) = Unit {0}

@@ -1,4 +1,5 @@
--- Documents that are equal byte for byte though what they answer is not: what a document does not print. OAI-PMH 2.0, section 2.5.
+-- Documents that are equal byte for byte though their answers are not: what a document does not print. OAI-PMH 2.0,
+-- section 2.5.
 use Rattle.std.specs.Prelude.{ℕ, ℤ, neg_ℤ, pos, List, [], ◌∷◌, codes}
 use Rattle.oai_time.specs.declared.granularity.Granularity.{Granularity}
 use Rattle.oai_time.specs.declared.granularity.Granularity.TheVariants.{Day}
@@ -24,7 +25,7 @@ article prefix = (prefix, record { name = codes "volume"; text = codes "</volume
 abbrev pub first_second : ℤ
 first_second = neg_ℤ (pos 62_167_219_200)
 
--- an item of these records, at a moment so many seconds before 1970
+-- an item with these records, at a moment that many seconds before 1970
 abbrev pub issue : ℕ → List Metadata → ItemState
 issue before records = live_item (codes "oai:a:1") (neg_ℤ (pos before)) [] records
 
@@ -45,7 +46,7 @@ plain_issue = item_document Day (codes "jnl") (issue 62_167_219_200 (article (co
 abbrev pub issue_by_prefix : Document
 issue_by_prefix = item_document Day (codes "art") (issue 62_167_219_200 (article (codes "art") ∷ []))
 
--- five seconds later, where datestamps are days
+-- five seconds later, if datestamps are days
 abbrev pub issue_of_day : Document
 issue_of_day = item_document Day (codes "jnl") (issue 62_167_219_195 (article (codes "jnl") ∷ []))
 

@@ -8,7 +8,7 @@ use crate::markup::{end, put, start, start_attribute};
 use oai_time::{Granularity, write_datestamp};
 use std::alloc::AllocError;
 
-/// Appends an element of that name with the time in it, in seconds.
+/// Appends an element with that name and the time in it, in seconds.
 pub(crate) fn second_element(name: &str, seconds: i64, out: &mut Vec<u8>) -> Result<(), AllocError>
     requires { IsWritable seconds }
     ensures { OnOk result (Appends out.old.items out.new.items
@@ -17,7 +17,7 @@ pub(crate) fn second_element(name: &str, seconds: i64, out: &mut Vec<u8>) -> Res
     datestamp_element(name, Granularity::Second, seconds, out)
 }
 
-/// Appends an attribute of that name with the time as its value, in seconds.
+/// Appends an attribute with that name and the time as its value, in seconds.
 #[tactic(auto, unfolding(crate::specs::Markup::spelled_attribute))]
 pub(crate) fn second_attribute(
     name: &str,
@@ -34,7 +34,7 @@ pub(crate) fn second_attribute(
     Ok(())
 }
 
-/// Appends an element of that name with the datestamp in it (OAI-PMH 2.0, section 3.3).
+/// Appends an element with that name and the datestamp in it (OAI-PMH 2.0, section 3.3).
 #[tactic(auto, unfolding(crate::specs::Markup::element))]
 pub(crate) fn datestamp_element(
     name: &str,

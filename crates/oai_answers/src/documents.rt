@@ -22,13 +22,13 @@ use std::alloc::{AllocError, Global};
 /// What a document answers: an error, or what the verb asks for.
 #[derive(Clone, Copy, Debug)]
 pub enum Body<'a> {
-    /// The request could not be met (OAI-PMH 2.0, section 3.6).
+    /// The request failed with this error (OAI-PMH 2.0, section 3.6).
     Error(ErrorCode),
     /// The description of the repository (OAI-PMH 2.0, section 4.2).
     Identify(Identity<'a>),
     /// The metadata formats of the repository, or of an item (OAI-PMH 2.0, section 4.4).
     ListMetadataFormats(Offered<'a>),
-    /// The sets of the repository, each its setSpec and its name (OAI-PMH 2.0, section 4.6).
+    /// The sets of the repository, each with its setSpec and its name (OAI-PMH 2.0, section 4.6).
     ListSets(&'a [(SetSpec, Text)]),
     /// One record (OAI-PMH 2.0, section 4.1).
     GetRecord(Record<'a>),
@@ -38,10 +38,10 @@ pub enum Body<'a> {
     ListRecords(&'a Format, Listed<'a>),
 }
 
-/// An answer with what a document has beside it (OAI-PMH 2.0, section 3.2).
+/// An answer and the other parts of its document (OAI-PMH 2.0, section 3.2).
 #[derive(Clone, Copy, Debug)]
 pub struct Doc<'a> {
-    /// When the answer is given, in seconds from 1970 on.
+    /// The responseDate, in seconds from 1970 on.
     pub date: i64,
     /// The base URL of the repository.
     pub base: &'a str,
@@ -51,14 +51,13 @@ pub struct Doc<'a> {
     pub body: Body<'a>,
 }
 
-/// Appends the XML document (OAI-PMH 2.0, section 3.2), in UTF-8. The date, the earliest datestamp
-/// of an answer to Identify and the moment at which a token expires are of the years 0000 to 9999.
-/// The error is out of memory; it leaves the buffer as it was.
+/// Appends the XML document (OAI-PMH 2.0, section 3.2), in UTF-8. The date, the earliest datestamp of an answer to
+/// Identify and the moment at which a token expires lie in the years 0000 to 9999. The error is out of memory, and the
+/// buffer is unchanged.
 ///
-/// It costs one pass over the texts of the document, and a search among the records of an item for
-/// each record, and for each format that is listed of an item. The document is written into a buffer
-/// of its own, with room for about as much as it takes, which `out` takes over where it was empty;
-/// otherwise it is copied once.
+/// It costs one pass over the texts of the document, and a search among the records of an item for each record, and for
+/// each format that is listed of an item. The document is written into a buffer of its own, with an estimated capacity;
+/// `out` takes it over if it was empty, otherwise it is copied once.
 pub fn write_document(alloc: Global, doc: &Doc<'_>, out: &mut Vec<u8>) -> Result<(), AllocError>
     requires { IsWritableDocument (document_of doc.now) }
     ensures ok { OnOk result (out.new.items ≡ out.old.items ++ document (document_of doc.now)) }
@@ -73,7 +72,7 @@ pub fn write_document(alloc: Global, doc: &Doc<'_>, out: &mut Vec<u8>) -> Result
     out.extend_from_slice(&document)
 }
 
-/// As `write_document`, but what was appended before memory was refused stays.
+/// As `write_document`, but what was appended before memory ran out stays.
 #[tactic(auto, unfolding(crate::specs::Documents::document))]
 fn append(doc: &Doc<'_>, out: &mut Vec<u8>) -> Result<(), AllocError>
     requires { IsWritableDocument (document_of doc.now) }

@@ -5,12 +5,12 @@ ghost use Rattle.oai_answers.specs.Documents.{code_of, error_element, message_of
 use crate::markup::{end, plain_attribute, put};
 use std::alloc::AllocError;
 
-/// Why a request could not be met (OAI-PMH 2.0, section 3.6).
+/// Why a request failed (OAI-PMH 2.0, section 3.6).
 #[derive(Clone, Copy, Debug, PartialEq, Eq)]
 pub enum ErrorCode {
     /// The verb is missing, repeated or no verb of the protocol.
     BadVerb,
-    /// An argument is illegal, missing, repeated or of illegal syntax.
+    /// An argument is illegal, missing, repeated or has illegal syntax.
     BadArgument,
     /// The resumptionToken is invalid or has expired.
     BadResumptionToken,
@@ -18,7 +18,7 @@ pub enum ErrorCode {
     CannotDisseminateFormat,
     /// No item has that identifier.
     IdDoesNotExist,
-    /// No record is of that format, in that set and of those dates.
+    /// No record has that format, set and dates.
     NoRecordsMatch,
     /// The item has no metadata formats.
     NoMetadataFormats,

@@ -3,8 +3,8 @@ ghost use Rattle.oai_item.specs.Item.{fields_in};
 
 use oai_item::{Fields, Item};
 
-/// The fields of the item's record of that metadataPrefix, in order; none where it has no such
-/// record. It looks through the item's records.
+/// The fields of the item's record with that metadataPrefix, in order; none if it has no such record. It scans the
+/// item's records.
 pub(crate) fn fields_in<'a>(prefix: &str, item: &'a Item) -> Fields<'a>
     ensures { result ≡ fields_in prefix.now item.now.formats }
 {

@@ -9,13 +9,13 @@ use crate::markup::{end, start, text_element};
 use oai_item::{Format, Item};
 use std::alloc::AllocError;
 
-/// The metadata formats that a document lists: those of the repository, in order, or only those of
-/// them in which an item has a record (OAI-PMH 2.0, section 4.4).
+/// The metadata formats that a document lists: those of the repository, in order, or only those in which an item has a
+/// record (OAI-PMH 2.0, section 4.4).
 #[derive(Clone, Copy, Debug)]
 pub struct Offered<'a> {
     /// The formats of the repository.
     pub formats: &'a [Format],
-    /// The item, where the formats of one are asked for.
+    /// The item, if the formats of one are requested.
     pub of: Option<&'a Item>,
 }
 
@@ -34,7 +34,7 @@ pub(crate) fn write_list_metadata_formats(
     Ok(())
 }
 
-/// Appends those of the formats that are offered, in order.
+/// Appends the offered formats, in order.
 #[tactic(auto, unfolding(crate::specs::Answers::offered))]
 fn write_formats(list: &Offered<'_>, out: &mut Vec<u8>) -> Result<(), AllocError>
     ensures { OnOk result (Appends out.old.items out.new.items
@@ -48,7 +48,7 @@ fn write_formats(list: &Offered<'_>, out: &mut Vec<u8>) -> Result<(), AllocError
     Ok(())
 }
 
-/// Whether no item is asked about, or it has a record in the format.
+/// Whether no item is given, or it has a record in the format.
 fn is_offered(of: Option<&Item>, format: &Format) -> bool
     ensures { result ≡ is_offered (option_copied of.entry) format.now }
 {

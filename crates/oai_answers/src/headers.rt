@@ -59,7 +59,7 @@ fn write_stamp(granularity: Granularity, seconds: i64, out: &mut Vec<u8>) -> Res
     Ok(())
 }
 
-/// Appends the start tag of `header`, with its status where the record is deleted.
+/// Appends the start tag of `header`, with its status if the record is deleted.
 fn write_header_start(is_live: bool, out: &mut Vec<u8>) -> Result<(), AllocError>
     ensures { OnOk result (Appends out.old.items out.new.items (header_start is_live)) }
 {

@@ -1,8 +1,11 @@
-ghost use Rattle.std.specs.Prelude.{◌≡◌, OnOk};
+ghost use Rattle.std.specs.Prelude.{◌≡◌, ◌++◌, OnOk, codes};
+ghost use Rattle.std.specs.List.{flat_map};
 ghost use Rattle.oai_time.specs.Stamp.{IsWritable};
+ghost use Rattle.oai_time.specs.TimeTexts.{datestamp_text};
 ghost use Rattle.oai_answers.specs.Appends.{Appends};
 ghost use Rattle.oai_answers.specs.Borrowed.{description_of};
 ghost use Rattle.oai_answers.specs.Documents.{deleted_text, granularity_text, identify_element};
+ghost use Rattle.oai_answers.specs.Markup.{element, plain, text_element};
 
 use crate::dates::datestamp_element;
 use crate::markup::{end, plain_element, start, text_element, text_elements};
@@ -27,7 +30,6 @@ pub struct Identity<'a> {
 }
 
 /// Appends the element `Identify`.
-#[tactic(auto, unfolding(crate::specs::Documents::identify_element, crate::specs::Markup::element))]
 pub(crate) fn write_identify(
     base: &str,
     identity: &Identity<'_>,
@@ -38,10 +40,35 @@ pub(crate) fn write_identify(
         (identify_element base.now (description_of identity.now))) }
 {
     start("Identify", out)?;
+    write_names(base, identity, out)?;
+    write_rules(identity, out)?;
+    end("Identify", out)?;
+    Ok(())
+}
+
+/// Appends what the repository is called, where it is asked, in which version, and whom to write to.
+fn write_names(base: &str, identity: &Identity<'_>, out: &mut Vec<u8>) -> Result<(), AllocError>
+    ensures { OnOk result (Appends out.old.items out.new.items
+        (text_element (codes "repositoryName") identity.now.name.now
+        ++ text_element (codes "baseURL") base.now
+        ++ element (codes "protocolVersion") (plain (codes "2.0"))
+        ++ flat_map (text_element (codes "adminEmail")) identity.now.addresses.now)) }
+{
     text_element("repositoryName", identity.name, out)?;
     text_element("baseURL", base, out)?;
     plain_element("protocolVersion", "2.0", out)?;
     text_elements("adminEmail", identity.addresses, out)?;
+    Ok(())
+}
+
+/// Appends what its datestamps and its deleted records are.
+fn write_rules(identity: &Identity<'_>, out: &mut Vec<u8>) -> Result<(), AllocError>
+    requires { IsWritable identity.now.earliest }
+    ensures { OnOk result (Appends out.old.items out.new.items
+        (element (codes "earliestDatestamp") (datestamp_text identity.now.granularity identity.now.earliest)
+        ++ element (codes "deletedRecord") (plain (deleted_text identity.now.deleted))
+        ++ element (codes "granularity") (plain (granularity_text identity.now.granularity)))) }
+{
     datestamp_element(
         "earliestDatestamp",
         identity.granularity,
@@ -50,7 +77,6 @@ pub(crate) fn write_identify(
     )?;
     plain_element("deletedRecord", policy_text(identity.deleted), out)?;
     plain_element("granularity", granularity_text(identity.granularity), out)?;
-    end("Identify", out)?;
     Ok(())
 }
 

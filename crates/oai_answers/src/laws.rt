@@ -1,4 +1,4 @@
-//! What the bytes of a document show of what was answered.
+//! What the bytes of a document show of the answer.
 
 ghost use Rattle.std.specs.Prelude.{◌≡◌};
 ghost use Rattle.oai_answers.specs.Answers.{Document};
@@ -6,19 +6,18 @@ ghost use Rattle.oai_answers.specs.Documents.{document};
 ghost use Rattle.oai_answers.specs.Seen.{IsRegular, document_seen};
 ghost use Rattle.oai_answers.specs.Unseen.{issue_by_prefix, issue_in_both, issue_of_day, plain_issue};
 
-/// The bytes of a document determine what a reader sees of it: the date, the base URL, the arguments
-/// as `request` repeats them, and of the answer all that it prints (OAI-PMH 2.0, sections 2.5 and 3).
-/// No text of an item can forge a header, swallow a record or pass for another. All that is asked is
-/// that formats keep the rules of formats, and that the fields of each record are those of its format.
+/// The bytes of a document determine what a reader sees of it: the date, the base URL, the arguments as `request`
+/// repeats them, and of the answer all that it prints (OAI-PMH 2.0, sections 2.5 and 3). No text of an item can forge a
+/// header, swallow a record or pass for another. The only premises: formats satisfy the rules of formats, and the
+/// fields of each record are those of its format. A theorem, proved by an empty function.
 pub fn document_law()
     ensures { (a b : Document) → IsRegular a.answer → IsRegular b.answer
         → document a ≡ document b → document_seen a ≡ document_seen b }
 {}
 
-/// What the bytes do not show, by documents that are equal: the prefix of a format beside its root,
-/// namespace and schema; the second of a datestamp where days are printed; and the records of an item
-/// in other formats than the one that was asked for. All four are such documents as [`document_law`]
-/// speaks of.
+/// What the bytes do not show, by documents that are equal: the prefix of a format besides its root, namespace and
+/// schema; the second of a datestamp printed as a day; and the records of an item in other formats than the requested
+/// one. All four are such documents as [`document_law`] speaks of. A theorem, proved by an empty function.
 pub fn unseen_law()
     ensures regular { IsRegular plain_issue.answer × IsRegular issue_by_prefix.answer
         × IsRegular issue_of_day.answer × IsRegular issue_in_both.answer }

@@ -1,5 +1,4 @@
-//! The XML documents that answer the requests of OAI-PMH 2.0 (sections 3.2 and 4): an answer, and
-//! the bytes that spell it.
+//! The XML documents that answer the requests of OAI-PMH 2.0 (sections 3.2 and 4): an answer, and its bytes.
 #![tactic(auto)]
 
 mod dates;

@@ -12,15 +12,14 @@ use oai_item::{Format, Item};
 use oai_time::Granularity;
 use std::alloc::AllocError;
 
-/// A list of items, whole or a part of it, as ListIdentifiers and ListRecords return it (OAI-PMH 2.0,
-/// section 3.5).
+/// A list of items, whole or a part of it, as ListIdentifiers and ListRecords return it (OAI-PMH 2.0, section 3.5).
 #[derive(Clone, Copy, Debug)]
 pub struct Listed<'a> {
     /// The items, in order.
     pub items: &'a [Item],
-    /// How fine the datestamps of the repository are.
+    /// The granularity of the repository's datestamps.
     pub granularity: Granularity,
-    /// How the list goes on behind them.
+    /// How the list continues after them.
     pub resumption: Resumption<'a>,
 }
 

@@ -8,7 +8,7 @@ use crate::tags::{Tag, tagged_text};
 use oai_names::{SetSpec, Text, escape_attr, escape_text};
 use std::alloc::AllocError;
 
-/// Appends markup as it stands.
+/// Appends markup unescaped.
 #[tactic(auto, unfolding(crate::specs::Markup::plain))]
 pub(crate) fn put(markup: &str, out: &mut Vec<u8>) -> Result<(), AllocError>
     ensures { OnOk result (Appends out.old.items out.new.items (plain markup.now)) }
@@ -16,14 +16,14 @@ pub(crate) fn put(markup: &str, out: &mut Vec<u8>) -> Result<(), AllocError>
     out.extend_from_slice(markup.as_bytes())
 }
 
-/// Appends a text as it is spelled in an element.
+/// Appends a text, escaped for an element.
 pub(crate) fn put_text(text: &str, out: &mut Vec<u8>) -> Result<(), AllocError>
     ensures { OnOk result (Appends out.old.items out.new.items (escaped_text text.now)) }
 {
     escape_text(text, out)
 }
 
-/// Appends a text as it is spelled in the value of an attribute.
+/// Appends a text, escaped for the value of an attribute.
 pub(crate) fn put_value(text: &str, out: &mut Vec<u8>) -> Result<(), AllocError>
     ensures { OnOk result (Appends out.old.items out.new.items (escaped_attribute text.now)) }
 {
@@ -73,7 +73,7 @@ pub(crate) fn text_element(name: &str, text: &str, out: &mut Vec<u8>) -> Result<
     Ok(())
 }
 
-/// Appends an element of that name for each text.
+/// Appends an element with that name for each text.
 pub(crate) fn text_elements(name: &str, texts: &[Text], out: &mut Vec<u8>) -> Result<(), AllocError>
     ensures { OnOk result (Appends out.old.items out.new.items
         (flat_map (text_element name.now) texts.now)) }

@@ -13,7 +13,7 @@ use std::alloc::AllocError;
 const DUBLIN_CORE_START: &str =
     "<oai_dc:dc xmlns:oai_dc=\"http://www.openarchives.org/OAI/2.0/oai_dc/\" xmlns:dc=\"http://purl.org/dc/elements/1.1/\" xmlns:xsi=\"http://www.w3.org/2001/XMLSchema-instance\" xsi:schemaLocation=\"http://www.openarchives.org/OAI/2.0/oai_dc/ http://www.openarchives.org/OAI/2.0/oai_dc.xsd\">";
 
-/// The namespace of the attributes that say where a schema lies.
+/// The namespace of the attribute schemaLocation.
 const SCHEMA_INSTANCE: &str = "http://www.w3.org/2001/XMLSchema-instance";
 
 /// How the names of fields are qualified (Namespaces in XML 1.0, section 4).
@@ -21,7 +21,7 @@ const SCHEMA_INSTANCE: &str = "http://www.w3.org/2001/XMLSchema-instance";
 enum Qualifier {
     /// By the prefix of Dublin Core's elements.
     Dc,
-    /// By none, since the namespace of the format is the default one.
+    /// By no prefix, since the namespace of the format is the default one.
     Bare,
 }
 
@@ -108,7 +108,7 @@ fn write_declared_start(format: &Format, out: &mut Vec<u8>) -> Result<(), AllocE
     Ok(())
 }
 
-/// Appends the attribute that says where the schema of the format lies.
+/// Appends the attribute schemaLocation of the format.
 #[tactic(auto, unfolding(crate::specs::Documents::schema_location, crate::specs::Markup::spelled_attribute))]
 fn write_schema_location(format: &Format, out: &mut Vec<u8>) -> Result<(), AllocError>
     ensures { OnOk result (Appends out.old.items out.new.items (schema_location format.now)) }
@@ -136,7 +136,7 @@ fn write_fields(
     Ok(())
 }
 
-/// Appends the element of a field, its name qualified.
+/// Appends the element of a field, with its qualified name.
 #[tactic(auto, unfolding(crate::specs::Documents::field_element, crate::specs::Markup::text_element, crate::specs::Markup::element))]
 fn write_field(
     qualifier: Qualifier,

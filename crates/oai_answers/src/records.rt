@@ -13,13 +13,13 @@ use oai_item::{Format, Item};
 use oai_time::Granularity;
 use std::alloc::AllocError;
 
-/// An item in a format: a document has the fields of the item's record of the format's prefix
-/// (OAI-PMH 2.0, section 2.5).
+/// An item in a format: a document has the fields of the item's record with the format's prefix (OAI-PMH 2.0, section
+/// 2.5).
 #[derive(Clone, Copy, Debug)]
 pub struct Record<'a> {
     /// The item.
     pub item: &'a Item,
-    /// How fine the datestamps of the repository are.
+    /// The granularity of the repository's datestamps.
     pub granularity: Granularity,
     /// The format.
     pub format: &'a Format,

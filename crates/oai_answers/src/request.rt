@@ -10,8 +10,8 @@ use crate::errors::ErrorCode;
 use crate::markup::{attribute, end, put, put_text};
 use std::alloc::AllocError;
 
-/// The arguments of a request, decoded, as far as they were given. After `BadVerb` and
-/// `BadArgument` no document shows them, whatever stands here (OAI-PMH 2.0, section 3.2).
+/// The arguments of a request, decoded, as far as they were given. After `BadVerb` and `BadArgument` no document shows
+/// them, whatever these are (OAI-PMH 2.0, section 3.2).
 #[derive(Clone, Copy, Debug)]
 pub struct Asked<'a> {
     /// The verb.
@@ -61,7 +61,7 @@ pub(crate) fn write_request(doc: &Doc<'_>, out: &mut Vec<u8>) -> Result<(), Allo
     Ok(())
 }
 
-/// Appends the attributes that `request` has beside that answer.
+/// Appends the attributes of `request` for that answer.
 #[tactic(auto, unfolding(crate::specs::Documents::attributes))]
 fn write_attributes_beside(
     body: &Body<'_>,
@@ -94,7 +94,7 @@ fn write_attributes(asked: &Asked<'_>, out: &mut Vec<u8>) -> Result<(), AllocErr
     Ok(())
 }
 
-/// Appends the argument as an attribute, where it was given.
+/// Appends the argument as an attribute, if it was given.
 fn write_given(name: &str, value: Option<&str>, out: &mut Vec<u8>) -> Result<(), AllocError>
     ensures { OnOk result (Appends out.old.items out.new.items
         (given_attribute name.now (option_copied value.entry))) }

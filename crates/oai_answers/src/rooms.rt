@@ -1,25 +1,25 @@
-//! About how many bytes a document takes, so that its buffer seldom grows. No contract speaks of it: a document that takes more
-//! grows.
+//! Estimates the length of a document, so that its buffer seldom grows. No contract speaks of it: a document that is
+//! longer grows.
 use crate::documents::Body;
 use crate::fields::fields_in;
 use oai_item::{Format, Item};
 
-/// The room for what every document has, and for what is small in it, in bytes.
+/// The estimate for what every document has, and for small content, in bytes.
 const FIRST_ROOM: usize = 4_096;
 
-/// The most room that is taken at first.
+/// The maximum initial capacity.
 const MAX_ROOM: usize = 4_194_304;
 
-/// The room for a record or a header without its texts: its tags, and the attributes of its metadata.
+/// The estimate for a record or a header without its texts: its tags, and the attributes of its metadata.
 const RECORD_ROOM: usize = 640;
 
 const HEADER_ROOM: usize = 160;
 
-/// The room for the tags of a field or of a setSpec without its name.
+/// The estimate for the tags of a field or of a setSpec without its name.
 const FIELD_ROOM: usize = 16;
 
-/// About how many bytes a document with that answer takes. A list is judged by its first item, which it takes to be a
-/// little shorter than the others.
+/// The estimated length of a document with that answer. A list is estimated by its first item, on the assumption that
+/// it is a little shorter than the others.
 pub(crate) fn room_of(body: &Body<'_>) -> usize {
     let room = match body {
         Body::GetRecord(record) => record_room(record.format, record.item),
@@ -30,7 +30,7 @@ pub(crate) fn room_of(body: &Body<'_>) -> usize {
     room.saturating_add(FIRST_ROOM).min(MAX_ROOM)
 }
 
-/// The room for so many items like the first, as headers or as records in a format.
+/// The estimate for that many items like the first, as headers or as records in a format.
 fn room_of_all(items: &[Item], format: Option<&Format>) -> usize {
     let Some(first) = items.first() else {
         return 0;
@@ -42,7 +42,7 @@ fn room_of_all(items: &[Item], format: Option<&Format>) -> usize {
     room.saturating_add(room / 8).saturating_mul(items.len())
 }
 
-/// The room for the header of the item.
+/// The estimate for the header of the item.
 fn header_room(item: &Item) -> usize {
     let mut room = HEADER_ROOM.saturating_add(item.identifier().as_str().len());
     for set in item.sets() {
@@ -53,7 +53,7 @@ fn header_room(item: &Item) -> usize {
     room
 }
 
-/// The room for the record of the item.
+/// The estimate for the record of the item.
 fn record_room(format: &Format, item: &Item) -> usize {
     let mut room = header_room(item).saturating_add(RECORD_ROOM);
     let mut fields = fields_in(format.prefix.as_str(), item);

@@ -1,4 +1,4 @@
-//! The tags of elements that each record has, written in one piece.
+//! The tags of the elements that each record has, written in one piece.
 ghost use Rattle.std.specs.Prelude.{◌≡◌, OnOk};
 ghost use Rattle.oai_answers.specs.Appends.{Appends};
 ghost use Rattle.oai_answers.specs.Markup.{end_tag, name_of, start_tag, text_element};

@@ -11,39 +11,38 @@ use crate::dates::second_attribute;
 use crate::markup::{end, put, put_text, start_attribute};
 use std::alloc::AllocError;
 
-/// How a list goes on behind the items that an answer holds (OAI-PMH 2.0, section 3.5).
+/// How a list continues after the items of an answer (OAI-PMH 2.0, section 3.5).
 #[derive(Clone, Copy, Debug)]
 pub enum Resumption<'a> {
-    /// The list is whole in this answer: no token is written.
+    /// The answer has the whole list: no token is written.
     Whole,
-    /// Records remain, and a token asks for them.
+    /// Records remain, and a token requests them.
     More(Remaining<'a>),
-    /// The answer completes the list that it is a part of: an empty token says so.
+    /// The answer completes a list that was answered in parts: an empty token says so.
     Last(Extent),
 }
 
-/// The token for the records that remain of a list (OAI-PMH 2.0, section 3.5).
+/// The token for the remaining records of a list (OAI-PMH 2.0, section 3.5).
 #[derive(Clone, Copy, Debug)]
 pub struct Remaining<'a> {
-    /// When the token expires, in seconds from 1970 on. A document has it in seconds, also where
-    /// datestamps are days.
+    /// When the token expires, in seconds from 1970 on. A document has it in seconds, also if datestamps are days.
     pub expires: i64,
-    /// Where the answer stands in its list.
+    /// The position of the answer in its list.
     pub extent: Extent,
-    /// The token, not escaped.
+    /// The token, unescaped.
     pub token: &'a str,
 }
 
-/// Where an answer stands in its list (OAI-PMH 2.0, section 3.5).
+/// The position of an answer in its list (OAI-PMH 2.0, section 3.5).
 #[derive(Clone, Copy, Debug, PartialEq, Eq)]
 pub struct Extent {
     /// How many records the whole list has.
     pub size: u64,
-    /// How many of them stand before this answer.
+    /// How many of them precede this answer.
     pub cursor: u64,
 }
 
-/// Appends the element `resumptionToken`, or nothing where the list is whole.
+/// Appends the element `resumptionToken`, or nothing if the list is whole.
 #[tactic(auto, unfolding(crate::specs::Documents::token_element))]
 pub(crate) fn write_token(resumption: &Resumption<'_>, out: &mut Vec<u8>) -> Result<(), AllocError>
     requires { HasWritableEnd (continuation_of resumption.now) }
@@ -73,7 +72,7 @@ fn write_remaining(remaining: &Remaining<'_>, out: &mut Vec<u8>) -> Result<(), A
     Ok(())
 }
 
-/// Appends the element that ends a list, with nothing in it.
+/// Appends the empty element that ends a list.
 #[tactic(auto, unfolding(crate::specs::Documents::token_element))]
 fn write_last(extent: Extent, out: &mut Vec<u8>) -> Result<(), AllocError>
     ensures { OnOk result (Appends out.old.items out.new.items
@@ -86,7 +85,7 @@ fn write_last(extent: Extent, out: &mut Vec<u8>) -> Result<(), AllocError>
     Ok(())
 }
 
-/// Appends the size of the list and the cursor in it as attributes.
+/// Appends the size of the list and the cursor as attributes.
 #[tactic(auto, unfolding(crate::specs::Documents::extent_attributes))]
 fn write_extent(extent: Extent, out: &mut Vec<u8>) -> Result<(), AllocError>
     ensures { OnOk result (Appends out.old.items out.new.items (extent_attributes extent)) }

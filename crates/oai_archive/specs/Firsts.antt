@@ -12,25 +12,26 @@ program = codes "oaihostd"
 abbrev pub first_body : List ℕ → List ℕ
 first_body config = codes "1" ++ 10 ∷ config
 
--- a configuration without its cache: null stands in its place
+-- a configuration without its cache: null takes its place
 abbrev pub but_cache : Members → Data
 but_cache members = object (put (codes "cache") null members)
 
--- two values are equal, as far as they nest no deeper than is read
+-- two values are equal, as far as they nest no deeper than the parser reads
 abbrev pub AreSame : Data → Data → Type 0
 AreSame d e = depth d ≤ max_depth → depth e ≤ max_depth → d ≡ e
 
--- two configurations are the same, or JSON objects that are equal but for how many pages the cache has
+-- two configurations are the same, or JSON objects that are equal, ignoring the size of the cache
 abbrev pub IsSameConfig : List ℕ → List ℕ → Type 0
 IsSameConfig config other =
     (config ≡ other)
     ⊎ ((ms ns : Members) × (json_in config ≡ Some (object ms)) × (json_in other ≡ Some (object ns)) × AreSame (but_cache ms) (but_cache ns))
 
--- the first record of a journal has this program's name, its version, and the configuration, but for how many pages the cache has
+-- the first record of a journal has this program's name, its version, and the configuration, ignoring the size of the
+-- cache
 abbrev pub IsOf : List ℕ → List ℕ → List ℕ → Type 0
 IsOf name body text = (name ≡ program) × (config : List ℕ) × (body ≡ first_body config) × IsSameConfig config text
 
--- the text is a JSON object, and this is what is written for it without its cache, from which it is read back
+-- the text is a JSON object, and this is what is written for it without its cache, which parses as the same
 abbrev pub IsWrittenFor : List ℕ → List ℕ → Type 0
 IsWrittenFor text written =
     (ms : Members) × (json_in text ≡ Some (object ms)) × (depth (but_cache ms) ≤ max_depth → read written ≡ Some (but_cache ms))

@@ -1,6 +1,6 @@
--- What a server says where it stops, and with which status it ends. This repository's own.
+-- The message of a server at a stop, and its exit status. This repository's own.
 use Rattle.std.specs.Prelude.{ℕ, ℤ, List, ◌++◌, codes, decimal, pos, string_bytes}
-use Rattle.oai_cli.specs.Stops as other
+use Rattle.oai_startup.specs.Stops as other
 use Rattle.oai_item.specs.declared.faults.Fault.{Fault}
 use Rattle.oai_item.specs.declared.faults.Fault.TheVariants.{Damaged as IsDamaged, Device, NoMemory, TooManyPages}
 use Rattle.oai_time.specs.Clock.{tick}
@@ -20,11 +20,11 @@ fault_text TooManyPages = codes "there are too many pages"
 unfoldable pub performing_fails : List ℕ
 performing_fails = codes ": performing it fails: "
 
--- a second as a datestamp: one before 1970 as the first of 1970, and one behind the year 9998 as its last
+-- a second as a datestamp: one before 1970 as the first of 1970, and one after the year 9998 as its last
 abbrev pub jump_text : ℤ → List ℕ
 jump_text second = second_text (tick (pos 0) second)
 
--- what of a repository has to stay as it is, in a word
+-- an aspect of a repository that must not change, in a word
 abbrev pub aspect_word : Aspect → List ℕ
 aspect_word Name = codes "name"
 aspect_word Granularity = codes "granularity"
@@ -49,7 +49,7 @@ stop_text (Jumped second) = codes "clock: jumped to " ++ jump_text second
 stop_text (OtherConfig difference) = config_differs ++ (string_bytes difference.repository ++ (codes ": " ++ aspect_word difference.aspect))
 stop_text NoRepository = codes "dump: no such repository"
 
--- 2 where the arguments or the configuration do not serve, and 1 for all else
+-- 2 if the arguments or the configuration are invalid, and 1 for all else
 abbrev pub status_of : Stop → ℕ
 status_of Usage = 2
 status_of (Common cause) = other.status_of cause

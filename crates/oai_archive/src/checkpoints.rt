@@ -1,21 +1,22 @@
-//! A checkpoint, written on a disk beside an archive's journal, and read back before it takes its place.
+//! Writes a checkpoint on a disk beside an archive's journal, and reads it back before it replaces the journal.
 ghost use Rattle.oai_archive.specs.Readings.{HasBegun, IsReadBack};
+ghost use Rattle.oai_durable.specs.Checkpoints.{HoldsCheckpoint};
 ghost use Rattle.oai_journal.specs.Recovered.{disk_of};
-ghost use Rattle.std.specs.Prelude.{IfOk, IsTrue, OnOk};
+ghost use Rattle.std.specs.Prelude.{◌≡◌, IfOk, IsTrue, OnOk};
 
 use crate::journals::{begin_reading, create_journal, stop_of_journal};
 use crate::recoveries::{Counted, stop_of_recovery};
 use crate::stop::{Aspect, Difference, Stop};
-use oai_cli::Stop as Other;
 use oai_durable::{CheckpointFault, RecoverFault, checkpoint, recover};
 use oai_http::Replayed;
 use oai_item::Fault;
-use oai_journal::Recovery;
+use oai_journal::{FileJournal, Journal, Recovery};
+use oai_startup::Stop as Other;
 use sqlite_disk::Disk;
 use std::alloc::Global;
 
-/// Writes what the handler keeps as a checkpoint on the disk, which is empty, at the moment, with the configuration in the text, and the
-/// number of each next list raised by so many.
+/// Writes the handler's state as a checkpoint on the disk, which is empty, at the moment, with the configuration in the
+/// text, and the number of each next list raised by that much. The journal that is returned holds its records.
 pub fn write_checkpoint<H: Replayed, D: Disk + Drop>(
     alloc: Global,
     disk: D,
@@ -23,10 +24,20 @@ pub fn write_checkpoint<H: Replayed, D: Disk + Drop>(
     text: &[u8],
     handler: &mut H,
     raise: u32,
-) -> Result<(), Stop> {
+) -> Result<FileJournal<D>, Stop>
+    ensures saved { IfOk result (λ written. IsTrue (H.is_honest handler.old)
+        → HoldsCheckpoint (record {
+          leaving = record { redone = H.redone; restored = H.restored };
+          reply = H.reply;
+          parts = H.parts;
+          ended = H.ended;
+          emptied = H.emptied;
+        }) ⟦<FileJournal<D> as Journal>⟧ (H.kept handler.old) raise written) }
+    ensures same { H.kept handler.new ≡ H.kept handler.old }
+{
     let journal = create_journal(alloc, disk, moment, text)?;
     match checkpoint(handler, raise, journal) {
-        Ok(_) => Ok(()),
+        Ok(written) => Ok(written),
         Err(CheckpointFault::Reading(Fault::NoMemory)) => Err(Stop::Common(Other::NoMemory)),
         Err(CheckpointFault::Reading(_)) => Err(Stop::Common(Other::DeviceFault)),
         Err(CheckpointFault::Numbers) => Err(Stop::CannotWrite),
@@ -34,8 +45,8 @@ pub fn write_checkpoint<H: Replayed, D: Disk + Drop>(
     }
 }
 
-/// The checkpoint on the disk, which was read to its end, as a start does, by a handler that keeps its parts. Where the handler does not keep
-/// one of them, the error is the name of its repository.
+/// The checkpoint on the disk, read to its end, as a startup does, by a handler that restores its parts. If the handler
+/// rejects a part, the error has the name of its repository.
 pub fn read_checkpoint<H: Replayed + Drop, D: Disk + Drop>(
     alloc: Global,
     disk: D,
@@ -49,7 +60,7 @@ pub fn read_checkpoint<H: Replayed + Drop, D: Disk + Drop>(
     Ok(recovery)
 }
 
-/// Restores the parts of a checkpoint, of which the first record was read.
+/// Restores the parts of a checkpoint whose first record was read.
 fn restore_all<H: Replayed, D: Disk + Drop>(
     alloc: Global,
     handler: &mut H,
@@ -66,7 +77,7 @@ fn restore_all<H: Replayed, D: Disk + Drop>(
     }
 }
 
-/// That the configuration does not allow the part that was read last.
+/// The error that the configuration does not allow the part that was read last.
 fn unfit<D: Disk + Drop>(alloc: Global, recovery: &Recovery<D>) -> Stop {
     let Some(part) = recovery.record() else {
         return Stop::NotOurs;

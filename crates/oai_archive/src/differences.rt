@@ -1,13 +1,13 @@
-//! What two configurations of one archive have to have in common.
+//! What two configurations of one archive must have in common.
 use crate::stop::{Aspect, Difference, Stop};
-use oai_cli::config_in;
 use oai_config::NamedConfig;
 use oai_settings::RepoConfig;
+use oai_startup::config_in;
 use std::alloc::Global;
 
-/// Whether an archive of the one configuration may go on with the other, as far as the two texts show it: it has a repository of the name of
-/// each of the journal's, with its granularity, earliestDatestamp and deletedRecord. The error is the first difference in the order of the
-/// journal's repositories; or out of memory.
+/// Whether an archive with the one configuration may continue with the other, as far as the two texts show it: it has a
+/// repository with the name of each of the journal's, with its granularity, earliestDatestamp and deletedRecord. The
+/// error is the first difference in the order of the journal's repositories; or out of memory.
 pub fn check_differences(alloc: Global, before: &[u8], text: &[u8]) -> Result<(), Stop> {
     let old = config_in(alloc, before)?.into_repositories();
     let new = config_in(alloc, text)?.into_repositories();
@@ -22,7 +22,7 @@ pub fn check_differences(alloc: Global, before: &[u8], text: &[u8]) -> Result<()
     Ok(())
 }
 
-/// What of the repository does not serve among the others: the first of its aspects.
+/// The first aspect in which the repository has no match among the others.
 fn difference(repository: &NamedConfig, others: &[NamedConfig]) -> Option<Aspect> {
     let name = repository.name.as_str();
     match others.iter().find(|other| other.name.as_str() == name) {

@@ -1,8 +1,7 @@
-//! What a repository of an archive holds, as deposit lines.
+//! Writes what a repository of an archive holds, as deposit lines.
 use crate::journals::{begin_reading, config_text, stop_of_reading};
 use crate::recoveries::{Counted, stop_of_recovery};
 use crate::stop::Stop;
-use oai_cli::{Stop as Other, config_in, host_on};
 use oai_device::MemoryDevice;
 use oai_dump::{deletion_line, deposit_line, set_line};
 use oai_durable::{RecoverFault, recover};
@@ -10,38 +9,50 @@ use oai_http::{Part, PartKind, Replayed, SaveFault, Sink, SinkFault};
 use oai_item::{DecodeFault, Fault, Item};
 use oai_journal::{Recovery, RecoveryFault};
 use oai_names::SetSpec;
+use oai_startup::{Stop as Other, config_in, host_on};
 use sqlite_disk::Disk;
 use std::alloc::Global;
 use std::io::Write;
 
-/// Writes the sets and the items of the repository of that name as deposit lines, in an order in which they can be deposited: the sets in
-/// the order in which they were added, and the items in their order, a deleted one as its deposit and its deletion. The journal on the disk
-/// is performed again with its pages in memory, and not written to. A server may write to it meanwhile, as `verify_journal` says. The errors
-/// are those of `verify_journal`, `Performing`, and `NoRepository`, before which nothing is written.
+/// Writes the sets and the items of the repository with that name as deposit lines, in an order in which they can be
+/// deposited: the sets in the order in which they were added, and the items in their order, a deleted one as its
+/// deposit and its deletion. The journal on the disk is replayed with its pages in memory, and not written to. A server
+/// may write to it meanwhile, as `verify_journal` says. The errors are those of `verify_journal`, `Performing`, and
+/// `NoRepository`, after which nothing was written.
 pub fn dump_repository<D: Disk + Drop, W: Write>(
     alloc: Global,
     disk: D,
     name: &str,
     writer: &mut W,
 ) -> Result<(), Stop> {
-    let mut recovery = begin_reading(alloc, disk)?;
+    let recovery = begin_reading(alloc, disk)?;
     let text = config_text(alloc, &recovery)?;
     check_name(alloc, &text, name)?;
-    let mut host = host_on(alloc, config_in(alloc, &text)?, MemoryDevice::new(alloc))?;
-    perform_all(&mut host, &mut recovery)?;
-    drop(recovery);
+    let host = host_on(alloc, config_in(alloc, &text)?, MemoryDevice::new(alloc))?;
+    dump_replayed(alloc, host, recovery, name, writer)
+}
+
+/// Replays the records of the journal by the handler, and writes what its repository of that name holds.
+fn dump_replayed<H: Replayed + Drop, D: Disk + Drop, W: Write>(
+    alloc: Global,
+    mut handler: H,
+    mut recovery: Recovery<D>,
+    name: &str,
+    writer: &mut W,
+) -> Result<(), Stop> {
+    perform_all(&mut handler, &mut recovery)?;
     let mut lines = Lines {
         alloc,
         name: name.as_bytes(),
         writer,
         stop: None,
     };
-    let saved = host.save(0, &mut lines);
+    let saved = handler.save(0, &mut lines);
     finish(saved, lines)
 }
 
-/// Performs all records again. What looks like damage is read once more, and is damage where it is found at the same byte; else the journal
-/// ends where it is found then.
+/// Replays all records. What looks like damage is read once more, and is damage if it is found at the same byte;
+/// otherwise the journal ends where it is found then.
 fn perform_all<H: Replayed, D: Disk + Drop>(
     handler: &mut H,
     recovery: &mut Recovery<D>,
@@ -63,7 +74,7 @@ fn perform_all<H: Replayed, D: Disk + Drop>(
     }
 }
 
-/// Reads the journal once more, up to the gate at that byte.
+/// Reads the journal once more, up to the commit byte at that position.
 fn read_again<D: Disk + Drop>(recovery: &mut Recovery<D>, at: usize) -> Result<(), Stop> {
     match recovery.begin() {
         Ok(()) => {}
@@ -82,7 +93,8 @@ fn read_again<D: Disk + Drop>(recovery: &mut Recovery<D>, at: usize) -> Result<(
     Err(Stop::Common(Other::InputFault))
 }
 
-/// Whether the configuration in the text has a repository of that name. The error is `NoRepository`, or out of memory.
+/// Whether the configuration in the text has a repository with that name. The error is `NoRepository`, or out of
+/// memory.
 fn check_name(alloc: Global, text: &[u8], name: &str) -> Result<(), Stop> {
     let repositories = config_in(alloc, text)?.into_repositories();
     if repositories
@@ -95,7 +107,7 @@ fn check_name(alloc: Global, text: &[u8], name: &str) -> Result<(), Stop> {
     Err(Stop::NoRepository)
 }
 
-/// Ends the lines, once all parts were saved, or were not.
+/// Finishes the lines, whether or not all parts were saved.
 fn finish<W: Write>(saved: Result<(), SaveFault>, lines: Lines<'_, W>) -> Result<(), Stop> {
     match saved {
         Ok(()) => {}
@@ -116,7 +128,7 @@ fn stop_of_fault(fault: Fault) -> Stop {
     }
 }
 
-/// What writes the parts of one repository as deposit lines.
+/// A sink that writes the parts of one repository as deposit lines.
 #[derive(Drop)]
 struct Lines<'a, W> {
     alloc: Global,
@@ -156,7 +168,7 @@ impl<W: Write> Lines<'_, W> {
         }
     }
 
-    /// Writes the line of a set, by its setSpec, a space, and its name.
+    /// Writes the line of a set, from its setSpec, a space, and its name.
     fn write_set(&mut self, bytes: &[u8]) -> Result<(), Stop> {
         let Ok(text) = str::from_utf8(bytes) else {
             return Err(Stop::NotOurs);
@@ -171,7 +183,7 @@ impl<W: Write> Lines<'_, W> {
         self.write_line(&line)
     }
 
-    /// Writes the lines of an item, by its spelling: its deposit, and of a deleted one its deletion.
+    /// Writes the lines of an encoded item: its deposit, and for a deleted one its deletion.
     fn write_item(&mut self, bytes: &[u8]) -> Result<(), Stop> {
         let item = match Item::decode(self.alloc, bytes) {
             Ok(item) => item,
@@ -187,7 +199,7 @@ impl<W: Write> Lines<'_, W> {
         self.write_line(&line)
     }
 
-    /// Writes a line and its end.
+    /// Writes a line and a line end.
     fn write_line(&mut self, line: &str) -> Result<(), Stop> {
         match writeln!(self.writer, "{line}") {
             Ok(()) => Ok(()),

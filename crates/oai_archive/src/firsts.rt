@@ -3,19 +3,19 @@ ghost use Rattle.std.specs.Prelude.{◌≡◌, IfOk, IfSome, IsTrue, OnOk, strin
 ghost use Rattle.oai_archive.specs.Firsts.{IsOf, IsSameConfig, IsWrittenFor, first_body, program};
 
 use crate::stop::Stop;
-use oai_cli::read_number;
 use oai_deposit::read_json;
 use oai_journal::Record;
+use oai_startup::read_number;
 use serde_json::{Value, put};
 use std::alloc::{AllocError, Global};
 
 /// The name in the first record.
 pub(crate) const PROGRAM: &[u8] = b"oaihostd";
 
-/// The version in the first record, and the line end behind it.
+/// The version in the first record, and the line end after it.
 const FRONT: &[u8] = b"1\n";
 
-/// The version of what this program reads and writes.
+/// The version that this program reads and writes.
 const VERSION: u64 = 1;
 
 /// The body of the first record: the version, a line end, and the configuration. The error is out of memory.
@@ -28,8 +28,8 @@ pub(crate) fn write_first(alloc: Global, text: &[u8]) -> Result<Vec<u8>, AllocEr
     Ok(body)
 }
 
-/// Whether the first record is of the configuration in the text, but for how many pages the cache has. The errors are `NotOurs` and
-/// `OfVersion`, where the record is none of this program, or of another version of it, and `NoMemory`.
+/// Whether the first record has the configuration in the text, ignoring the size of the cache. The errors are `NotOurs`
+/// and `OfVersion`, if the record is not this program's, or of another version of it, and `NoMemory`.
 pub(crate) fn is_of(alloc: Global, first: &Record<'_>, text: &[u8]) -> Result<bool, Stop>
     ensures { IfOk result (λ same. IsTrue same → IsOf first.now.name.now first.now.body.now text.now) }
 {
@@ -39,7 +39,7 @@ pub(crate) fn is_of(alloc: Global, first: &Record<'_>, text: &[u8]) -> Result<bo
     }
 }
 
-/// Whether two configurations are the same but for how many pages the cache has. The error is out of memory.
+/// Whether two configurations are the same, ignoring the size of the cache. The error is out of memory.
 #[tactic(auto, using(crate::proofs::FirstLemmas::same_written))]
 fn is_same(alloc: Global, config: &[u8], text: &[u8]) -> Result<bool, AllocError>
     ensures { IfOk result (λ same. IsTrue same → IsSameConfig config.now text.now) }
@@ -53,7 +53,8 @@ fn is_same(alloc: Global, config: &[u8], text: &[u8]) -> Result<bool, AllocError
     }
 }
 
-/// The configuration as compact JSON, with null as its member `cache`; `None` where it is no object. The error is out of memory.
+/// The configuration as compact JSON, with null as its member `cache`; `None` if it is no object. The error is out of
+/// memory.
 fn without_cache(alloc: Global, config: &[u8]) -> Result<Option<String>, AllocError>
     ensures { IfOk result (λ found. IfSome found (λ written. IsWrittenFor config.now (string_bytes written))) }
 {
@@ -66,8 +67,8 @@ fn without_cache(alloc: Global, config: &[u8]) -> Result<Option<String>, AllocEr
     }
 }
 
-/// The configuration in the first record. The errors are `NotOurs` and `OfVersion`, where the record is none of this program, or of
-/// another version of it.
+/// The configuration in the first record. The errors are `NotOurs` and `OfVersion`, if the record is not this
+/// program's, or of another version of it.
 pub(crate) fn config_of<'a>(first: &Record<'a>) -> Result<&'a [u8], Stop>
     ensures name { OnOk result (first.now.name.now ≡ program) }
     ensures body { IfOk result (λ config. first.now.body.now ≡ first_body config.now) }
@@ -81,7 +82,7 @@ pub(crate) fn config_of<'a>(first: &Record<'a>) -> Result<&'a [u8], Stop>
     }
 }
 
-/// Why a journal is not read whose first record has that body.
+/// Why a journal whose first record has that body is not read.
 fn stop_of_version(body: &[u8]) -> Stop {
     match version_in(body) {
         Some(version) if version != VERSION => Stop::OfVersion(version),

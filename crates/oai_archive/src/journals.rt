@@ -1,12 +1,15 @@
-//! The journal of an archive, begun, and read as far as its first record.
-ghost use Rattle.oai_archive.specs.Readings.{HasBegun, IsReadBack};
-ghost use Rattle.oai_journal.specs.Recovered.{disk_of};
-ghost use Rattle.std.specs.Prelude.{IfOk, IsTrue};
+//! The journal of an archive: begun, and read up to its first record.
+ghost use Rattle.oai_archive.specs.Readings.{HasBegun, IsReadBack, IsVerified};
+ghost use Rattle.oai_archive.specs.Firsts.{IsOf, first_body, program};
+ghost use Rattle.oai_journal.specs.Kept.{HoldsFirst};
+ghost use Rattle.oai_journal.specs.Records.{Entry};
+ghost use Rattle.oai_journal.specs.Recovered.{current, disk_of};
+ghost use Rattle.std.specs.Prelude.{◌≡◌, IfOk, IsTrue, Some};
 
 use crate::firsts::{PROGRAM, config_of, is_of, write_first};
 use crate::stop::Stop;
-use oai_cli::Stop as Other;
 use oai_journal::{FileJournal, JournalFault, Kind, Record, Recovery, RecoveryFault};
+use oai_startup::Stop as Other;
 use sqlite_disk::Disk;
 use std::alloc::Global;
 
@@ -16,7 +19,10 @@ pub fn create_journal<D: Disk + Drop>(
     disk: D,
     moment: i64,
     text: &[u8],
-) -> Result<FileJournal<D>, Stop> {
+) -> Result<FileJournal<D>, Stop>
+    ensures { IfOk result (λ journal. (first : Entry) × HoldsFirst D.Disk.seen D.Disk.may_leave journal first
+        × (first.name ≡ program) × (first.body ≡ first_body text.now)) }
+{
     let body = write_first(alloc, text)?;
     let first = Record {
         moment,
@@ -33,7 +39,7 @@ pub fn create_journal<D: Disk + Drop>(
     }
 }
 
-/// The journal on the disk, of which the first record is read. The errors are `Damaged`, `InputFault` and `NoMemory`.
+/// The journal on the disk, whose first record is read. The errors are `Damaged`, `InputFault` and `NoMemory`.
 pub fn begin_reading<D: Disk + Drop>(alloc: Global, disk: D) -> Result<Recovery<D>, Stop>
     ensures begun { IfOk result (λ recovery. IsTrue (D.Disk.is_clean (disk_of recovery))
         → HasBegun D.Disk.seen D.Disk.may_leave recovery) }
@@ -45,11 +51,13 @@ pub fn begin_reading<D: Disk + Drop>(alloc: Global, disk: D) -> Result<Recovery<
     }
 }
 
-/// The journal on the disk, which has no record behind its first one, and was read to its end. The errors are those of `begin_reading`, and
-/// `CannotWrite` where it has one.
+/// The journal on the disk, which has no record after its first one, and was read to its end. The errors are those of
+/// `begin_reading`, and `CannotWrite` if it has one.
 pub fn read_begun<D: Disk + Drop>(alloc: Global, disk: D) -> Result<Recovery<D>, Stop>
     ensures whole { IfOk result (λ begun. IsTrue (D.Disk.is_clean (disk_of begun))
         → IsReadBack D.Disk.seen D.Disk.may_leave begun) }
+    ensures none { IfOk result (λ begun. IsTrue (D.Disk.is_clean (disk_of begun))
+        → IsVerified D.Disk.seen begun 0) }
 {
     let mut recovery = begin_reading(alloc, disk)?;
     match recovery.advance() {
@@ -59,21 +67,28 @@ pub fn read_begun<D: Disk + Drop>(alloc: Global, disk: D) -> Result<Recovery<D>,
     }
 }
 
-/// Whether the first record, which was read, is of the configuration in the text, but for how many pages the cache has. The errors are
-/// `NotOurs`, `OfVersion` and `NoMemory`.
+/// Whether the first record, which was read, has the configuration in the text, ignoring the size of the cache. The
+/// errors are `NotOurs`, `OfVersion` and `NoMemory`.
 pub fn has_config<D: Disk + Drop>(
     alloc: Global,
     recovery: &Recovery<D>,
     text: &[u8],
-) -> Result<bool, Stop> {
+) -> Result<bool, Stop>
+    ensures { IfOk result (λ same. IsTrue same → (first : Entry) → current recovery.now ≡ Some first
+        → IsOf first.name first.body text.now) }
+{
     match recovery.record() {
         Some(first) => is_of(alloc, &first, text),
         None => Err(Stop::NotOurs),
     }
 }
 
-/// A copy of the configuration in the first record, which was read. The errors are `NotOurs`, `OfVersion` and `NoMemory`.
-pub fn config_text<D: Disk + Drop>(alloc: Global, recovery: &Recovery<D>) -> Result<Vec<u8>, Stop> {
+/// A copy of the configuration in the first record, which was read. The errors are `NotOurs`, `OfVersion` and
+/// `NoMemory`.
+pub fn config_text<D: Disk + Drop>(alloc: Global, recovery: &Recovery<D>) -> Result<Vec<u8>, Stop>
+    ensures { IfOk result (λ text. (first : Entry) → current recovery.now ≡ Some first
+        → IsOf first.name first.body text.items) }
+{
     let Some(first) = recovery.record() else {
         return Err(Stop::NotOurs);
     };
@@ -82,7 +97,7 @@ pub fn config_text<D: Disk + Drop>(alloc: Global, recovery: &Recovery<D>) -> Res
     Ok(text)
 }
 
-/// Why the program stops, where the journal could not be written.
+/// Why the program stops if the journal could not be written.
 pub(crate) fn stop_of_journal(fault: JournalFault) -> Stop {
     match fault {
         JournalFault::NoRoom => Stop::Common(Other::NoMemory),
@@ -90,7 +105,7 @@ pub(crate) fn stop_of_journal(fault: JournalFault) -> Stop {
     }
 }
 
-/// Why the program stops, where the journal cannot be read on.
+/// Why the program stops if the journal cannot be read on.
 pub(crate) fn stop_of_reading(fault: RecoveryFault) -> Stop {
     match fault {
         RecoveryFault::Damaged(at) => Stop::Damaged(at),

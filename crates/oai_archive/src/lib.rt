@@ -1,5 +1,5 @@
-//! An archive as its journal on a disk, which nobody serves: its first record, what it holds, and its checkpoints; and why a program stops
-//! that works on it.
+//! An archive that nobody serves, as its journal on a disk: its first record, what it holds, and its checkpoints; and
+//! why a program that works on it stops.
 #![tactic(auto)]
 
 mod checkpoints;

@@ -4,15 +4,15 @@ use std::fs::File;
 use std::io::{self, ErrorKind};
 use std::os::unix::fs::FileExt;
 
-/// A file that is read, as a disk. It takes no lock, and no clause speaks of what it holds: another program may write to it. A sync of
-/// it does nothing, and a write fails.
+/// A file that is read, as a disk. It takes no lock, and no clause speaks of what it holds: another program may write
+/// to it. A sync of it does nothing, and a write fails.
 #[derive(Drop)]
 pub struct ReadFile {
     file: File,
 }
 
 impl ReadFile {
-    /// The file, which is open to be read.
+    /// The file, which is open for reading.
     pub fn new(file: File) -> ReadFile {
         ReadFile { file }
     }

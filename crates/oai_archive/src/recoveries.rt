@@ -1,9 +1,9 @@
-//! What an archive's journal has, performed again, without a report of its progress.
+//! Replays an archive's journal, without a report of its progress.
 use crate::journals::stop_of_reading;
 use crate::stop::Stop;
 use oai_durable::{Progress, RecoverFault};
 
-/// A progress that is not reported: so many records were performed.
+/// A progress that is not reported, with the number of records that were replayed.
 #[derive(Drop)]
 pub(crate) struct Counted {
     pub(crate) records: u64,
@@ -15,7 +15,7 @@ impl Progress for Counted {
     }
 }
 
-/// Why the program stops, where the recovery failed.
+/// Why the program stops if the recovery failed.
 pub fn stop_of_recovery(fault: RecoverFault) -> Stop {
     match fault {
         RecoverFault::Journal(fault) => stop_of_reading(fault),

@@ -1,11 +1,11 @@
-//! Why a program stops, what it says then, and its exit status.
+//! Why a program stops, its message, and its exit status.
 ghost use Rattle.std.specs.Prelude.{◌≡◌};
 ghost use Rattle.oai_archive.specs.Stops as spec;
 ghost use Rattle.oai_archive.specs.declared.stop.Stop.TheVariants as stop;
-ghost use Rattle.oai_cli.specs.declared.stop.Stop.TheVariants as other;
+ghost use Rattle.oai_startup.specs.declared.stop.Stop.TheVariants as other;
 
-use oai_cli::Stop as Other;
 use oai_item::Fault;
+use oai_startup::Stop as Other;
 use oai_time::{Clock, write_second};
 use std::alloc::AllocError;
 use std::error::Error;
@@ -14,45 +14,45 @@ use std::fmt;
 /// Why the server stopped.
 #[derive(Debug, PartialEq, Eq, Drop)]
 pub enum Stop {
-    /// It was called with other arguments than it takes.
+    /// The arguments are invalid.
     Usage,
-    /// For a cause that stops `oaihost` too.
+    /// A cause that stops `oaihost` too.
     Common(Other),
-    /// The folder, or a file in it, could not be opened or made.
+    /// The folder, or a file in it, could not be opened or created.
     CannotOpen,
-    /// Another process has the folder.
+    /// Another process uses the folder.
     InUse,
-    /// The first record of the journal is none of this program.
+    /// The first record of the journal is not this program's.
     NotOurs,
-    /// The journal is of that version, which this program does not read.
+    /// The journal has that version, which this program does not read.
     OfVersion(u64),
     /// The journal is damaged at that byte.
     Damaged(usize),
-    /// To perform the record of that number again, counted from 1 behind the first one, failed.
+    /// The replay of the record with that number failed, counted from 1 after the first one.
     Performing(u64, Fault),
     /// The journal could not be written or synced.
     CannotWrite,
     /// The system's clock jumped to that second, from 1970 on.
     Jumped(i64),
-    /// The configuration is another one than the journal's, and the archive cannot go on with it.
+    /// The configuration is not the journal's, and the archive cannot continue with it.
     OtherConfig(Difference),
-    /// The archive has no repository of the name.
+    /// The archive has no repository with the name.
     NoRepository,
 }
 
-/// Why an archive cannot go on with another configuration.
+/// Why an archive cannot continue with another configuration.
 #[derive(Debug, PartialEq, Eq, Drop)]
 pub struct Difference {
     /// The name of a repository of the journal.
     pub repository: String,
-    /// What of it is the first that does not serve.
+    /// The first aspect of it that does not match.
     pub aspect: Aspect,
 }
 
-/// What of a repository has to stay as it is in another configuration.
+/// An aspect of a repository that must not change in another configuration.
 #[derive(Clone, Copy, Debug, PartialEq, Eq)]
 pub enum Aspect {
-    /// That there is one of its name.
+    /// That there is one with its name.
     Name,
     /// Its granularity.
     Granularity,
@@ -80,7 +80,7 @@ impl Aspect {
 }
 
 impl Stop {
-    /// The program's exit status: 2 where the arguments are wrong, or the configuration cannot be read, has a fault, or
+    /// The program's exit status: 2 if the arguments are invalid, or the configuration cannot be read, has a fault, or
     /// is not the journal's, and 1 for each other cause.
     pub fn status(&self) -> u8
         ensures { result ≡ spec.status_of self.now }
@@ -118,7 +118,7 @@ impl From<AllocError> for Stop {
     }
 }
 
-/// What the program says of it on standard error.
+/// The program's message on standard error.
 impl fmt::Display for Stop {
     ghost use Rattle.std.specs.Prelude.{Some};
     ghost use Rattle.oai_archive.specs.Stops.{stop_text};
@@ -155,7 +155,7 @@ impl fmt::Display for Stop {
 
 impl Error for Stop {}
 
-/// What stands before the name of a repository that differs.
+/// The words before the name of a repository that differs.
 #[tactic(auto, unfolding(crate::specs::Stops::config_differs))]
 fn config_differs() -> &'static str
     ensures { result.now ≡ spec.config_differs }
@@ -163,7 +163,7 @@ fn config_differs() -> &'static str
     "config: differs from the journal: repository "
 }
 
-/// What stands between the number of a record and the fault that ended it.
+/// The words between the number of a record and the fault that ended its replay.
 #[tactic(auto, unfolding(crate::specs::Stops::performing_fails))]
 fn performing_fails() -> &'static str
     ensures { result.now ≡ spec.performing_fails }
@@ -183,8 +183,8 @@ pub fn fault_word(fault: Fault) -> &'static str
     }
 }
 
-/// A second from 1970 on, shown as its datestamp; one before 1970 as its first, and one behind the year 9998 as the last of
-/// that year.
+/// A second from 1970 on, shown as its datestamp; one before 1970 as 1970's first second, and one after the year 9998
+/// as the last of that year.
 #[derive(Drop)]
 pub struct Second(pub i64);
 

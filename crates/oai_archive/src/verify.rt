@@ -1,4 +1,4 @@
-//! A journal that is read and not performed.
+//! Reads a journal without replaying it.
 ghost use Rattle.oai_archive.specs.Readings.{HasBegun, IsVerified};
 ghost use Rattle.oai_journal.specs.Changes.{IsUndamaged};
 ghost use Rattle.oai_journal.specs.Records.{Entry};
@@ -8,16 +8,16 @@ ghost use Rattle.std.specs.Prelude.{◌≡◌, ◌++◌, ◌∷◌, [], List, So
 use crate::firsts::config_of;
 use crate::journals::stop_of_reading;
 use crate::stop::Stop;
-use oai_cli::Stop as Other;
 use oai_journal::Recovery;
+use oai_startup::Stop as Other;
 use sqlite_disk::Disk;
 use std::alloc::Global;
 use std::io::Write;
 
-/// Reads the journal on the disk, from its first byte to the gate that ends it, and performs nothing. Writes `ok`, how many records stand
-/// behind the first one, and how many bytes before that gate, as a line. A server may write to the journal meanwhile: what looks like
-/// damage is read once more, and is damage where it is found at the same byte. The errors are `Damaged`, `NotOurs`, `OfVersion`,
-/// `InputFault`, `OutputFault` and `NoMemory`.
+/// Reads the journal on the disk, from its first byte to the commit byte that ends it, and replays nothing. Writes
+/// `ok`, the number of records after the first one, and the number of bytes before that commit byte, as a line. A
+/// server may write to the journal meanwhile: what looks like damage is read once more, and is damage if it is found at
+/// the same byte. The errors are `Damaged`, `NotOurs`, `OfVersion`, `InputFault`, `OutputFault` and `NoMemory`.
 pub fn verify_journal<D: Disk + Drop, W: Write>(
     alloc: Global,
     disk: D,
@@ -39,7 +39,7 @@ pub fn verify_journal<D: Disk + Drop, W: Write>(
     write_verified(records, recovery.position(), writer)
 }
 
-/// Reads the whole journal; how many records stand behind the first one, as far as it is read, is then in `records`.
+/// Reads the whole journal; `records` is then the number of records read after the first one.
 fn read_all<D: Disk + Drop>(recovery: &mut Recovery<D>, records: &mut u64) -> Result<(), Stop>
     ensures whole { OnOk result (IsTrue (D.Disk.is_clean (disk_of recovery.new))
         → IsVerified D.Disk.seen recovery.new records.new) }
@@ -53,7 +53,7 @@ fn read_all<D: Disk + Drop>(recovery: &mut Recovery<D>, records: &mut u64) -> Re
     read_rest(recovery, records)
 }
 
-/// Reads the records behind the first one; how many they are, as far as they are read, is then in `records`.
+/// Reads the records after the first one; `records` is then how many were read.
 fn read_rest<D: Disk + Drop>(recovery: &mut Recovery<D>, records: &mut u64) -> Result<(), Stop>
     ensures whole { OnOk result (IsTrue (D.Disk.is_clean (disk_of recovery.new))
         → HasBegun D.Disk.seen D.Disk.may_leave recovery.old → IsVerified D.Disk.seen recovery.new records.new) }
@@ -68,7 +68,7 @@ fn read_rest<D: Disk + Drop>(recovery: &mut Recovery<D>, records: &mut u64) -> R
     Err(Stop::Common(Other::InputFault))
 }
 
-/// Reads the next record; false where there is none.
+/// Reads the next record; returns false if there is none.
 fn read_next<D: Disk + Drop>(recovery: &mut Recovery<D>) -> Result<bool, Stop>
     ensures next { IfOk result (λ more. IsTrue (D.Disk.is_clean (disk_of recovery.new))
         → (first : Entry) (entries : List Entry)
@@ -88,7 +88,7 @@ fn read_next<D: Disk + Drop>(recovery: &mut Recovery<D>) -> Result<bool, Stop>
     }
 }
 
-/// Whether the first record, which was read, is of this program.
+/// Whether the first record, which was read, is this program's.
 fn check_program<D: Disk + Drop>(recovery: &Recovery<D>) -> Result<(), Stop> {
     match recovery.record() {
         Some(first) => match config_of(&first) {
@@ -99,7 +99,7 @@ fn check_program<D: Disk + Drop>(recovery: &Recovery<D>) -> Result<(), Stop> {
     }
 }
 
-/// Writes the line for a journal of so many records and bytes.
+/// Writes the line for a journal of that many records and bytes.
 fn write_verified<W: Write>(records: u64, bytes: usize, writer: &mut W) -> Result<(), Stop> {
     if writeln!(writer, "ok {records} {bytes}").is_err() {
         return Err(Stop::Common(Other::OutputFault));

@@ -22,15 +22,15 @@ key_of key.Until = codes "until"
 key_of key.Set = codes "set"
 key_of key.ResumptionToken = codes "resumptionToken"
 
--- the keys that there are
+-- the keys
 abbrev pub known_keys : List (List ℕ)
 known_keys =
     codes "verb" ∷ key_of key.Identifier ∷ key_of key.MetadataPrefix ∷ key_of key.From
     ∷ key_of key.Until ∷ key_of key.Set ∷ key_of key.ResumptionToken ∷ []
 
--- ---- the table: what each argument is to each verb
+-- ---- the table: the role of each argument for each verb
 
--- to ListIdentifiers and ListRecords (sections 4.3 and 4.5)
+-- for ListIdentifiers and ListRecords (sections 4.3 and 4.5)
 abbrev pub role_in_list : Key → Role
 role_in_list key.Identifier = Absent
 role_in_list key.MetadataPrefix = Required
@@ -39,7 +39,7 @@ role_in_list key.Until = Optional
 role_in_list key.Set = Optional
 role_in_list key.ResumptionToken = Exclusive
 
--- to each verb (sections 4.1 to 4.6)
+-- for each verb (sections 4.1 to 4.6)
 abbrev pub role_of : Verb → Key → Role
 role_of ListMetadataFormats key.Identifier = Optional
 role_of ListSets key.ResumptionToken = Exclusive
@@ -57,7 +57,7 @@ given_of [] = Never
 given_of (value ∷ []) = Once value
 given_of (value ∷ other ∷ values) = Often
 
--- how often the pairs give the key, and its value where they give it once
+-- how often the pairs give the key, and its value if they give it once
 unfoldable pub given : List ℕ → List Pair → Given
 given key pairs = given_of (values_of key pairs)
 
@@ -78,8 +78,8 @@ abbrev pub is_often : Given → Bool
 is_often Often = true
 is_often _ = false
 
--- an argument of that role is given as often as it is to be: in a first request the required ones once, the optional ones at
--- most once and no others; in a request for the next part of a list the exclusive one once and no others
+-- an argument with that role is given as often as required: in a first request the required ones once, the optional
+-- ones at most once and no others; in a request for the next part of a list the exclusive one once and no others
 abbrev pub suits : Part → Role → Given → Bool
 suits First Required given = is_once given
 suits First Optional given = not (is_often given)

@@ -1,4 +1,4 @@
--- Which requests the arguments make: conditions on the whole list of pairs. OAI-PMH 2.0, sections 2.7.1, 3.1.1, 3.6
+-- The requests that arguments make: conditions on the whole list of pairs. OAI-PMH 2.0, sections 2.7.1, 3.1.1, 3.6
 -- (badVerb, badArgument) and 4.
 use Rattle.std.specs.Prelude.{◌≡◌, ℕ, true, List, codes, Option, Some, None}
 use Rattle.oai_names.specs.Names.{is_prefix}
@@ -28,8 +28,9 @@ pub data AskOrError : Type 0 where
 abbrev pub NamesVerb : List Pair → Verb → Type 0
 NamesVerb pairs verb = given (codes "verb") pairs ≡ Once (name_of verb)
 
--- the pairs are those of a first request of the verb, or of one for the next part of its list: `verb` is given once, with the
--- verb's name; every key is known; each argument is given as often as its role wants; every value is a text of XML characters
+-- the pairs are those of a first request of the verb, or of one for the next part of its list: `verb` is given once,
+-- with the verb's name; every key is known; each argument is given as often as its role requires; every value is a text
+-- of XML characters
 pub record IsOf (part : Part) (verb : Verb) (pairs : List Pair) : Type 0 where
   pub named : NamesVerb pairs verb
   pub known : has_only_keys known_keys pairs ≡ true
@@ -45,19 +46,19 @@ abbrev pub at_most_once : Option (List ℕ) → Given
 at_most_once None = Never
 at_most_once (Some value) = Once value
 
--- the argument is given once, with this value, or it is not given
+-- the argument is given once, with this value, or is absent
 abbrev pub IsGivenAtMostOnce : Key → List Pair → Option (List ℕ) → Type 0
 IsGivenAtMostOnce key pairs value = given (key_of key) pairs ≡ at_most_once value
 
--- GetRecord (section 4.1): identifier is any text, and metadataPrefix is of its syntax
+-- GetRecord (section 4.1): identifier is any text, and metadataPrefix has its syntax
 pub record IsGetRecord (pairs : List Pair) (identifier prefix : List ℕ) : Type 0 where
   pub asked : IsOf First GetRecord pairs
   pub identified : IsGiven Identifier pairs identifier
   pub formatted : IsGiven MetadataPrefix pairs prefix
   pub syntax : is_prefix prefix ≡ true
 
--- ListIdentifiers or ListRecords (sections 4.3 and 4.5): metadataPrefix, from, until and set are of their syntax. Of ListSets this is
--- never true: it has no metadataPrefix
+-- ListIdentifiers or ListRecords (sections 4.3 and 4.5): metadataPrefix, from, until and set have their syntax. Of
+-- ListSets this is never true: it has no metadataPrefix
 pub record IsList (granularity : Granularity) (verb : Verb) (pairs : List Pair)
     (prefix : List ℕ) (from until set : Option (List ℕ)) : Type 0 where
   pub asked : IsOf First verb pairs
@@ -69,7 +70,7 @@ pub record IsList (granularity : Granularity) (verb : Verb) (pairs : List Pair)
   pub set_syntax : is_none_or_set_spec set ≡ true
   pub bounds : are_bounds granularity from until ≡ true
 
--- the pairs make this request in a repository of the granularity: a case for each form. The identifier of
+-- the pairs make this request in a repository with the granularity: a case for each form. The identifier of
 -- ListMetadataFormats (section 4.4) and the resumptionToken of a list (section 3.5) are any texts
 abbrev pub IsAsk : Granularity → List Pair → Ask → Type 0
 IsAsk granularity pairs ask.Identify = IsOf First Identify pairs

@@ -32,7 +32,7 @@ values_of key pairs =
 unfoldable pub has_only_keys : List (List ℕ) → List Pair → Bool
 has_only_keys keys pairs = list_all (λ (pair : Pair). is_among keys pair.0) pairs
 
--- every value is a text of the characters of XML 1.0, section 2.2, so that the answer can repeat it (OAI-PMH 2.0, section 3.2); that
--- others are refused is this repository's own
+-- every value is a text of the characters of XML 1.0, section 2.2, so that the answer can repeat it (OAI-PMH 2.0,
+-- section 3.2); that others are refused is this repository's own
 unfoldable pub has_xml_values : List Pair → Bool
 has_xml_values pairs = list_all (λ (pair : Pair). is_xml_text pair.1) pairs

@@ -1,4 +1,4 @@
--- What the arguments ask for, as a function; and what reading them answers. OAI-PMH 2.0, sections 3.6 and 4.
+-- The request of arguments, as a function; and the result of reading them. OAI-PMH 2.0, sections 3.6 and 4.
 use Rattle.std.specs.Prelude.{◌≡◌, ◌≢◌, ℕ, Bool, true, ◌&&◌, List, [], bytes_eq, Option, Some, None, Result, Ok, Err, find, if◌then◌else◌, ◌↔◌}
 use Rattle.oai_names.specs.Names.{is_prefix}
 use Rattle.oai_names.specs.Optional.{◌>>=◌}
@@ -25,7 +25,7 @@ use Rattle.oai_args.specs.declared.verbs.Verb.TheVariants.{Identify, ListMetadat
 abbrev pub provided : {A : Type 0} → Bool → A → Option A
 provided passes value = if passes then Some value else None
 
--- the verb of that name
+-- the verb with that name
 abbrev pub verb_named : List ℕ → Option Verb
 verb_named name = find (λ verb. bytes_eq name (name_of verb)) verbs
 
@@ -47,15 +47,15 @@ suit part verb given =
     && suits part (role_of verb key.Set) given.set
     && suits part (role_of verb key.ResumptionToken) given.token
 
--- GetRecord (section 4.1): an identifier, and a metadataPrefix of its syntax
+-- GetRecord (section 4.1): an identifier, and a metadataPrefix with its syntax
 unfoldable pub get_record_of : Arguments → Option Ask
 get_record_of given = do
   identifier ← once given.identifier
   prefix ← once given.prefix
   provided (is_prefix prefix) (ask.Get identifier prefix)
 
--- a first ListIdentifiers or ListRecords (sections 4.3 and 4.5): a metadataPrefix, and where they are given from, until and set,
--- each of its syntax
+-- a first ListIdentifiers or ListRecords (sections 4.3 and 4.5): a metadataPrefix, and if they are given from, until
+-- and set, each with its syntax
 unfoldable pub first_list_of : Granularity → ListVerb → Arguments → Option Ask
 first_list_of granularity verb given = do
   prefix ← once given.prefix
@@ -63,7 +63,7 @@ first_list_of granularity verb given = do
       && are_bounds granularity (once given.from) (once given.until))
       (ask.List verb prefix (once given.from) (once given.until) (once given.set))
 
--- the first request that arguments make which suit the verb
+-- the first request of arguments that suit the verb
 unfoldable pub first_of : Granularity → Verb → Arguments → Option Ask
 first_of granularity Identify given = Some ask.Identify
 first_of granularity ListMetadataFormats given = Some (ask.Formats (once given.identifier))
@@ -79,7 +79,7 @@ next_of verb given = do
   token ← once given.token
   Some (ask.Resume list token)
 
--- the request of that verb; where a resumptionToken is given, for the next part of its list
+-- the request of that verb; if a resumptionToken is given, for the next part of its list
 unfoldable pub form_of : Granularity → Verb → Arguments → Option Ask
 form_of granularity verb given =
     if is_never given.token
@@ -91,19 +91,19 @@ abbrev pub asked_or_bad : Option Ask → AskOrError
 asked_or_bad (Some request) = asks request
 asked_or_bad None = bad_argument
 
--- the request of that verb; with none, it is a badVerb, whatever else is given
+-- the request of that verb; without one, it is a badVerb, whatever else is given
 abbrev pub asked_of_verb : Granularity → Option Verb → Arguments → AskOrError
 asked_of_verb granularity None given = bad_verb
 asked_of_verb granularity (Some verb) given =
     if given.are_values_xml then asked_or_bad (form_of granularity verb given) else bad_argument
 
--- the verb that is asked for
+-- the requested verb
 unfoldable pub asked_verb : Arguments → Option Verb
 asked_verb given = do
   name ← once given.verb
   verb_named name
 
--- what the arguments ask for, in a repository of the granularity
+-- what the arguments ask for, in a repository with the granularity
 unfoldable pub request_in : Granularity → Arguments → AskOrError
 request_in granularity given = asked_of_verb granularity (asked_verb given) given
 
@@ -111,23 +111,23 @@ request_in granularity given = asked_of_verb granularity (asked_verb given) give
 unfoldable pub request_of : Granularity → List Pair → AskOrError
 request_of granularity pairs = request_in granularity (arguments_in pairs)
 
--- ---- what reading them answers
+-- ---- the result of reading them
 
--- the answer is what the pairs ask for; or memory is refused, where there are pairs to store
+-- the result is what the pairs ask for; or out of memory, if there are pairs to store
 abbrev pub IsReadFrom : Granularity → List Pair → Result Ask ArgFault → Type 0
 IsReadFrom granularity pairs (Ok request) = request_of granularity pairs ≡ asks request
 IsReadFrom granularity pairs (Err BadVerb) = request_of granularity pairs ≡ bad_verb
 IsReadFrom granularity pairs (Err BadArgument) = request_of granularity pairs ≡ bad_argument
 IsReadFrom granularity pairs (Err NoMemory) = pairs ≢ []
 
--- a request for a list of records, from the first on, is by a verb of such lists; of any other request nothing is said
+-- a request for a list of records, from the first on, is by a verb of such lists; other requests are unrestricted
 abbrev pub lists_records : Ask → Bool
 lists_records (ask.List verb prefix from until set) = is_of_records verb
 lists_records request = true
 
 -- ---- the law of the function and the relation
 
--- every list of pairs asks for one thing, in the words of the relation, and the function gives it
+-- every list of pairs asks for one thing, by the relation, and the function returns it
 abbrev pub GivesTheAnswer : Type 0
 GivesTheAnswer = (granularity : Granularity) (pairs : List Pair) (asked : AskOrError)
     → (request_of granularity pairs ≡ asked) ↔ IsAskOrError granularity pairs asked

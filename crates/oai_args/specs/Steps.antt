@@ -1,4 +1,4 @@
--- What one pass over the pairs does at each. These words are the reader's own: no public contract names them.
+-- What one pass over the pairs does at each. These words are the parser's own: no public contract cites them.
 use Rattle.std.specs.Prelude.{ℕ, ◌&&◌, List, [], ◌∷◌, codes, Result, Ok, Err}
 use Rattle.oai_args.specs.Arguments.{key_of, known_keys}
 use Rattle.oai_args.specs.Asks.{AskOrError, asks, bad_verb, bad_argument}
@@ -33,7 +33,7 @@ arguments_with given pairs = record {
   are_values_xml = given.are_values_xml && has_xml_values pairs;
 }
 
--- the answer to what is asked
+-- the result for what is asked
 abbrev pub result_of : AskOrError → Result Ask ArgFault
 result_of (asks request) = Ok request
 result_of bad_verb = Err BadVerb

@@ -9,7 +9,7 @@ use Rattle.oai_args.specs.declared.verbs.Verb.TheVariants.{Identify, ListMetadat
 abbrev pub verbs : List Verb
 verbs = Identify ∷ ListMetadataFormats ∷ ListSets ∷ GetRecord ∷ ListIdentifiers ∷ ListRecords ∷ []
 
--- the value of the argument `verb` that asks for the verb
+-- the value of the argument `verb` that requests the verb
 abbrev pub name_of : Verb → List ℕ
 name_of Identify = codes "Identify"
 name_of ListMetadataFormats = codes "ListMetadataFormats"

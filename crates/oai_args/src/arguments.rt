@@ -44,17 +44,27 @@ impl Arguments {
     }
 
     /// The arguments of a query, by one pass over its pairs.
-    #[tactic(auto, unfolding(crate::specs::Pairs::decoded_pairs))]
     pub(crate) fn read(alloc: Global, query: &[u8]) -> Result<Arguments, AllocError>
         ensures read { IfOk result (λ given. given ≡ arguments_in (decoded_pairs query.now)) }
         ensures memory { OnErr result (decoded_pairs query.now ≢ []) }
     {
         let mut arguments = Arguments::new();
+        arguments.add_all(alloc, query)?;
+        Ok(arguments)
+    }
+
+    /// Takes the pairs of a query, where none were taken before.
+    #[tactic(auto, unfolding(crate::specs::Pairs::decoded_pairs))]
+    fn add_all(&mut self, alloc: Global, query: &[u8]) -> Result<(), AllocError>
+        requires { self.old ≡ arguments_in [] }
+        ensures read { IfOk result (λ _. self.new ≡ arguments_in (decoded_pairs query.now)) }
+        ensures memory { OnErr result (decoded_pairs query.now ≢ []) }
+    {
         for pair in form_urlencoded::parse(alloc, query) {
             let (key, value) = pair?;
-            arguments.add(alloc, key.as_str(), value.as_str())?;
+            self.add(alloc, key.as_str(), value.as_str())?;
         }
-        Ok(arguments)
+        Ok(())
     }
 
     /// Takes one more pair.
@@ -65,16 +75,18 @@ impl Arguments {
     {
         self.are_values_xml = self.are_values_xml && is_xml_text(value);
         match key {
-            "verb" => self.verb.add(alloc, value)?,
-            "identifier" => self.identifier.add(alloc, value)?,
-            "metadataPrefix" => self.prefix.add(alloc, value)?,
-            "from" => self.from.add(alloc, value)?,
-            "until" => self.until.add(alloc, value)?,
-            "set" => self.set.add(alloc, value)?,
-            "resumptionToken" => self.token.add(alloc, value)?,
-            _ => self.are_keys_known = false,
+            "verb" => self.verb.add(alloc, value),
+            "identifier" => self.identifier.add(alloc, value),
+            "metadataPrefix" => self.prefix.add(alloc, value),
+            "from" => self.from.add(alloc, value),
+            "until" => self.until.add(alloc, value),
+            "set" => self.set.add(alloc, value),
+            "resumptionToken" => self.token.add(alloc, value),
+            _ => {
+                self.are_keys_known = false;
+                Ok(())
+            }
         }
-        Ok(())
     }
 
     /// The verb that is asked for, if `verb` is given once and names one.

@@ -34,7 +34,7 @@ impl BoundText {
         self.text.as_str()
     }
 
-    /// The bound that the text stands for. It was parsed when the request was read.
+    /// The bound that the text stands for, parsed when the request was read.
     pub fn bound(&self) -> Bound
         ensures value { bound_of self.now ≡ Some result }
         ensures writable { IsWritableBound result }
@@ -43,8 +43,7 @@ impl BoundText {
     }
 }
 
-/// The argument, where it is not given, or is a bound no finer than the granularity; else None. It takes
-/// no memory.
+/// The argument if it is absent, or is a bound no finer than the granularity; otherwise None. Allocates nothing.
 pub(crate) fn none_or_bound(
     granularity: Granularity,
     argument: Option<Text>,
@@ -66,8 +65,7 @@ pub(crate) fn none_or_bound(
     }
 }
 
-/// Whether the arguments are not two bounds, or these are of one granularity and the first is not after
-/// the second.
+/// Whether, if both are given, the two bounds have one granularity and the first is not after the second.
 pub(crate) fn are_not_turned(from: &Option<BoundText>, until: &Option<BoundText>) -> bool
     ensures { result
         ≡ spec.are_not_turned (spec.given_bound from.now) (spec.given_bound until.now) }
@@ -78,7 +76,7 @@ pub(crate) fn are_not_turned(from: &Option<BoundText>, until: &Option<BoundText>
     }
 }
 
-/// Whether the bound is not after the other, of the same granularity.
+/// Whether the bound is not after the other, which has the same granularity.
 fn is_not_after(from: Bound, until: Bound) -> bool
     ensures { result ≡ spec.is_not_after from until }
 {

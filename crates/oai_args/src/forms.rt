@@ -12,10 +12,10 @@ use oai_names::{ListVerb, Text, is_prefix, is_set_spec};
 use oai_time::Granularity;
 
 impl Arguments {
-    /// The request that the arguments make, or the error. It takes no memory.
+    /// Takes out the request that the arguments make, or says why they make none. It takes no memory.
     #[tactic(auto, unfolding(crate::specs::Requests::request_in))]
-    pub(crate) fn into_request(self, granularity: Granularity) -> Result<Ask, ArgFault>
-        ensures { result ≡ result_of (spec.request_in granularity self) }
+    pub(crate) fn take_request(&mut self, granularity: Granularity) -> Result<Ask, ArgFault>
+        ensures { result ≡ result_of (spec.request_in granularity self.old) }
     {
         let Some(verb) = self.asked_verb() else {
             return Err(ArgFault::BadVerb);
@@ -23,54 +23,54 @@ impl Arguments {
         if !self.are_values_xml {
             return Err(ArgFault::BadArgument);
         }
-        match self.into_ask(granularity, verb) {
+        match self.take_ask(granularity, verb) {
             Some(ask) => Ok(ask),
             None => Err(ArgFault::BadArgument),
         }
     }
 
-    /// The request of that verb; where a resumptionToken is given, for the next part of its list.
+    /// Takes out the request of that verb; where a resumptionToken is given, for the next part of its list.
     #[tactic(auto, unfolding(crate::specs::Requests::form_of))]
-    fn into_ask(self, granularity: Granularity, verb: Verb) -> Option<Ask>
-        ensures { result ≡ spec.form_of granularity verb self }
+    fn take_ask(&mut self, granularity: Granularity, verb: Verb) -> Option<Ask>
+        ensures { result ≡ spec.form_of granularity verb self.old }
     {
         if self.token.is_never() {
             if self.suit(Part::First, verb) {
-                self.into_first(granularity, verb)
+                self.take_first(granularity, verb)
             } else {
                 None
             }
         } else if self.suit(Part::Next, verb) {
-            self.into_next(verb)
+            self.take_next(verb)
         } else {
             None
         }
     }
 
-    /// The first request that arguments make which suit the verb.
+    /// Takes out the first request that arguments make which suit the verb.
     #[tactic(auto, unfolding(crate::specs::Requests::first_of))]
-    fn into_first(self, granularity: Granularity, verb: Verb) -> Option<Ask>
-        ensures { result ≡ spec.first_of granularity verb self }
+    fn take_first(&mut self, granularity: Granularity, verb: Verb) -> Option<Ask>
+        ensures { result ≡ spec.first_of granularity verb self.old }
     {
         match verb {
             Verb::Identify => Some(Ask::Identify),
             Verb::ListMetadataFormats => Some(Ask::Formats {
-                identifier: self.identifier.once(),
+                identifier: self.identifier.take(),
             }),
             Verb::ListSets => Some(Ask::Sets),
-            Verb::GetRecord => self.into_item(),
-            Verb::ListIdentifiers => self.into_list(granularity, ListVerb::Identifiers),
-            Verb::ListRecords => self.into_list(granularity, ListVerb::Records),
+            Verb::GetRecord => self.take_item(),
+            Verb::ListIdentifiers => self.take_list(granularity, ListVerb::Identifiers),
+            Verb::ListRecords => self.take_list(granularity, ListVerb::Records),
         }
     }
 
-    /// GetRecord, if the prefix is of its syntax.
+    /// Takes out GetRecord, if the prefix is of its syntax.
     #[tactic(auto, unfolding(crate::specs::Requests::get_record_of))]
-    fn into_item(self) -> Option<Ask>
-        ensures { result ≡ spec.get_record_of self }
+    fn take_item(&mut self) -> Option<Ask>
+        ensures { result ≡ spec.get_record_of self.old }
     {
-        let identifier = self.identifier.once()?;
-        let prefix = self.prefix.once()?;
+        let identifier = self.identifier.take()?;
+        let prefix = self.prefix.take()?;
         if is_prefix(prefix.as_str()) {
             Some(Ask::Get { identifier, prefix })
         } else {
@@ -78,15 +78,15 @@ impl Arguments {
         }
     }
 
-    /// A first ListIdentifiers or ListRecords, if its arguments are of their syntax.
+    /// Takes out a first ListIdentifiers or ListRecords, if its arguments are of their syntax.
     #[tactic(auto, unfolding(crate::specs::Requests::first_list_of, crate::specs::Bounds::are_bounds))]
-    fn into_list(self, granularity: Granularity, verb: ListVerb) -> Option<Ask>
-        ensures { result ≡ spec.first_list_of granularity verb self }
+    fn take_list(&mut self, granularity: Granularity, verb: ListVerb) -> Option<Ask>
+        ensures { result ≡ spec.first_list_of granularity verb self.old }
     {
-        let prefix = self.prefix.once()?;
-        let from = none_or_bound(granularity, self.from.once())?;
-        let until = none_or_bound(granularity, self.until.once())?;
-        let set = self.set.once();
+        let prefix = self.prefix.take()?;
+        let from = none_or_bound(granularity, self.from.take())?;
+        let until = none_or_bound(granularity, self.until.take())?;
+        let set = self.set.take();
         if is_prefix(prefix.as_str())
             && is_none_or_set_spec(&set)
             && are_not_turned(&from, &until)
@@ -103,13 +103,13 @@ impl Arguments {
         }
     }
 
-    /// The request for the next part of a list.
+    /// Takes out the request for the next part of a list.
     #[tactic(auto, unfolding(crate::specs::Requests::next_of))]
-    fn into_next(self, verb: Verb) -> Option<Ask>
-        ensures { result ≡ spec.next_of verb self }
+    fn take_next(&mut self, verb: Verb) -> Option<Ask>
+        ensures { result ≡ spec.next_of verb self.old }
     {
         let verb = verb.list()?;
-        let token = self.token.once()?;
+        let token = self.token.take()?;
         Some(Ask::Resume { verb, token })
     }
 }

@@ -4,6 +4,7 @@ ghost use Rattle.oai_args.specs.Steps.{given_with};
 
 use oai_names::Text;
 use std::alloc::{AllocError, Global};
+use std::mem;
 
 /// How often a key is given, with the value of one that is given once.
 #[derive(Drop)]
@@ -27,11 +28,11 @@ impl Given {
         Ok(())
     }
 
-    /// The value of a key that is given once.
-    pub(crate) fn once(self) -> Option<Text>
-        ensures { result ≡ spec.once self }
+    /// Takes out the value of a key that is given once.
+    pub(crate) fn take(&mut self) -> Option<Text>
+        ensures { result ≡ spec.once self.old }
     {
-        match self {
+        match mem::replace(self, Given::Never) {
             Given::Once(value) => Some(value),
             Given::Never => None,
             Given::Often => None,

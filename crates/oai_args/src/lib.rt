@@ -1,4 +1,4 @@
-//! The arguments of the requests of OAI-PMH 2.0: which of the six verbs is asked for, and with what.
+//! The arguments of the requests of OAI-PMH 2.0: which of the six verbs is requested, and with what.
 #![tactic(auto)]
 
 mod arguments;

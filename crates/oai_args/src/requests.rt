@@ -74,7 +74,7 @@ pub fn read_request(alloc: Global, query: &[u8], granularity: Granularity) -> Re
     ensures lists { IfOk result (λ ask. lists_records ask ≡ true) }
 {
     match Arguments::read(alloc, query) {
-        Ok(arguments) => arguments.into_request(granularity),
+        Ok(mut arguments) => arguments.take_request(granularity),
         Err(_) => Err(ArgFault::NoMemory),
     }
 }

@@ -15,7 +15,7 @@ pub(crate) enum Key {
     ResumptionToken,
 }
 
-/// What an argument is to a verb (OAI-PMH 2.0, section 4).
+/// The role of an argument for a verb (OAI-PMH 2.0, section 4).
 #[derive(Clone, Copy)]
 pub(crate) enum Role {
     Required,
@@ -36,7 +36,7 @@ pub(crate) enum Part {
 }
 
 impl Verb {
-    /// What the argument is to this verb: the one table of arguments.
+    /// The role of the argument for this verb: the one table of arguments.
     pub(crate) fn role_of(self, key: Key) -> Role
         ensures { result ≡ role_of self key }
     {
@@ -61,7 +61,7 @@ impl Verb {
     }
 }
 
-/// What the argument is to ListIdentifiers and ListRecords.
+/// The role of the argument for ListIdentifiers and ListRecords.
 fn role_in_list(key: Key) -> Role
     ensures { result ≡ role_in_list key }
 {
@@ -76,7 +76,7 @@ fn role_in_list(key: Key) -> Role
 }
 
 impl Part {
-    /// Whether an argument of the role is given as often as it is to be in such a request.
+    /// Whether an argument with the role is given as often as such a request requires.
     pub(crate) fn suits(self, role: Role, given: &Given) -> bool
         ensures { result ≡ suits self role given.now }
     {

@@ -15,7 +15,7 @@ pub(crate) enum Verb {
 }
 
 impl Verb {
-    /// The verb of that name, letter case included.
+    /// The verb with that name, case included.
     pub(crate) fn named(name: &str) -> Option<Verb>
         ensures { result ≡ verb_named name.now }
     {

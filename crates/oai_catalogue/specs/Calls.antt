@@ -1,4 +1,4 @@
--- What a call of a caller of a store does to the store, over any store that keeps the contract of `Versions`.
+-- What a caller of a store does to the store, over any store that satisfies the contract of `Versions`.
 use Rattle.std.specs.Prelude.{◌≡◌, Result}
 use Rattle.oai_item.specs.declared.faults.Fault.{Fault}
 use Rattle.oai_catalogue.specs.Store.{Spends}

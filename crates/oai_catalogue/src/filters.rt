@@ -9,13 +9,13 @@ use std::marker::Model;
 /// What a list request asks for (OAI-PMH 2.0, sections 2.6, 2.7, 4.3 and 4.5).
 #[derive(Debug, Drop)]
 pub struct Filter {
-    /// The metadataPrefix: the items that have a record of it.
+    /// The metadataPrefix: the items that have a record with it.
     pub prefix: Prefix,
     /// The first datestamp, in seconds from 1970 on.
     pub lower: i64,
     /// The last datestamp, in seconds from 1970 on.
     pub upper: i64,
-    /// The setSpec of the set that the items are in, where one is given.
+    /// The setSpec of the set that the items are in, if one is given.
     pub set: Option<SetSpec>,
 }
 
@@ -29,8 +29,8 @@ impl Model for Filter {
 }
 
 impl Filter {
-    /// What asks for a prefix, the datestamps from `lower` to `upper`, in seconds from 1970 on and both
-    /// included, and a set where one is given.
+    /// A filter for a prefix, the datestamps from `lower` to `upper`, in seconds from 1970 on and both included, and a
+    /// set if one is given.
     pub fn new(prefix: Prefix, lower: i64, upper: i64, set: Option<SetSpec>) -> Filter
         ensures { result ≡ record { prefix = prefix; lower = lower; upper = upper; set = set } }
     {
@@ -49,7 +49,7 @@ impl Filter {
         &self.prefix
     }
 
-    /// An equal filter. The error is out of memory.
+    /// A copy of the filter. The error is out of memory.
     pub fn copy(&self, alloc: Global) -> Result<Filter, AllocError>
         ensures { IfOk result (λ copy. copy ≡ self.now) }
     {
@@ -61,7 +61,7 @@ impl Filter {
         })
     }
 
-    /// Whether the item, live or deleted, is asked for. It takes no memory.
+    /// Whether the filter selects the item, live or deleted. Allocates nothing.
     pub fn passes(&self, item: &Item) -> bool
         ensures { result ≡ passes self.now item.now }
     {
@@ -72,7 +72,7 @@ impl Filter {
     }
 }
 
-/// A copy of the setSpec, where there is one.
+/// A copy of the setSpec, if there is one. The error is out of memory.
 fn copy_set(alloc: Global, set: &Option<SetSpec>) -> Result<Option<SetSpec>, AllocError>
     ensures { IfOk result (λ copy. copy ≡ set.now) }
 {
@@ -82,7 +82,7 @@ fn copy_set(alloc: Global, set: &Option<SetSpec>) -> Result<Option<SetSpec>, All
     }
 }
 
-/// Whether an item of these setSpecs is in the set, where one is given.
+/// Whether an item with these setSpecs is in the set, if one is given.
 fn is_in_given(set: &Option<SetSpec>, sets: &[SetSpec]) -> bool
     ensures { result ≡ is_in_given set.now sets.now }
 {

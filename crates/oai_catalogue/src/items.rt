@@ -29,7 +29,7 @@ impl Model for Items {
 }
 
 impl Items {
-    /// No items. It takes no memory.
+    /// No items. Allocates nothing.
     pub(crate) fn new(alloc: Global) -> Items
         ensures { result ≡ [] }
     {
@@ -48,8 +48,8 @@ impl Items {
         })
     }
 
-    /// Puts a copy of the item in, in place of the one of its datestamp and identifier where there is
-    /// one. The error is out of memory; the items are then as before.
+    /// Inserts a copy of the item, in place of the one with its datestamp and identifier if there is one. The error is
+    /// out of memory, and the items are unchanged.
     pub(crate) fn put_copy(&mut self, alloc: Global, item: &Item) -> Result<(), AllocError>
         ensures ok { OnOk result (self.new ≡ with_item item.now self.old) }
         ensures err { OnErr result (self.new ≡ self.old) }
@@ -61,8 +61,7 @@ impl Items {
         Ok(())
     }
 
-    /// Takes the item of that datestamp, in seconds from 1970 on, and identifier out, and answers
-    /// whether there was one.
+    /// Removes the item with that datestamp, in seconds from 1970 on, and identifier; returns whether there was one.
     pub(crate) fn remove(&mut self, stamp: i64, identifier: &str) -> bool
         ensures found { result ≡ is_some (item_at stamp identifier.now self.old) }
         ensures left { self.new ≡ without_at stamp identifier.now self.old }
@@ -71,9 +70,9 @@ impl Items {
         take_out(&mut self.items, stamp, identifier)
     }
 
-    /// Takes the item of that datestamp, in seconds from 1970 on, and identifier out, puts a copy of the
-    /// other item in, as `remove` and `put_copy` do, and answers whether there was one to take out. The
-    /// error is out of memory; the items are then as before.
+    /// Removes the item with that datestamp, in seconds from 1970 on, and identifier, and inserts a copy of the other
+    /// item, as `remove` and `put_copy` do; returns whether there was one to remove. The error is out of memory, and
+    /// the items are unchanged.
     pub(crate) fn replace(
         &mut self,
         alloc: Global,
@@ -95,7 +94,7 @@ impl Items {
         Ok(found)
     }
 
-    /// The item of that datestamp, in seconds from 1970 on, and identifier.
+    /// The item with that datestamp, in seconds from 1970 on, and identifier.
     pub(crate) fn find(&self, stamp: i64, identifier: &str) -> Option<&Item>
         ensures found { option_copied result ≡ item_at stamp identifier.now self.now }
         ensures rising { are_in_order self.now ≡ true }
@@ -106,7 +105,7 @@ impl Items {
         }
     }
 
-    /// How many items are selected.
+    /// The number of items that the filter selects.
     pub(crate) fn count(&self, filter: &Filter) -> usize
         ensures number { result ≡ length (selected filter.now self.now) }
         ensures rising { are_in_order self.now ≡ true }
@@ -130,8 +129,8 @@ impl Items {
         part(alloc, self.items.as_slice(), filter, skip, most)
     }
 
-    /// Copies of the selected items that stand behind this datestamp, in seconds from 1970 on, and
-    /// identifier, at most `most` of them. The error is out of memory.
+    /// Copies of the selected items that come after this datestamp, in seconds from 1970 on, and identifier, at most
+    /// `most` of them. The error is out of memory.
     pub(crate) fn part_after(
         &self,
         alloc: Global,
@@ -149,8 +148,8 @@ impl Items {
     }
 }
 
-/// Puts the item among the others, which are in their order, in place of the one of its datestamp and
-/// identifier where there is one. It takes no memory: there is room for one item more.
+/// Inserts the item among the others, which are in their order, in place of the one with its datestamp and identifier
+/// if there is one. Allocates nothing: space for one more item is reserved.
 fn put(items: &mut Vec<Item>, item: Item)
     requires rising { are_in_order items.old.items ≡ true }
     requires room { vec_len items.old < vec_capacity items.old }
@@ -163,8 +162,8 @@ fn put(items: &mut Vec<Item>, item: Item)
     }
 }
 
-/// Takes the item of that datestamp and identifier out of the items, which are in their order, and
-/// answers whether there was one.
+/// Removes the item with that datestamp and identifier from the items, which are in their order; returns whether there
+/// was one.
 fn take_out(items: &mut Vec<Item>, stamp: i64, identifier: &str) -> bool
     requires { are_in_order items.old.items ≡ true }
     ensures found { result ≡ is_some (item_at stamp identifier.now items.old.items) }
@@ -182,7 +181,7 @@ fn take_out(items: &mut Vec<Item>, stamp: i64, identifier: &str) -> bool
     }
 }
 
-/// Copies of the items.
+/// Copies of the items. The error is out of memory.
 fn copies(alloc: Global, items: &[Item]) -> Result<Vec<Item>, AllocError>
     ensures { IfOk result (λ copies. copies.items ≡ items.now) }
 {
@@ -193,7 +192,7 @@ fn copies(alloc: Global, items: &[Item]) -> Result<Vec<Item>, AllocError>
     Ok(copies)
 }
 
-/// How many of the items are selected.
+/// The number of the items that the filter selects.
 #[tactic(auto, unfolding(oai_item::specs::Selection::selected))]
 fn count(items: &[Item], filter: &Filter) -> usize
     ensures { result ≡ length (selected filter.now items.now) }
@@ -201,7 +200,7 @@ fn count(items: &[Item], filter: &Filter) -> usize
     items.iter().filter(|item| filter.passes(item)).count()
 }
 
-/// Copies of the selected ones of the items after the first `skip`, at most `most` of them.
+/// Copies of the selected items after the first `skip`, at most `most` of them. The error is out of memory.
 fn part(
     alloc: Global,
     items: &[Item],

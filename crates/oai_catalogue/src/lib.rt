@@ -1,5 +1,5 @@
-//! Versions of the items of repositories, in a store: what a store does, over whatever it keeps them;
-//! a store of plain lists; and what is done with any store.
+//! Versions of the items of repositories, in a store: what a store does, whatever it is made of; a store of plain
+//! lists; and functions over any store.
 #![tactic(auto)]
 
 mod filters;

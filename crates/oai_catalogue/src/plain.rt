@@ -17,8 +17,8 @@ use std::collections::BTreeMap;
 /// The number that no version gets.
 pub const LAST_VERSION: u64 = 18_446_744_073_709_551_615;
 
-/// A store that keeps each version as a list of its own. Its faults are `NoMemory` and, where no
-/// number is left, `TooManyPages`. A list is searched by halves, and copied whole to be frozen.
+/// A store that stores each version as a list of its own. Its faults are `NoMemory` and, if no number is left,
+/// `TooManyPages`. A look-up is a binary search; `freeze` copies the whole list.
 #[derive(Drop)]
 pub struct PlainVersions {
     alloc: Global,
@@ -120,7 +120,7 @@ impl Versions for PlainVersions {
 }
 
 impl PlainVersions {
-    /// A store of no version, with room for 18,446,744,073,709,551,614 calls at least. It takes no memory.
+    /// A store without versions, with room for at least 18,446,744,073,709,551,614 calls. Allocates nothing.
     pub fn new(alloc: Global) -> PlainVersions
         ensures lists { ⟦<PlainVersions as Versions>⟧.lists result ≡ no_lists }
         ensures failures { ⟦<PlainVersions as Versions>⟧.failures result ≡ 0 }
@@ -134,7 +134,7 @@ impl PlainVersions {
         }
     }
 
-    /// The list under that number.
+    /// The list with that number.
     fn list(&self, v: u64) -> &Items
         requires { IsSome (lists_of self.now.versions v) }
         ensures { lists_of self.now.versions v ≡ Some result.now }
@@ -145,7 +145,7 @@ impl PlainVersions {
         }
     }
 
-    /// Puts the list under the next number.
+    /// Stores the list under the next number.
     fn add(&mut self, items: Items) -> Result<u64, Fault>
         requires { are_in_order items ≡ true }
         ensures unused { IfOk result (λ v. lists_of self.old.versions v ≡ None) }

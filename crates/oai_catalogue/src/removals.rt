@@ -4,10 +4,10 @@ ghost use Rattle.oai_catalogue.specs.Store.{ChangesOnly, Spends, list_at, withou
 use crate::versions::Versions;
 use oai_item::{Fault, Item};
 
-/// Takes items out of a version as a whole or not at all: under a number that was not in use it puts
-/// what `v` holds, without the items of the datestamps and identifiers of `gone`, and lets `v` go. On a
-/// fault each list is as before, and no further number is in use. Any fault may come, and `TooManyPages`
-/// only where the store may lack room for one call more than there are items to go.
+/// Removes several items from a version, all or none: stores what `v` holds, without the items that have the datestamps
+/// and identifiers of `gone`, under a new number, and releases `v`. On a fault each list is unchanged, and no further
+/// number is in use. Any fault may come; `TooManyPages` only if the store may lack room for one call more than there
+/// are items in `gone`.
 pub fn remove_items<V: Versions>(store: &mut V, v: u64, gone: &[Item]) -> Result<u64, Fault>
     requires { IsSome (V.lists store.old v) }
     ensures unused { IfOk result (λ w. V.lists store.old w ≡ None) }
@@ -31,8 +31,7 @@ pub fn remove_items<V: Versions>(store: &mut V, v: u64, gone: &[Item]) -> Result
     }
 }
 
-/// Takes each of the items out of the list. On a fault the list may have lost some; no other list has
-/// changed.
+/// Removes each of the items from the list. On a fault the list may have lost some; no other list has changed.
 fn take_out_each<V: Versions>(store: &mut V, v: u64, gone: &[Item]) -> Result<(), Fault>
     requires { IsSome (V.lists store.old v) }
     ensures others { ChangesOnly v (V.lists store.old) (V.lists store.new) }

@@ -10,35 +10,33 @@ use crate::filters::Filter;
 use oai_item::{Fault, Item};
 use oai_names::{Identifier, Sequence};
 
-/// A store of versions: lists of items, each under a number of its own, and each in the order of
-/// datestamps and, where these are equal, of identifiers. A list stands under its number until it is
-/// released. Versions may share what they are kept in, on a device that may fail; what a call does to
-/// one of them is seen in no other.
+/// A store of versions: lists of items, each under a number of its own, in the order of datestamps and then of
+/// identifiers. A list stays under its number until it is released. Versions may share storage (copy-on-write), on a
+/// device that may fail; a call on one of them changes no other.
 ///
-/// A call that fails leaves every list as it was. Where the device is not honest, and gives back other
-/// bytes than were written, what a call answers, and the list that it puts an item in or takes one out
-/// of, are not specified; all else holds still.
+/// A call that fails leaves every list unchanged. If the device is not honest, and returns other bytes than were
+/// written, then what a call returns, and the list that it changes, are unspecified; all other clauses hold.
 pub trait Versions {
     /// The lists, by their numbers.
     ghost lists: { Self → ℕ → Option (List ItemState) };
 
-    /// How often the device has failed, up to the last number that can be counted.
+    /// How often the device has failed; the count saturates.
     ghost failures: { Self → ℕ };
 
-    /// Whether the device gives back what was written to it.
+    /// Whether the device returns what was written to it.
     ghost honest: { Self → Bool };
 
-    /// How many calls are sure to find room: pages, further names of a page, and numbers.
+    /// How many calls are sure to find room: pages, further references to a page, and numbers.
     ghost room: { Self → ℕ };
 
-    /// A number that was not in use, for an empty list. Any fault may come.
+    /// A new number, for an empty list. Any fault may come.
     fn fresh(&mut self) -> Result<u64, Fault>
         ensures unused { IfOk result (λ v. lists self.old v ≡ None) }
         ensures ok { IfOk result (λ v. lists self.new ≡ with_list v [] (lists self.old)) }
         ensures err { OnErr result (lists self.new ≡ lists self.old) }
         ensures store { Spends room failures honest 1 result self.old self.new };
 
-    /// A number that was not in use, for what `v` holds now. Any fault may come.
+    /// A new number, for a snapshot of what `v` holds now. Any fault may come.
     fn freeze(&mut self, v: u64) -> Result<u64, Fault>
         requires { IsSome (lists self.old v) }
         ensures unused { IfOk result (λ w. lists self.old w ≡ None) }
@@ -47,8 +45,8 @@ pub trait Versions {
         ensures err { OnErr result (lists self.new ≡ lists self.old) }
         ensures store { Spends room failures honest 1 result self.old self.new };
 
-    /// Puts the item into the list, in place of the one of its datestamp and identifier where there is
-    /// one. Its spelling has at most 1,048,576 bytes. Any fault may come.
+    /// Inserts the item into the list, in place of the one with its datestamp and identifier if there is one. The
+    /// encoded item has at most 1,048,576 bytes. Any fault may come.
     fn put(&mut self, v: u64, item: &Item) -> Result<(), Fault>
         requires stands { IsSome (lists self.old v) }
         requires fits { length (encoded item.now) ≤ MAX_ITEM_BYTES }
@@ -58,8 +56,8 @@ pub trait Versions {
         ensures err { OnErr result (lists self.new ≡ lists self.old) }
         ensures store { Spends room failures honest 1 result self.old self.new };
 
-    /// Takes the item of that datestamp, in seconds from 1970 on, and identifier out of the list, and
-    /// answers whether there was one. Any fault may come.
+    /// Removes the item with that datestamp, in seconds from 1970 on, and identifier from the list; returns whether
+    /// there was one. Any fault may come.
     fn remove(&mut self, v: u64, stamp: i64, identifier: &Identifier) -> Result<bool, Fault>
         requires { IsSome (lists self.old v) }
         ensures found { IfOk result (λ found. IsTrue (honest self.old)
@@ -70,10 +68,9 @@ pub trait Versions {
         ensures err { OnErr result (lists self.new ≡ lists self.old) }
         ensures store { Spends room failures honest 1 result self.old self.new };
 
-    /// Takes the item of that datestamp, in seconds from 1970 on, and identifier out of the list and puts
-    /// the other item in, as `remove` and then `put` do, and answers whether there was one to take out. A
-    /// call that fails has done neither. The spelling of the item has at most 1,048,576 bytes. Any fault may
-    /// come.
+    /// Removes the item with that datestamp, in seconds from 1970 on, and identifier from the list and inserts the
+    /// other item, as `remove` and then `put` do; returns whether there was one to remove. A call that fails has done
+    /// neither. The encoded item has at most 1,048,576 bytes. Any fault may come.
     fn replace(
         &mut self,
         v: u64,
@@ -91,8 +88,8 @@ pub trait Versions {
         ensures err { OnErr result (lists self.new ≡ lists self.old) }
         ensures store { Spends room failures honest 1 result self.old self.new };
 
-    /// The item of that datestamp, in seconds from 1970 on, and identifier, or None. Any fault but
-    /// `TooManyPages` may come.
+    /// The item with that datestamp, in seconds from 1970 on, and identifier, or None. Any fault but `TooManyPages` may
+    /// come.
     fn find(&mut self, v: u64, stamp: i64, identifier: &Identifier) -> Result<Option<Item>, Fault>
         requires { IsSome (lists self.old v) }
         ensures found { IfOk result (λ item. IsTrue (honest self.old)
@@ -100,7 +97,7 @@ pub trait Versions {
         ensures same { lists self.new ≡ lists self.old }
         ensures store { Spends room failures honest 0 result self.old self.new };
 
-    /// How many items are selected. Any fault but `TooManyPages` may come.
+    /// The number of items that the filter selects. Any fault but `TooManyPages` may come.
     fn count(&mut self, v: u64, filter: &Filter) -> Result<usize, Fault>
         requires { IsSome (lists self.old v) }
         ensures number { IfOk result (λ n. IsTrue (honest self.old)
@@ -108,8 +105,8 @@ pub trait Versions {
         ensures same { lists self.new ≡ lists self.old }
         ensures store { Spends room failures honest 0 result self.old self.new };
 
-    /// Of the selected items, in their order, those after the first `skip`, at most `most` of them.
-    /// Any fault but `TooManyPages` may come.
+    /// The selected items, in their order, after the first `skip`, at most `most` of them. Any fault but `TooManyPages`
+    /// may come.
     fn part(
         &mut self,
         v: u64,
@@ -123,9 +120,8 @@ pub trait Versions {
         ensures same { lists self.new ≡ lists self.old }
         ensures store { Spends room failures honest 0 result self.old self.new };
 
-    /// Of the selected items, in their order, those that stand behind this datestamp, in seconds from 1970
-    /// on, and identifier, whether or not an item has these; at most `most` of them. Any fault but
-    /// `TooManyPages` may come.
+    /// The selected items, in their order, that come after this datestamp, in seconds from 1970 on, and identifier,
+    /// whether or not an item has these; at most `most` of them. Any fault but `TooManyPages` may come.
     fn part_after(
         &mut self,
         v: u64,
@@ -141,7 +137,7 @@ pub trait Versions {
         ensures same { lists self.new ≡ lists self.old }
         ensures store { Spends room failures honest 0 result self.old self.new };
 
-    /// Lets the list go; its number is in use no more. It takes no memory and cannot fail.
+    /// Releases the list; its number is no longer in use. It allocates nothing and cannot fail.
     fn release(&mut self, v: u64)
         requires { IsSome (lists self.old v) }
         ensures ok { lists self.new ≡ without_list v (lists self.old) }

@@ -13,9 +13,9 @@ use Rattle.oai_cli.specs.Asked.{AreAsked, AreDone, AreEnded, IsLineOutcome}
 use Rattle.oai_cli.specs.Inputs.{IsNextLine, IsUnread, left, unread, IsReadSoFar}
 use Rattle.oai_cli.specs.ExchangeLines.{IsLineDone, IsUnspecified, is_bad, is_line_filled, shown, parse_exchange}
 use Rattle.oai_cli.specs.NumberedLines.{AreFirst, line_count, lines_of}
-use Rattle.oai_cli.specs.declared.stop.Stop.{Stop}
-use Rattle.oai_cli.specs.declared.stop.Stop.TheVariants.{BadConfig, BadExchange, BadPiece, CannotRead, DeviceFault, InputFault, NoMemory, OutputFault, SocketFault, TooManyConnections, Usage}
-use Rattle.oai_cli.proofs.KnownLemmas.{appends_both, appends_kept, appends_none}
+use Rattle.oai_startup.specs.declared.stop.Stop.{Stop}
+use Rattle.oai_startup.specs.declared.stop.Stop.TheVariants.{BadConfig, BadExchange, BadPiece, CannotRead, DeviceFault, InputFault, NoMemory, OutputFault, SocketFault, TooManyConnections, Usage}
+use Rattle.oai_startup.proofs.KnownLemmas.{appends_both, appends_kept, appends_none}
 use Rattle.oai_cli.proofs.ReadLemmas.{counted_next, known_so, number_next, read_front, read_none, read_to, read_whole}
 
 -- ---- lines that are done

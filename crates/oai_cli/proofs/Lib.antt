@@ -1,9 +1,7 @@
 pub mod Apart
 mod AskedLemmas
 mod InputLemmas
-mod KnownLemmas
 mod LineLemmas
-mod NumeralLemmas
 mod ReadLemmas
 mod SpaceLemmas
 mod TraceLemmas

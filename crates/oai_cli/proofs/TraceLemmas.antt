@@ -20,10 +20,10 @@ use Rattle.oai_cli.specs.NumberedLines.{lines_of}
 use Rattle.oai_cli.specs.Stops.{StopsTracing}
 use Rattle.oai_cli.specs.Traces.{AreFollowed, AreTraced, AreTracedTo, BeginsOnly, HasBegun, IsBrokenOff, IsFirst, IsFollowed, IsFollowedOn, IsConnectionOf, IsUnopenable, IsTraced, Shown, Tracing, number_or, shown_on, nothing_traced, AreLinesCounted, IsBroken, IsLine, IsUnopened}
 use Rattle.oai_cli.specs.declared.trace.events.Event.{Event}
-use Rattle.oai_cli.specs.declared.stop.Stop.{Stop}
-use Rattle.oai_cli.specs.declared.stop.Stop.TheVariants.{BadConfig, BadExchange, BadPiece, CannotRead, DeviceFault, InputFault, NoMemory, OutputFault, SocketFault, TooManyConnections, Usage}
+use Rattle.oai_startup.specs.declared.stop.Stop.{Stop}
+use Rattle.oai_startup.specs.declared.stop.Stop.TheVariants.{BadConfig, BadExchange, BadPiece, CannotRead, DeviceFault, InputFault, NoMemory, OutputFault, SocketFault, TooManyConnections, Usage}
 use Rattle.oai_cli.proofs.Apart.{equal_others, opened_others, others_then}
-use Rattle.oai_cli.proofs.KnownLemmas.{appends_both, appends_kept, appends_none}
+use Rattle.oai_startup.proofs.KnownLemmas.{appends_both, appends_kept, appends_none}
 use Rattle.oai_cli.proofs.ReadLemmas.{counted_next, known_all, known_so, number_next, read_front, read_to, read_whole}
 
 -- ---- one connection

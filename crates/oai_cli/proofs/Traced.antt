@@ -13,7 +13,7 @@ use Rattle.oai_cli.specs.EventLines.{shown_close, shown_output}
 use Rattle.oai_cli.specs.Outputs.{StaysApart, IsEmptied, output_in, output_of, with_output}
 use Rattle.oai_cli.specs.Traces.{ComesOn, EndsOn, IsLabelled, IsTraced, Names, Tracing, reads_no_more, left_on, name_on, shown_on}
 use Rattle.oai_cli.specs.declared.trace.events.Event.{Event}
-use Rattle.oai_cli.proofs.KnownLemmas.{appends_both}
+use Rattle.oai_startup.proofs.KnownLemmas.{appends_both}
 
 -- ---- what came
 

@@ -12,30 +12,30 @@ use Rattle.hex.specs.Hex.{IsBytes, decode_of, encode_lower}
 use Rattle.oai_names.specs.Optional.{◌>>=◌, tested}
 use Rattle.oai_cli.specs.NumberedLines.{lines_of}
 use Rattle.oai_cli.specs.ExchangeLines.{is_separator, part, rest}
-use Rattle.oai_cli.specs.Numbers.{moment_of, number_in}
+use Rattle.oai_startup.specs.Numbers.{moment_of, number_in}
 use Rattle.oai_cli.specs.declared.trace.events.Event.{Event}
-use Rattle.oai_cli.specs.declared.stop.Stop.{Stop}
-use Rattle.oai_cli.specs.declared.stop.Stop.TheVariants.{BadPiece, NoMemory}
+use Rattle.oai_startup.specs.declared.stop.Stop.{Stop}
+use Rattle.oai_startup.specs.declared.stop.Stop.TheVariants.{BadPiece, NoMemory}
 
 -- ---- a line: `<moment> <label> <hex>`, a piece that comes on a connection, or `<moment> <label> end`
 
--- what comes: None for the end, and otherwise the bytes, two hexadecimal digits each, in either case
+-- the third part: None for the end, and otherwise the bytes, two hexadecimal digits each, in either case
 unfoldable pub coming : List ℕ → Option (Option (List ℕ))
 coming text = if bytes_eq text (codes "end") then Some None else option_map Some (result_ok (decode_of text))
 
--- what comes was read; or the text is neither of the two; or memory was refused
+-- the third part was parsed; or the text is neither of the two; or memory ran out
 abbrev pub IsComing : List ℕ → Result (Option (List ℕ)) FromHexError → Type 0
 IsComing text (Ok piece) = coming text ≡ Some piece
 IsComing text (Err error) = (error ≡ OutOfMemory) ⊎ (coming text ≡ None)
 
--- why the line of that number could not be parsed
+-- why the line with that number could not be parsed
 abbrev pub stop_at : ℕ → FromHexError → Stop
 stop_at number OutOfMemory = NoMemory
 stop_at number OddLength = BadPiece number
 stop_at number InvalidStringLength = BadPiece number
 stop_at number (InvalidHexCharacter c index) = BadPiece number
 
--- a line has just three parts: a moment, a label, and what comes
+-- a line has exactly three parts: a moment, a label, and bytes or the end
 unfoldable pub parse_event : List ℕ → Option Event
 parse_event line = do
   line ← tested (λ (text : List ℕ). count_by is_separator text == 2) line
@@ -44,7 +44,7 @@ parse_event line = do
   piece ← coming (rest (rest line))
   Some (record { moment = moment; label = label; piece = piece })
 
--- what comes, as text
+-- the third part, as text
 abbrev pub coming_text : Option (List ℕ) → List ℕ
 coming_text None = codes "end"
 coming_text (Some bytes) = encode_lower bytes
@@ -59,7 +59,7 @@ pub record IsWritableEvent (event : Event) : Type 0 where
   pub label : event.label < 2 ^ 64
   pub piece : IfSome event.piece IsBytes
 
--- a line was parsed; or it is no event, and is the line of that number; or memory was refused
+-- a line was parsed; or it is no event, and is the line with that number; or memory ran out
 abbrev pub IsParsedEvent : List ℕ → ℕ → Result Event Stop → Type 0
 IsParsedEvent line number (Ok event) = parse_event line ≡ Some event
 IsParsedEvent line number (Err (BadPiece at)) = (parse_event line ≡ None) × (at ≡ number)
@@ -67,7 +67,7 @@ IsParsedEvent line number (Err stop) = stop ≡ NoMemory
 
 -- ---- what is written
 
--- the bytes that a connection puts out, where there are any, as a line `<label> <hex>` with letters in lower case
+-- the output of a connection, if there is any, as a line `<label> <hex>` with letters in lower case
 abbrev pub shown_output : ℕ → List ℕ → List ℕ
 shown_output label [] = []
 shown_output label (b ∷ bytes) = decimal label ++ codes " " ++ encode_lower (b ∷ bytes) ++ codes "\n"
@@ -76,7 +76,8 @@ shown_output label (b ∷ bytes) = decimal label ++ codes " " ++ encode_lower (b
 abbrev pub shown_close : ℕ → Bool → List ℕ
 shown_close label closing = if closing then decimal label ++ codes " close\n" else []
 
--- what is written of the bytes can be traced again: behind a moment it is one line, which is parsed as these bytes on that label
+-- what is written of the bytes can be traced again: after a moment it is one line, which is parsed as these bytes on
+-- that label
 pub record IsTraceable (at : ℤ) (number : ℕ) (bytes : List ℕ) : Type 0 where
   pub line : List ℕ
   pub alone : lines_of (signed_decimal at ++ codes " " ++ shown_output number bytes) ≡ line ∷ [] ∷ []

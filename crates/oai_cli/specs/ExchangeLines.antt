@@ -1,4 +1,4 @@
--- The lines that spell exchanges, and what is written for each. This repository's own.
+-- The lines that are exchanges, and what is written for each. This repository's own.
 use Rattle.std.specs.Prelude.{◌≡◌, ℕ, ◌==◌, ℤ, Bool, false, ◌&&◌, nat_lt, nat_le, List, [], ◌++◌, length, codes, decimal, Option, Some, None, is_none, FitsSigned, if◌then◌else◌}
 use Rattle.std.specs.List.{before_first, after_first, count_by, list_any}
 use Rattle.std.specs.Str.{bytes_eq}
@@ -11,25 +11,25 @@ use Rattle.oai_http.specs.Exchanges.{call_of}
 use Rattle.oai_http.specs.declared.exchanges.Answer.{Answer}
 use Rattle.oai_http.specs.declared.exchanges.Call.{Call}
 use Rattle.oai_http.specs.declared.exchanges.Exchange.{Exchange}
-use Rattle.oai_cli.specs.Numbers.{moment_of}
+use Rattle.oai_startup.specs.Numbers.{moment_of}
 
 -- ---- a line: `<moment> <METHOD> <target>`, and then for a body one space and the body to the end of the line
 
 abbrev pub is_separator : ℕ → Bool
 is_separator b = b == 32
 
--- what stands before the first space, and what stands after it
+-- what precedes the first space, and what follows it
 abbrev pub part : List ℕ → List ℕ
 part text = before_first is_separator text
 
 abbrev pub rest : List ℕ → List ℕ
 rest text = after_first is_separator text
 
--- the type of a body: that of a form for a POST, and none for any other method
+-- the media type of a body: that of a form for a POST, and none for any other method
 abbrev pub type_of : List ℕ → Option (List ℕ)
 type_of method = if bytes_eq method (codes "POST") then Some (codes "application/x-www-form-urlencoded") else None
 
--- what was read is an exchange at a moment
+-- what was parsed is an exchange at a moment
 abbrev pub call_by : ℤ × Exchange → Call
 call_by (moment, exchange) = call_of moment exchange
 
@@ -50,40 +50,41 @@ parse_exchange line = do
 abbrev pub call_line : Call → List ℕ
 call_line call = signed_decimal call.moment ++ codes " " ++ call.method ++ codes " " ++ call.target ++ codes " " ++ call.body
 
--- a call that a line can spell: a moment of 64 bits, a method and a target without a space, and the type that goes with the method
+-- a call that can be written as a line: a moment of 64 bits, a method and a target without a space, and the media type
+-- that goes with the method
 pub record IsSpellable (call : Call) : Type 0 where
   pub moment : FitsSigned w64 call.moment
   pub method : list_any is_separator call.method ≡ false
   pub target : list_any is_separator call.target ≡ false
   pub content_type : call.content_type ≡ type_of call.method
 
--- an empty line counts, and is passed over
+-- an empty line counts, and is skipped
 abbrev pub is_line_filled : List ℕ → Bool
 is_line_filled line = nat_lt 0 (length line)
 
--- a line that is neither empty nor spells an exchange
+-- a line that is neither empty nor an exchange
 abbrev pub is_bad : List ℕ → Bool
 is_bad line = is_line_filled line && is_none (parse_exchange line)
 
 -- ---- what is written for an answer
 
--- the seconds to wait, where there are any, behind a space
+-- a space and the seconds to wait, if there are any
 abbrev pub shown_seconds : Option ℤ → List ℕ
 shown_seconds None = []
 shown_seconds (Some seconds) = codes " " ++ signed_decimal seconds
 
--- the lines done, where there are any, behind a space
+-- a space and the lines done, if there are any
 abbrev pub shown_done : Option ℕ → List ℕ
 shown_done None = []
 shown_done (Some done) = codes " " ++ decimal done
 
--- the status, the seconds to wait and the lines done, as far as there are any, a line end, and the body
+-- the status, the seconds to wait and the lines done if there are any, a line end, and the body
 unfoldable pub shown : Answer → List ℕ
 shown answer = decimal (number_of answer.status) ++ shown_seconds answer.seconds ++ shown_done answer.done ++ codes "\n" ++ answer.body
 
 -- ---- what a line does
 
--- the line spells an exchange with the host, and its answer was written
+-- the line is an exchange with the host, and its answer was written
 pub record IsLineDone (bytes : List ℕ) (old new : HostState) (IsWritten : List ℕ → Type 0) : Type 0 where
   pub call : Call
   pub answer : Answer
@@ -91,6 +92,6 @@ pub record IsLineDone (bytes : List ℕ) (old new : HostState) (IsWritten : List
   pub exchanged : IsExchanged call answer old new
   pub written : IsWritten (shown answer)
 
--- of what is written nothing is said
+-- what is written is not specified
 abbrev pub IsUnspecified : List ℕ → Type 0
 IsUnspecified text = Unit {0}

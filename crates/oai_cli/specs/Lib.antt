@@ -1,11 +1,8 @@
 pub mod Asked
-pub mod Configurations
 pub mod EventLines
 pub mod ExchangeLines
 pub mod Inputs
 pub mod NumberedLines
-pub mod Numbers
 pub mod Outputs
 pub mod Stops
 pub mod Traces
-pub mod Begun

@@ -3,7 +3,7 @@ use Rattle.std.specs.Prelude.{◌≡◌, ℕ, ◌+◌, ◌-◌, ◌^◌, min, Li
 use Rattle.std.specs.List.{slice_split}
 use Rattle.oai_host.specs.Bodies.{is_line_end}
 
--- the lines of a text: it is cut at each line end
+-- the lines of a text: it is split at each line end
 abbrev pub lines_of : List ℕ → List (List ℕ)
 lines_of text = slice_split is_line_end text
 
@@ -18,7 +18,7 @@ pub record AreFirst (lines : List (List ℕ)) (Property : List (List ℕ) → Ty
   pub cut : lines ≡ front ++ others
   pub holds : Property front
 
--- the property holds of the line of that number, counted from 1, and of those in front of it
+-- the property holds of the line with that number, counted from 1, and of those before it
 pub record IsAt (number : ℕ) (lines : List (List ℕ)) (Property : List (List ℕ) → List ℕ → Type 0) : Type 0 where
   pub front : List (List ℕ)
   pub line : List ℕ

@@ -1,4 +1,5 @@
--- What comes of an input of lines that trace connections: what comes on each of them, and what is written for it. This repository's own.
+-- The effect of an input of lines that trace connections: the input of each of them, and what is written for it. This
+-- repository's own.
 use Rattle.std.specs.Prelude.{◌≡◌, ◌≢◌, ◌⊎◌, ℕ, ℤ, Bool, true, false, ◌+◌, List, [], ◌∷◌, ◌++◌, map, filter, Option, Some, None, MatchOption, Result, Ok, Err, is_ok, if◌then◌else◌, ◌<◌, length}
 use Rattle.std.specs.List.{flat_map}
 use Rattle.std.specs.Option.{option_map}
@@ -15,18 +16,18 @@ use Rattle.oai_cli.specs.ExchangeLines.{IsUnspecified, is_line_filled}
 use Rattle.oai_cli.specs.Outputs.{StaysApart, OthersStay, output_in, with_output}
 use Rattle.oai_cli.specs.NumberedLines.{AreFirst, IsAt, line_count}
 use Rattle.oai_cli.specs.declared.trace.events.Event.{Event}
-use Rattle.oai_cli.specs.declared.stop.Stop.{Stop}
-use Rattle.oai_cli.specs.declared.stop.Stop.TheVariants.{BadPiece, InputFault, TooManyConnections, NoMemory, OutputFault}
+use Rattle.oai_startup.specs.declared.stop.Stop.{Stop}
+use Rattle.oai_startup.specs.declared.stop.Stop.TheVariants.{BadPiece, InputFault, TooManyConnections, NoMemory, OutputFault}
 use Rattle.std.specs.BTreeMap.{BTreeMap, get}
 use Rattle.std.specs.Ordering.{nat_cmp}
 
 -- ---- the connections of the labels
 
--- what the labels stand for: a connection, or none any more; a label that stood in no line yet stands for nothing
+-- the connections of the labels: a connection, or a dropped one; a label that was in no line yet has none
 abbrev pub Names : Type 0
 Names = ℕ → Option (Option ConnId)
 
--- the front, and what the labels stand for
+-- the front, and the connections of the labels
 pub record Tracing (H : Type 0) : Type 0 where
   pub front : State H
   pub names : Names
@@ -35,17 +36,17 @@ pub record Tracing (H : Type 0) : Type 0 where
 abbrev pub nothing_traced : {H : Type 0} → State H → Tracing H
 nothing_traced front = record { front = front; names = λ label. None }
 
--- the label stands for that connection, or for none any more, and each other one for what it did
+-- the label has that connection, or a dropped one, and each other label is unchanged
 pub record IsLabelled (label : ℕ) (conn : Option ConnId) (old new : Names) : Type 0 where
   pub own : new label ≡ Some conn
   pub others : (other : ℕ) → other ≢ label → new other ≡ old other
 
--- the label stood in no line before: a connection is opened for it
+-- the label was in no line before: a connection is opened for it
 abbrev pub IsFirst : {H : Type 0} → ℕ → Tracing H → Option ConnId → Tracing H → Type 0
 IsFirst label old None new = ⊥
 IsFirst label old (Some conn) new = IsOpening old.front (Ok conn) new.front × IsLabelled label (Some conn) old.names new.names
 
--- the connection of the label, which is opened where the label is new
+-- the connection of the label, which is opened if the label is new
 abbrev pub IsConnectionOf : {H : Type 0} → ℕ → Tracing H → Option ConnId → Tracing H → Type 0
 IsConnectionOf label old conn new = MatchOption (old.names label) (IsFirst label old conn new) (λ known. (conn ≡ known) × (new ≡ old))
 
@@ -54,36 +55,38 @@ abbrev pub IsUnopenable : {H : Type 0} → ℕ → Tracing H → State H → Typ
 IsUnopenable label old new =
     (old.names label ≡ None) × (IsOpening old.front (Err refusal.Full) new ⊎ IsOpening old.front (Err refusal.NumbersSpent) new)
 
--- ---- what comes on a connection
+-- ---- the input of a connection
 
--- the end of the connection of the number came, where it is open
+-- the end of the connection with the number came, if it is open
 abbrev pub EndsOn : {H : Type 0} → ℕ → State H → State H → Type 0
 EndsOn number old new = (answer : Result Unit Absent) × IsEnding number old answer new
 
--- a piece came on the connection of the number at that moment, and was taken with all that it completes, or was not; or its end came
+-- a piece came on the connection with the number at that moment, and was taken with all that it completes, or was not;
+-- or its end came
 abbrev pub ComesOn : {H : Type 0} → Steps H → ℕ → ℤ → Option (List ℕ) → State H → Bool → State H → Type 0
 ComesOn step number moment (Some bytes) old whole new =
     (answer : Result Unit PieceFault) × IsPiece step number moment bytes old answer new × (is_ok answer ≡ whole)
 ComesOn step number moment None old whole new = EndsOn number old new × (whole ≡ true)
 
--- the connection is open, and reads nothing any more
+-- the connection is open, and reads no more input
 abbrev pub reads_no_more : Option Connection → Bool
 reads_no_more None = false
 reads_no_more (Some c) = is_closing c.stage
 
--- what is written of the connection of that label: what it was to put out, and that it is closed, where it reads nothing any more
+-- what is written of the connection of that label: its output, and that it is closed, if it reads no more input
 unfoldable pub shown_on : ℕ → Option Connection → List ℕ
 shown_on label c = shown_output label (output_in c) ++ shown_close label (reads_no_more c)
 
--- what is left of it then: it has nothing to put out, or it is not open any more
+-- the connection afterwards: it has no output, or it is no longer open
 unfoldable pub left_on : Option Connection → Option Connection
 left_on c = if reads_no_more c then None else option_map (with_output []) c
 
--- what the label of it stands for then
+-- the connection of its label afterwards
 unfoldable pub name_on : ConnId → Option Connection → Option ConnId
 name_on conn c = if reads_no_more c then None else Some conn
 
--- the piece or the end of the event came on the connection, and what this put out was written under the label; no other connection was changed by that
+-- the piece or the end of the event came on the connection, and its output was written under the label; that changed no
+-- other connection
 pub record IsTraced {H : Type 0} (step : Steps H) (event : Event) (conn : ConnId) (old new : Tracing H) (Writes : List ℕ → Type 0) : Type 0 where
   pub mid : State H
   pub came : ComesOn step conn.number event.moment event.piece old.front true mid
@@ -95,12 +98,12 @@ pub record IsTraced {H : Type 0} (step : Steps H) (event : Event) (conn : ConnId
 
 -- ---- the lines
 
--- an event is followed on that connection; where the connection was forgotten, nothing comes of the event
+-- an event is followed on that connection; if the connection was dropped, the event has no effect
 abbrev pub IsFollowedOn : {H : Type 0} → Steps H → Event → Option ConnId → Tracing H → Tracing H → (List ℕ → Type 0) → Type 0
 IsFollowedOn step event None old new Writes = (new ≡ old) × Writes []
 IsFollowedOn step event (Some conn) old new Writes = IsTraced step event conn old new Writes
 
--- the event is followed on the connection that its label stands for
+-- the event is followed on the connection of its label
 pub record IsFollowed {H : Type 0} (step : Steps H) (event : Event) (old new : Tracing H) (Writes : List ℕ → Type 0) : Type 0 where
   pub conn : Option ConnId
   pub mid : Tracing H
@@ -112,7 +115,7 @@ pub record Shown : Type 0 where
   pub event : Event
   pub text : List ℕ
 
--- the lines that are not empty are events; these were followed in order, and what was written for them stands in that order
+-- the lines that are not empty are events; these were followed in order, and what was written for them is in that order
 pub record AreFollowed {H : Type 0} (step : Steps H) (lines : List (List ℕ)) (old : State H) (new : Tracing H) (Writes : List ℕ → Type 0) : Type 0 where
   pub events : List Shown
   pub read : map parse_event (filter is_line_filled lines) ≡ map (λ e. Some e.event) events
@@ -123,12 +126,12 @@ pub record AreFollowed {H : Type 0} (step : Steps H) (lines : List (List ℕ)) (
 abbrev pub AreTracedTo : {H : Type 0} → Steps H → State H → State H → (List ℕ → Type 0) → List (List ℕ) → Type 0
 AreTracedTo step old new Writes lines = (names : Names) × AreFollowed step lines old (record { front = new; names = names }) Writes
 
--- the line is bad, and those in front of it were followed
+-- the line is bad, and those before it were followed
 abbrev pub IsBadBehind : {H : Type 0} → Steps H → State H → State H → (List ℕ → Type 0) → List (List ℕ) → List ℕ → Type 0
 IsBadBehind step old new Writes front line =
     (is_line_filled line ≡ true) × (parse_event line ≡ None) × AreTracedTo step old new Writes front
 
--- no connection can be opened for the line, and those in front of it were followed
+-- no connection can be opened for the line, and those before it were followed
 pub record IsFullBehind {H : Type 0} (step : Steps H) (old new : State H) (Writes : List ℕ → Type 0) (front : List (List ℕ)) (line : List ℕ) : Type 0 where
   pub event : Event
   pub parsed_as : parse_event line ≡ Some event
@@ -136,13 +139,13 @@ pub record IsFullBehind {H : Type 0} (step : Steps H) (old new : State H) (Write
   pub followed : AreFollowed step front old mid Writes
   pub refused : IsUnopenable event.label mid new
 
--- the number of the connection that the label names, or else of the next that is opened
+-- the number of the connection of the label, or else of the next that is opened
 abbrev pub number_or : ℕ → Option (Option ConnId) → ℕ
 number_or next None = next
 number_or next (Some None) = next
 number_or next (Some (Some conn)) = conn.number
 
--- the line is an event, and no connection but that of its label was changed
+-- the line is an event, and only the connection of its label may have changed
 pub record HasBegun {H : Type 0} (line : List ℕ) (old : Tracing H) (new : State H) : Type 0 where
   pub event : Event
   pub parsed_as : parse_event line ≡ Some event
@@ -153,7 +156,7 @@ abbrev pub BeginsOnly : {H : Type 0} → List (List ℕ) → Tracing H → State
 BeginsOnly [] old new = new ≡ old.front
 BeginsOnly (line ∷ lines) old new = (new ≡ old.front) ⊎ HasBegun line old new
 
--- the first of the lines were followed, though of what was written nothing is said; the next one may have begun
+-- the first of the lines were followed, but what was written is not specified; the next one may have begun
 pub record IsBrokenOff {H : Type 0} (step : Steps H) (lines : List (List ℕ)) (old new : State H) : Type 0 where
   pub front : List (List ℕ)
   pub others : List (List ℕ)
@@ -162,8 +165,8 @@ pub record IsBrokenOff {H : Type 0} (step : Steps H) (lines : List (List ℕ)) (
   pub followed : AreFollowed step front old mid IsUnspecified
   pub next : BeginsOnly others mid new
 
--- what comes of the lines: all were followed, or all before the first that is bad or for which no connection can be opened, or the first of
--- them; where the output failed or memory was refused, it broke off
+-- the effect of the lines: all were followed, or all before the first that is bad or for which no connection can be
+-- opened, or the first of them; if the output failed or memory ran out, it broke off
 abbrev pub AreTraced : {H : Type 0} → Steps H → List (List ℕ) → State H → Result Unit Stop → State H → (List ℕ → Type 0) → Type 0
 AreTraced step lines old (Ok done) new Writes = AreTracedTo step old new Writes lines
 AreTraced step lines old (Err (BadPiece number)) new Writes = IsAt number lines (IsBadBehind step old new Writes)
@@ -171,13 +174,14 @@ AreTraced step lines old (Err (TooManyConnections number)) new Writes = IsAt num
 AreTraced step lines old (Err InputFault) new Writes = AreFirst lines (AreTracedTo step old new Writes)
 AreTraced step lines old (Err stop) new Writes = IsBrokenOff step lines old new
 
--- ---- while the lines are gone through
+-- ---- while the lines are performed
 
--- the connections of a trace, as the program keeps them
+-- the connections of a trace, as the program stores them
 abbrev pub tracing : {H : Type 0} → State H → BTreeMap ℕ (Option ConnId) → Tracing H
 tracing front labels = record { front = front; names = get nat_cmp labels }
 
--- no connection stands for the label of the line of that number, and why; it is not out of memory where too many are open
+-- no connection can be opened for the label of the line with that number, and why; it is not out of memory if too many
+-- are open
 abbrev pub IsUnopened : {H : Type 0} → ℕ → ℕ → Tracing H → State H → Stop → Type 0
 IsUnopened number label old new (TooManyConnections at) = (at ≡ number) × IsUnopenable label old new
 IsUnopened number label old new stop = (stop ≡ NoMemory) × (length old.front.connections < old.front.limit)
@@ -187,7 +191,7 @@ IsUnopened number label old new stop = (stop ≡ NoMemory) × (length old.front.
 abbrev pub IsBroken : Stop → Type 0
 IsBroken stop = (stop ≡ OutputFault) ⊎ (stop ≡ NoMemory)
 
--- a line that is empty is passed over
+-- an empty line is skipped
 pub record IsPassed {H : Type 0} (line : List ℕ) (old new : Tracing H) (Writes : List ℕ → Type 0) : Type 0 where
   pub empty : is_line_filled line ≡ false
   pub same : new ≡ old
@@ -200,7 +204,7 @@ pub record IsEventLine {H : Type 0} (step : Steps H) (line : List ℕ) (old new 
   pub parsed_as : parse_event line ≡ Some event
   pub followed : IsFollowed step event old new Writes
 
--- what comes of the line of that number
+-- the effect of the line with that number
 abbrev pub IsLine : {H : Type 0} → Steps H → List ℕ → ℕ → Tracing H → Result Unit Stop → Tracing H → (List ℕ → Type 0) → Type 0
 IsLine step line number old (Ok done) new Writes = IsPassed line old new Writes ⊎ IsEventLine step line old new Writes
 IsLine step line number old (Err (BadPiece at)) new Writes =
@@ -209,7 +213,7 @@ IsLine step line number old (Err (TooManyConnections at)) new Writes =
     (at ≡ number) × ((event : Event) × (parse_event line ≡ Some event) × IsUnopenable event.label old new.front) × Writes []
 IsLine step line number old (Err stop) new Writes = IsBroken stop × ((new.front ≡ old.front) ⊎ HasBegun line old new.front)
 
--- the lines were followed, and so many were counted
+-- the lines were followed, and that many were counted
 pub record AreLinesCounted {H : Type 0} (step : Steps H) (old : State H) (new : Tracing H) (count : ℕ) (Writes : List ℕ → Type 0) (lines : List (List ℕ)) : Type 0 where
   pub counted : count ≡ line_count (length lines)
   pub followed : AreFollowed step lines old new Writes

@@ -1,4 +1,4 @@
-//! Exchanges that stand in the lines of an input.
+//! Exchanges in the lines of an input.
 ghost use Rattle.std.specs.Prelude.{◌≡◌, [], ℕ, List, Option, is_none, true, false, Ok, Err, IfErr, IfSome, OnOk};
 ghost use Rattle.std.specs.Io.KnownBytes.{Appends};
 ghost use Rattle.oai_host.specs.Hosts.{HostState};
@@ -8,7 +8,7 @@ ghost use Rattle.oai_cli.specs.ExchangeLines as spec;
 ghost use Rattle.oai_cli.specs.NumberedLines.{lines_of};
 ghost use Rattle.oai_cli.specs.Stops.{StopsAsking};
 ghost use Rattle.oai_cli.specs.Asked.{AreEnded, IsLineOutcome};
-ghost use Rattle.oai_cli.specs.declared.stop.Stop.TheVariants.{BadExchange, OutputFault};
+ghost use Rattle.oai_startup.specs.declared.stop.Stop.TheVariants.{BadExchange, OutputFault};
 
 pub(crate) mod answers;
 pub(crate) mod exchanges;
@@ -16,21 +16,19 @@ pub(crate) mod exchanges;
 use crate::ask::answers::write_answer;
 use crate::ask::exchanges::parse_exchange;
 use crate::input::lines::Lines;
-use crate::stop::Stop;
 use oai_catalogue::Versions;
 use oai_host::Host;
+use oai_startup::Stop;
 use std::alloc::Global;
 use std::io::{Read, Write};
 
-/// Performs the exchanges that the lines of the input spell, in order, and writes what each is
-/// answered. A line is `<moment> <METHOD> <target>`, and then for a body one space and the body to
-/// the end of the line; an empty line is skipped. The moment is in seconds from 1970 on. An answer
-/// is its status, the seconds to wait and the lines done, as far as it has them, a line end, and its
-/// body.
+/// Performs the exchanges in the lines of the input, in order, and writes their answers. A line is `<moment> <METHOD>
+/// <target>`, and then for a body one space and the body to the end of the line; an empty line is skipped. The moment
+/// is in seconds from 1970 on. An answer is its status, the seconds to wait and the lines done if it has them, a line
+/// end, and its body.
 ///
-/// It stops at the first line that is no exchange, at a fault of the input or the output, at an
-/// input that does not end within 1,000,000 reads, and where memory for a line is refused. What was
-/// answered before stays written.
+/// It stops at the first line that is no exchange, at a fault of the input or the output, at an input that does not end
+/// within 1,000,000 reads, and if memory for a line runs out. What was answered before stays written.
 pub fn ask_lines<V: Versions + Drop, R: Read, W: Write>(
     alloc: Global,
     host: &mut Host<V>,
@@ -71,7 +69,7 @@ fn ask_all<V: Versions + Drop, R: Read, W: Write>(
     Err(Stop::InputFault)
 }
 
-/// Performs the line of that number, where it is not empty.
+/// Performs the line with that number, unless it is empty.
 fn ask_line<V: Versions + Drop, W: Write>(
     host: &mut Host<V>,
     line: &[u8],
@@ -93,7 +91,7 @@ fn ask_line<V: Versions + Drop, W: Write>(
     perform_line(host, line, number, writer)
 }
 
-/// Performs a line of that number, and writes what it is answered.
+/// Performs a line with that number, and writes its answer.
 fn perform_line<V: Versions + Drop, W: Write>(
     host: &mut Host<V>,
     line: &[u8],

@@ -7,7 +7,7 @@ ghost use Rattle.oai_cli.specs.Outputs.{IsUsed, StaysApart, output_of};
 use oai_front::{ConnId, Front, PieceFault};
 use oai_http::Handler;
 
-/// Lets the piece come on the connection, and performs what it completes.
+/// Passes the piece to the connection, and performs what it completes.
 pub(crate) fn take_in<H: Handler>(
     front: &mut Front<H>,
     conn: ConnId,
@@ -21,7 +21,7 @@ pub(crate) fn take_in<H: Handler>(
     front.piece(conn, moment, piece)
 }
 
-/// Forgets the connection.
+/// Drops the connection.
 pub(crate) fn forget_connection<H: Handler>(front: &mut Front<H>, conn: ConnId)
     ensures none { connection_numbered conn.number front.new.connections ≡ None }
     ensures apart { StaysApart conn.number front.old front.new }
@@ -31,7 +31,7 @@ pub(crate) fn forget_connection<H: Handler>(front: &mut Front<H>, conn: ConnId)
     let _ = front.forget(conn);
 }
 
-/// The bytes that the connection writes next; none where there are none, or it is not open.
+/// The bytes that the connection writes next; none if there are none, or it is not open.
 pub(crate) fn next_output<H>(front: &Front<H>, conn: ConnId) -> &[u8]
     ensures front { IsFrontOf result.now (output_of conn.number front.now.connections) }
     ensures has { 0 < length result.now → HasOutput conn.number (length result.now)

@@ -1,4 +1,4 @@
-//! What is true of the definitions: functions that do nothing.
+//! Theorems on the definitions: empty functions.
 ghost use Rattle.std.specs.Prelude.{◌≡◌, ◌≢◌, ◌^◌, ◌<◌, ℕ, ℤ, List, [], Some, decimal, FitsSigned};
 ghost use Rattle.std.specs.Fmt.{signed_decimal};
 ghost use Rattle.std.specs.Int.{w64};
@@ -6,14 +6,14 @@ ghost use Rattle.hex.specs.Hex.{IsBytes};
 ghost use Rattle.oai_http.specs.declared.exchanges.Call.{Call};
 ghost use Rattle.oai_cli.specs.EventLines.{IsTraceable, IsWritableEvent, event_line, parse_event};
 ghost use Rattle.oai_cli.specs.ExchangeLines.{IsSpellable, call_line, parse_exchange};
-ghost use Rattle.oai_cli.specs.Numbers.{moment_of, number_in};
+ghost use Rattle.oai_startup.specs.Numbers.{moment_of, number_in};
 ghost use Rattle.oai_cli.specs.declared.trace.events.Event.{Event};
 
-use crate::input::limits::{MAX_READS, READ_BYTES};
 use crate::trace::MAX_CONNECTIONS;
+use oai_startup::{MAX_READS, READ_BYTES};
 
-/// What is written of a moment, a number, a call and an event is read as that again, and what a trace writes
-/// of a connection can stand in a trace. It is a theorem: the function is empty.
+/// What is written of a moment, a number, a call and an event is parsed as that again, and what a trace writes of a
+/// connection can be the input of a trace. A theorem, proved by an empty function.
 pub fn line_law()
     ensures moments { (moment : ℤ) → FitsSigned w64 moment
         → moment_of (signed_decimal moment) ≡ Some moment }
@@ -24,7 +24,7 @@ pub fn line_law()
         → label < 2 ^ 64 → IsBytes bytes → bytes ≢ [] → IsTraceable moment label bytes }
 {}
 
-/// The limits in numbers, which no other clause has. It is a theorem: the function is empty.
+/// The limits in numbers, which no other clause has. A theorem, proved by an empty function.
 pub fn limit_law()
     ensures reads { MAX_READS ≡ 1_000_000 }
     ensures bytes { READ_BYTES ≡ 65_536 }

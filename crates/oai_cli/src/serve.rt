@@ -1,4 +1,4 @@
-//! A server of HTTP on this machine.
+//! An HTTP server on this machine.
 ghost use Rattle.std.specs.Prelude.{◌≡◌, [], ◌∷◌};
 ghost use Rattle.std.specs.Net.Addr.{ipv4_octets};
 ghost use Rattle.std.specs.Net.Socket.{v4_ip, v4_port};
@@ -7,21 +7,21 @@ pub(crate) mod buffers;
 pub(crate) mod streams;
 
 use crate::serve::streams::serve_stream;
-use crate::stop::Stop;
 use oai_front::Front;
 use oai_http::Handler;
+use oai_startup::Stop;
 use std::alloc::Global;
 use std::io::{self, Read, Write};
 use std::net::{Ipv4Addr, Net, OpenListener, OpenStream, SocketAddr, SocketAddrV4};
 use std::rt::Clock;
 use std::time::Duration;
 
-/// How long a read or a write of a connection may take, in seconds.
+/// The timeout of a read or a write of a connection, in seconds.
 const MAX_SECONDS: u64 = 60;
 
-/// Listens on the port of 127.0.0.1, says so, and serves so many connections, one after the other. At the
-/// port 0 it listens on one that is free. A fault of a connection ends that one alone. The errors are
-/// `SocketFault`, where it cannot listen or accept a connection, and `OutputFault`.
+/// Listens on the port of 127.0.0.1, reports it, and serves that many connections, one after the other. Port 0 means a
+/// free one. A fault of a connection ends only that one. The errors are `SocketFault`, if it cannot listen or accept a
+/// connection, and `OutputFault`.
 pub fn serve_port<R: Net + Clock + Print + AllocGlobal, H: Handler>(
     rt: &R,
     front: &mut Front<H>,
@@ -47,7 +47,7 @@ pub fn serve_port<R: Net + Clock + Print + AllocGlobal, H: Handler>(
     Ok(())
 }
 
-/// The address of the port on this machine alone.
+/// The address of the port on the loopback interface.
 fn local(port: u16) -> SocketAddrV4
     ensures address { ipv4_octets (v4_ip result) ≡ 127 ∷ 0 ∷ 0 ∷ 1 ∷ [] }
     ensures port { v4_port result ≡ port }
@@ -55,7 +55,7 @@ fn local(port: u16) -> SocketAddrV4
     SocketAddrV4::new(Ipv4Addr::LOCALHOST, port)
 }
 
-/// Serves a connection to its end, with limits of time; at a fault it ends.
+/// Serves a connection to its end, with timeouts; it ends at a fault.
 fn serve_accepted<H: Handler, S: Read + Write + OpenStream + Drop, C: Clock>(
     alloc: Global,
     front: &mut Front<H>,
@@ -67,7 +67,7 @@ fn serve_accepted<H: Handler, S: Read + Write + OpenStream + Drop, C: Clock>(
     }
 }
 
-/// Sets the limits of time of the stream; and that it sends without delay.
+/// Sets the timeouts of the stream, and TCP_NODELAY.
 fn limit<S: OpenStream>(stream: &S) -> io::Result<()> {
     let most = Some(Duration::from_secs(MAX_SECONDS));
     stream.set_read_timeout(most)?;

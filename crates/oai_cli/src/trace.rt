@@ -1,4 +1,4 @@
-//! Connections whose bytes stand in the lines of an input.
+//! Connections whose bytes are in the lines of an input.
 ghost use Rattle.std.specs.Prelude.{◌≡◌, None, Some, IfErr, IfSome, OnOk, is_ok};
 ghost use Rattle.std.specs.BTreeMap.{get};
 ghost use Rattle.std.specs.Io.KnownBytes.{Appends};
@@ -8,7 +8,7 @@ ghost use Rattle.oai_cli.specs.NumberedLines.{lines_of};
 ghost use Rattle.oai_cli.specs.Stops.{StopsTracing};
 ghost use Rattle.oai_cli.specs.Traces as spec;
 ghost use Rattle.oai_cli.specs.Traces.{IsBroken, IsLine, tracing};
-ghost use Rattle.oai_cli.specs.declared.stop.Stop.TheVariants.{NoMemory, OutputFault};
+ghost use Rattle.oai_startup.specs.declared.stop.Stop.TheVariants.{NoMemory, OutputFault};
 
 pub(crate) mod events;
 pub(crate) mod labels;
@@ -16,28 +16,27 @@ pub(crate) mod outputs;
 
 use crate::connections::take_in;
 use crate::input::lines::Lines;
-use crate::stop::Stop;
 use crate::trace::events::{Event, parse_event};
 use crate::trace::labels::{Labels, connection_of, report};
 use oai_front::{ConnId, Front};
 use oai_http::Handler;
+use oai_startup::Stop;
 use std::alloc::Global;
 use std::collections::BTreeMap;
 use std::io::{Read, Write};
 
-/// The most connections of a trace that are open at once.
+/// The maximum number of open connections of a trace.
 pub const MAX_CONNECTIONS: usize = 1_024;
 
-/// Performs the lines of the input in order: each is a piece that comes on a connection, or a connection's
-/// end. Writes what each connection would send. A line is `<moment> <label> <hex>` or `<moment> <label> end`;
-/// an empty line is skipped. The moment is in seconds from 1970 on, and a new label, a number below 2^64,
-/// opens a connection.
-/// After each line the new output is written as `<label> <hex>`, and `<label> close` where the connection is
-/// closing; it is forgotten then, and later lines of its label do nothing.
+/// Performs the lines of the input in order: each is a piece that comes on a connection, or a connection's end. Writes
+/// what each connection would send. A line is `<moment> <label> <hex>` or `<moment> <label> end`; an empty line is
+/// skipped. The moment is in seconds from 1970 on, and a new label, a number below 2^64, opens a connection. After each
+/// line the new output is written as `<label> <hex>`, and `<label> close` if the connection is closing; it is then
+/// dropped, and later lines of its label have no effect.
 ///
-/// It stops at the first line that is none of these, at a label for which no connection can be opened, at a fault
-/// of the input or the output, at an input that does not end within 1,000,000 reads, and where memory is
-/// refused. What was written before stays written.
+/// It stops at the first line that is none of these, at a label for which no connection can be opened, at a fault of
+/// the input or the output, at an input that does not end within 1,000,000 reads, and if memory runs out. What was
+/// written before stays written.
 pub fn trace_lines<H: Handler, R: Read, W: Write>(
     alloc: Global,
     front: &mut Front<H>,
@@ -88,7 +87,7 @@ fn trace_all<H: Handler, R: Read, W: Write>(
     Err(Stop::InputFault)
 }
 
-/// Performs the line of that number, where it is not empty.
+/// Performs the line with that number, unless it is empty.
 fn trace_line<H: Handler, W: Write>(
     alloc: Global,
     front: &mut Front<H>,
@@ -133,7 +132,7 @@ fn trace_event<H: Handler, W: Write>(
     report(alloc, front, labels, event.label, conn, writer)
 }
 
-/// Lets the piece, or the end, come on the connection.
+/// Passes the piece, or the end, to the connection.
 fn deliver<H: Handler>(front: &mut Front<H>, conn: ConnId, event: &Event) -> Result<(), Stop>
     ensures came { spec.ComesOn H.step conn.number event.now.moment event.now.piece front.old
         (is_ok result) front.new }
@@ -153,7 +152,7 @@ fn deliver<H: Handler>(front: &mut Front<H>, conn: ConnId, event: &Event) -> Res
     }
 }
 
-/// Takes note of the end of the connection.
+/// Notes the end of the connection.
 fn end<H: Handler>(front: &mut Front<H>, conn: ConnId)
     ensures ended { spec.EndsOn conn.number front.old front.new }
     ensures apart { StaysApart conn.number front.old front.new }

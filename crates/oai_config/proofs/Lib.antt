@@ -5,3 +5,5 @@ pub mod TextLemmas
 pub mod MemberLemmas
 pub mod WordLemmas
 pub mod ShapeLemmas
+pub mod PartLemmas
+pub mod FormatLemmas

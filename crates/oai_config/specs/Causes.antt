@@ -1,4 +1,4 @@
--- What may be wrong with the settings that a text has. The causes and their numbers are this repository's own.
+-- What may be wrong with the settings in a text. The causes and their numbers are this repository's own.
 use Rattle.std.specs.Prelude.{ℕ, Bool, true, false, ◌==◌, ◌||◌, not, nat_lt, List, map, length, Option, is_none}
 use Rattle.std.specs.List.{list_any}
 use Rattle.std.specs.Option.{option_map_or}
@@ -13,7 +13,7 @@ use Rattle.oai_config.specs.declared.host_settings.HostSettings.{HostSettings}
 use Rattle.oai_config.specs.Configs.{is_cache}
 use Rattle.oai_config.specs.Shapes.{told_in}
 
--- a cause that lies in one repository
+-- a cause in one repository
 abbrev pub is_wrong_alone : ReadFault → Settings → Bool
 is_wrong_alone BadShape s = not (has_shape s)
 is_wrong_alone BadName s = not (is_repository_name s.name)
@@ -26,7 +26,7 @@ is_wrong_alone fault s = false
 abbrev pub names_told : List Settings → List (List ℕ)
 names_told repositories = map (λ s. s.name) repositories
 
--- a cause that lies in the whole: no repository, two of one name, a cache out of its range, more than 1,000 repositories
+-- a cause in the whole: no repository, two with one name, a cache out of its range, more than 1,000 repositories
 abbrev pub is_wrong_together : ReadFault → Option ℕ → List Settings → Bool
 is_wrong_together BadShape cache repositories = length repositories == 0
 is_wrong_together DuplicateName cache repositories = has_repeat (names_told repositories)
@@ -34,12 +34,13 @@ is_wrong_together BadNumber cache repositories = not (passes_number is_cache cac
 is_wrong_together TooMany cache repositories = nat_lt 1_000 (length repositories)
 is_wrong_together fault cache repositories = false
 
--- a cause that lies anywhere in the settings: in the whole, or in any repository
+-- a cause anywhere in the settings: in the whole, or in any repository
 abbrev pub is_wrong : ReadFault → HostSettings → Bool
 is_wrong fault told =
     is_wrong_together fault told.cache told.repositories || list_any (is_wrong_alone fault) told.repositories
 
--- a cause that applies to a text; one that is no JSON, or not of the shape, has no settings: then 1 or 2 applies, and of the others none
+-- a cause that applies to a text; one that is no JSON, or does not have the shape, has no settings: then 1 or 2
+-- applies, and none of the others
 abbrev pub applies : ReadFault → List ℕ → Bool
 applies BadJson text = is_none (json_in text)
 applies BadShape text = option_map_or (is_wrong BadShape) (told_in text) true

@@ -1,4 +1,4 @@
--- What reading a configuration answers: the configuration, or the lowest cause that applies anywhere in the text.
+-- The result of reading a configuration: the configuration, or the lowest cause that applies anywhere in the text.
 use Rattle.std.specs.Prelude.{◌≡◌, ◌<◌, ℕ, Bool, true, false, List, codes, Some, Result, Ok, Err}
 use Rattle.std.specs.List.{AllZip}
 use Rattle.oai_deposit.specs.Json.{TakesMemory}
@@ -11,16 +11,16 @@ use Rattle.oai_config.specs.Configs.{NamedConfig, HostConfig}
 use Rattle.oai_config.specs.Causes.{applies, fault_number}
 use Rattle.oai_config.specs.Shapes.{told_in}
 
--- the repository is of that name, and configured by the settings
+-- the repository has that name, and is configured by the settings
 pub record HasSettings (settings : Settings) (entry : NamedConfig) : Type 0 where
   pub name : entry.name ≡ settings.name
   pub config : Configures settings entry.config
 
--- so is each, in the order of the text
+-- the same of each, in the order of the text
 abbrev pub HaveSettings : List Settings → List NamedConfig → Type 0
 HaveSettings settings entries = AllZip HasSettings settings entries
 
--- the text has settings to which no cause applies, and the configuration is of these
+-- the text has settings to which no cause applies, and the configuration is made of these
 pub record IsConfigOf (text : List ℕ) (config : HostConfig) : Type 0 where
   pub told : HostSettings
   pub tells : told_in text ≡ Some told
@@ -28,12 +28,12 @@ pub record IsConfigOf (text : List ℕ) (config : HostConfig) : Type 0 where
   pub cache : told.cache ≡ Some config.cache
   pub repositories : HaveSettings told.repositories config.repositories
 
--- of the causes the fault applies, and none of a lower number
+-- of the causes the fault applies, and none with a lower number
 pub record IsLowest (causes : ReadFault → Bool) (fault : ReadFault) : Type 0 where
   pub applies : causes fault ≡ true
   pub lowest : (other : ReadFault) → fault_number other < fault_number fault → causes other ≡ false
 
--- what reading a text answers; memory may be refused where some is taken, for a text in UTF-8 that is not empty
+-- the result of reading a text; out of memory is possible for a text in UTF-8 that is not empty
 abbrev pub IsRead : List ℕ → Result HostConfig ReadFault → Type 0
 IsRead text (Ok config) = IsConfigOf text config
 IsRead text (Err NoMemory) = TakesMemory text

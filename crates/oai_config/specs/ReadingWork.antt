@@ -1,16 +1,21 @@
--- What the calls give that the reading of a text is made of, step by step. Words that tie the code to the definitions; the contract of the whole
--- (`Reading`) needs none of them.
-use Rattle.std.specs.Prelude.{◌≡◌, ◌||◌, ℕ, Bool, false, nat_le, if◌then◌else◌, List, Option, Some, None, is_none, Result, Ok, Err}
+-- What the calls give that the reading of a text is made of, step by step. Words that tie the code to the definitions;
+-- the contract of the whole (`Reading`) needs none of them.
+use Rattle.std.specs.Prelude.{◌≡◌, ◌||◌, ℕ, Bool, false, nat_le, if◌then◌else◌, List, Option, Some, None, is_none, codes, Result, Ok, Err}
 use Rattle.std.specs.List.{list_any}
-use Rattle.oai_deposit.specs.Json.{TakesMemory, json_in}
+use Rattle.serde_json.specs.Data.{Data}
+use Rattle.oai_names.specs.Optional.{◌>>=◌}
+use Rattle.oai_deposit.specs.Json.{TakesMemory, json_in, number_at, text_at, texts_at}
 use Rattle.oai_settings.specs.declared.settings.ConfigFault.{ConfigFault}
 use Rattle.oai_settings.specs.declared.settings.ConfigFault.TheVariants as alone
+use Rattle.oai_settings.specs.declared.settings.FormatSettings.{FormatSettings}
 use Rattle.oai_settings.specs.declared.settings.Settings.{Settings}
 use Rattle.oai_config.specs.declared.faults.ReadFault.{ReadFault}
 use Rattle.oai_config.specs.declared.faults.ReadFault.TheVariants.{BadJson, BadShape, BadName, DuplicateName, BadFormat, BadDate, BadNumber, TooMany, NoMemory}
 use Rattle.oai_config.specs.declared.host_settings.HostSettings.{HostSettings}
+use Rattle.oai_config.specs.declared.repositories.Rules.{Rules}
+use Rattle.oai_config.specs.declared.repositories.Texts.{Texts}
 use Rattle.oai_config.specs.Configs.{NamedConfig, HostConfig}
-use Rattle.oai_config.specs.Shapes.{told_in}
+use Rattle.oai_config.specs.Shapes.{deleted_at, granularity_at, told_in}
 use Rattle.oai_config.specs.Causes.{is_wrong_alone, is_wrong_together, is_wrong, fault_number}
 use Rattle.oai_config.specs.Reading.{HasSettings, HaveSettings, IsLowest}
 
@@ -28,6 +33,50 @@ GivesRead (Ok x) reading = reading ≡ Some x
 GivesRead (Err BadShape) reading = reading ≡ None
 GivesRead (Err NoMemory) reading = Unit {0}
 GivesRead (Err fault) reading = ⊥
+
+-- the texts of two members
+abbrev pub two_texts : List ℕ → List ℕ → Data → Option (List ℕ × List ℕ)
+two_texts first second d = do
+  one ← text_at first d
+  other ← text_at second d
+  Some (one, other)
+
+-- the texts of a repository, from these members
+unfoldable pub texts_from : Data → Option Texts
+texts_from d = do
+  name ← text_at (codes "name") d
+  repository_name ← text_at (codes "repositoryName") d
+  addresses ← texts_at (codes "adminEmail") d
+  earliest ← text_at (codes "earliestDatestamp") d
+  Some (record { name = name; repository_name = repository_name; addresses = addresses; earliest = earliest })
+
+-- its policies and its limits, from these
+unfoldable pub rules_from : Data → Option Rules
+rules_from d = do
+  deleted ← deleted_at d
+  granularity ← granularity_at d
+  chunk ← number_at (codes "chunk") d
+  lifetime ← number_at (codes "lifetime") d
+  lists ← number_at (codes "lists") d
+  items ← number_at (codes "items") d
+  Some (record { deleted = deleted; granularity = granularity; chunk = chunk; lifetime = lifetime; lists = lists; items = items })
+
+-- its settings, of these parts
+abbrev pub settings_with : List ℕ → Texts → Rules → List FormatSettings → Settings
+settings_with base texts rules formats = record {
+  base = base;
+  name = texts.name;
+  repository_name = texts.repository_name;
+  addresses = texts.addresses;
+  earliest = texts.earliest;
+  deleted = rules.deleted;
+  granularity = rules.granularity;
+  chunk = rules.chunk;
+  lifetime = rules.lifetime;
+  lists = rules.lists;
+  items = rules.items;
+  formats = formats;
+}
 
 -- the settings that the text has, or why it has none
 abbrev pub IsJsonText : List ℕ → Result HostSettings ReadFault → Type 0
@@ -82,7 +131,8 @@ HasSettingsOr settings (Err fault) = IsLowest (λ cause. is_wrong_alone cause se
 abbrev pub or_alone : (ReadFault → Bool) → List Settings → ReadFault → Bool
 or_alone causes settings cause = causes cause || list_any (is_wrong_alone cause) settings
 
--- the repositories of the settings, where there are no causes; or the lowest of those and of the faults in any repository
+-- the repositories of the settings, where there are no causes; or the lowest of those and of the faults in any
+-- repository
 abbrev pub AreMade : (ReadFault → Bool) → List Settings → Result (List NamedConfig) ReadFault → Type 0
 AreMade causes settings (Ok entries) = ((fault : ReadFault) → or_alone causes settings fault ≡ false) × HaveSettings settings entries
 AreMade causes settings (Err NoMemory) = Unit {0}

@@ -1,5 +1,5 @@
--- The settings that the JSON object of a configuration has, where its members are of their kinds (RFC 8259, sections 3 to 7). The members are this
--- repository's own.
+-- The settings of the JSON object of a configuration, if its members are of their kinds (RFC 8259, sections 3 to 7).
+-- The members are this repository's own.
 use Rattle.std.specs.Prelude.{ℕ, List, [], ◌∷◌, codes, Option, Some}
 use Rattle.std.specs.List.{find}
 use Rattle.std.specs.Str.{bytes_eq}
@@ -38,24 +38,25 @@ format_in d = tested (has_members format_members) d >>= format_from
 
 -- ---- a repository
 
--- what is kept of deleted records, by its word in an answer to Identify (OAI-PMH 2.0, sections 2.5.1 and 4.2)
+-- the policy on deleted records, by its word in an answer to Identify (OAI-PMH 2.0, sections 2.5.1 and 4.2)
 unfoldable pub deleted_of : List ℕ → Option DeletedRecord
 deleted_of text = find (λ (deleted : DeletedRecord). bytes_eq text (deleted_text deleted)) (No ∷ Transient ∷ Persistent ∷ [])
 
--- what is kept of deleted records, from the member `deletedRecord`
+-- the policy on deleted records, from the member `deletedRecord`
 unfoldable pub deleted_at : Data → Option DeletedRecord
 deleted_at d = text_at (codes "deletedRecord") d >>= deleted_of
 
--- the word for how fine the datestamps are: this repository's own, and not what OAI-PMH 2.0, section 2.7.1, writes
+-- the word for the granularity of the datestamps: this repository's own, and not what OAI-PMH 2.0, section 2.7.1,
+-- writes
 abbrev pub granularity_word : Granularity → List ℕ
 granularity_word Day = codes "days"
 granularity_word Second = codes "seconds"
 
--- how fine they are, by that word
+-- the granularity, by that word
 unfoldable pub granularity_of : List ℕ → Option Granularity
 granularity_of text = find (λ (granularity : Granularity). bytes_eq text (granularity_word granularity)) (Day ∷ Second ∷ [])
 
--- how fine the datestamps are, from the member `granularity`
+-- the granularity, from the member `granularity`
 unfoldable pub granularity_at : Data → Option Granularity
 granularity_at d = text_at (codes "granularity") d >>= granularity_of
 
@@ -98,7 +99,7 @@ settings_from base d = do
     formats = formats;
   })
 
--- the object of these members, and no other
+-- the object with exactly these members
 unfoldable pub settings_of : List ℕ → Data → Option Settings
 settings_of base d = tested (has_members repository_members) d >>= settings_from base
 
@@ -130,6 +131,6 @@ told_of d = tested (has_members host_members) d >>= told_from
 
 -- ---- the text
 
--- the settings that the text has, where it is JSON of the shape
+-- the settings in the text, if it is JSON with the shape
 unfoldable pub told_in : List ℕ → Option HostSettings
 told_in text = json_in text >>= told_of

@@ -1,5 +1,5 @@
--- What of a configuration makes documents invalid by the schema of OAI-PMH, or is of no use to a harvester; and what is said of it. The texts are
--- this repository's own.
+-- Warnings: what in a configuration makes documents invalid by the schema of OAI-PMH, or is of no use to a harvester,
+-- and their texts. The texts are this repository's own.
 use Rattle.std.specs.Prelude.{ℕ, Bool, false, ◌==◌, ◌||◌, ◌&&◌, not, nat_lt, if◌then◌else◌, List, [], ◌∷◌, ◌++◌, length, take, codes}
 use Rattle.std.specs.List.{flat_map, list_all, list_any, before_first, after_first}
 use Rattle.std.specs.Char.{to_ascii_lowercase}
@@ -11,7 +11,8 @@ use Rattle.oai_config.specs.Configs.{HostConfig, NamedConfig}
 
 -- ---- what a value should be
 
--- a scheme of the Web (RFC 9110, sections 4.2.1 and 4.2.2), by which harvesters ask (OAI-PMH 2.0, section 3.1.1)
+-- a scheme of the Web (RFC 9110, sections 4.2.1 and 4.2.2), by which harvesters send requests (OAI-PMH 2.0, section
+-- 3.1.1)
 abbrev pub is_web_scheme : List ℕ → Bool
 is_web_scheme scheme = bytes_eq scheme (codes "http") || bytes_eq scheme (codes "https")
 
@@ -35,7 +36,7 @@ is_at b = b == 64
 abbrev pub is_dot : ℕ → Bool
 is_dot b = b == 46
 
--- there is something before the first dot, and behind it
+-- there is something before the first dot, and after it
 unfoldable pub has_two_parts : List ℕ → Bool
 has_two_parts host = not (length (before_first is_dot host) == 0) && not (length (after_first is_dot host) == 0)
 
@@ -44,21 +45,22 @@ unfoldable pub is_address : List ℕ → Bool
 is_address text =
     not (has_space text) && not (length (before_first is_at text) == 0) && has_two_parts (after_first is_at text)
 
--- the namespace is none of those of XML (Namespaces in XML 1.0, section 3) and of OAI-PMH itself (OAI-PMH 2.0, section 3.2)
+-- the namespace is none of those of XML (Namespaces in XML 1.0, section 3) and of OAI-PMH itself (OAI-PMH 2.0, section
+-- 3.2)
 abbrev pub is_free : List ℕ → Bool
 is_free namespace =
     not (bytes_eq namespace (codes "http://www.w3.org/XML/1998/namespace"))
     && not (bytes_eq namespace (codes "http://www.w3.org/2000/xmlns/"))
     && not (bytes_eq namespace (codes "http://www.openarchives.org/OAI/2.0/"))
 
--- the name begins with (X|x)(M|m)(L|l), which is kept for XML itself (XML 1.0, section 2.3)
+-- the name begins with (X|x)(M|m)(L|l), which is reserved for XML itself (XML 1.0, section 2.3)
 unfoldable pub is_xml_name : List ℕ → Bool
 is_xml_name (x ∷ m ∷ l ∷ name) = to_ascii_lowercase x == 120 && to_ascii_lowercase m == 109 && to_ascii_lowercase l == 108
 is_xml_name name = false
 
--- ---- what is said of one that is not
+-- ---- the warnings
 
--- what something is, and its name
+-- the kind of a thing, and its name
 unfoldable pub named : List ℕ → List ℕ → List ℕ
 named what name = what ++ name ++ codes ": "
 
@@ -74,11 +76,11 @@ warning name what = named (codes "warning: repository ") name ++ line what
 unfoldable pub format_warning : List ℕ → List ℕ → List ℕ → List ℕ
 format_warning name prefix what = named (codes "warning: repository ") name ++ named (codes "format ") prefix ++ line what
 
--- the line, where something does not pass
+-- the line, unless the test passes
 abbrev pub warning_unless : Bool → List ℕ → List ℕ → List ℕ
 warning_unless passes name what = if passes then [] else warning name what
 
--- so of a format
+-- the same, of a format
 abbrev pub format_warning_unless : Bool → List ℕ → Format → List ℕ → List ℕ
 format_warning_unless passes name format what = if passes then [] else format_warning name format.prefix what
 

@@ -1,4 +1,4 @@
--- The JSON object that a configuration is written as. RFC 8259, sections 4 to 7.
+-- The JSON object that is written for a configuration. RFC 8259, sections 4 to 7.
 use Rattle.std.specs.Prelude.{◌≡◌, ◌↔◌, ℕ, true, List, map, codes, Option, Some}
 use Rattle.std.specs.List.{AllZip}
 use Rattle.serde_json.specs.Data.{Data, Num, string, number}
@@ -17,7 +17,7 @@ use Rattle.oai_config.specs.Shapes.{granularity_word, told_of}
 abbrev pub HasText : List ℕ → List ℕ → Data → Type 0
 HasText name text d = get name d ≡ Some (string text)
 
--- a number: that one, or where there is none any other than those of 64 bits, whole and not negative
+-- a number: that one, or if there is none any other than those of 64 bits, whole and not negative
 abbrev pub HasNumber : List ℕ → Option ℕ → Data → Type 0
 HasNumber name n d = (m : Num) × (get name d ≡ Some (number m)) × (as_u64 m ≡ n)
 
@@ -25,7 +25,7 @@ HasNumber name n d = (m : Num) × (get name d ≡ Some (number m)) × (as_u64 m 
 abbrev pub HasTexts : List ℕ → List (List ℕ) → Data → Type 0
 HasTexts name texts d = get name d ≡ Some (array_of (map string texts))
 
--- a list of values, as each of which one is written, in order
+-- a list of values, one written for each, in order
 abbrev pub HasList : {A : Type 0} → List ℕ → (A → Data → Type 0) → List A → Data → Type 0
 HasList name IsWritten xs d = (ds : List Data) × (get name d ≡ Some (array_of ds)) × AllZip IsWritten xs ds
 
@@ -62,6 +62,6 @@ pub record IsHost (base : List ℕ) (told : HostSettings) (d : Data) : Type 0 wh
   pub repositories : HasList (codes "repositories") (IsRepository base) told.repositories d
   pub no_other : size d ≡ 3
 
--- the law of the shape: a value has these settings exactly where it is the object that they are written as, on some base
+-- the law of the shape: a value has these settings exactly if it is the object that is written for them, on some base
 abbrev pub ConfigShapeLaw : Type 0
 ConfigShapeLaw = (d : Data) (told : HostSettings) → (told_of d ≡ Some told) ↔ ((base : List ℕ) × IsHost base told d)

@@ -13,13 +13,13 @@ use oai_settings::{RepoConfig, Settings};
 use std::alloc::{AllocError, Global};
 use std::collections::BTreeSet;
 
-/// The most pages that the cache holds.
+/// The maximum number of pages in the cache.
 const MAX_CACHE: u64 = 65_536;
 
-/// The most repositories.
+/// The maximum number of repositories.
 const MAX_REPOSITORIES: usize = 1_000;
 
-/// The pages of the cache, where no fault lies in the whole; or the lowest that lies in it and in no
+/// The pages of the cache, if there is no fault in the whole; otherwise the lowest fault that is in the whole and in no
 /// repository alone.
 #[tactic(auto, unfolding(crate::specs::ReadingWork::first_together))]
 pub(crate) fn check_together(
@@ -44,7 +44,7 @@ pub(crate) fn check_together(
     Ok(Ok(pages))
 }
 
-/// Whether a name stands twice. The error is out of memory.
+/// Whether a name occurs twice. The error is out of memory.
 fn has_repeat(alloc: Global, repositories: &[Settings]) -> Result<bool, AllocError>
     ensures { IfOk result (λ repeat. repeat ≡ has_repeat (spec.names_told repositories.now)) }
 {
@@ -57,7 +57,7 @@ fn has_repeat(alloc: Global, repositories: &[Settings]) -> Result<bool, AllocErr
     Ok(false)
 }
 
-/// The number, where it is one of pages that the cache may hold.
+/// The number of pages, if the cache may have that many.
 fn pages_of(cache: Option<u64>) -> Option<u64>
     ensures { result ≡ (if passes_number rule.is_cache cache then cache else None) }
 {
@@ -67,8 +67,7 @@ fn pages_of(cache: Option<u64>) -> Option<u64>
     }
 }
 
-/// The repositories, in order; or the lowest of the fault that was found and of those that lie in
-/// any repository.
+/// The repositories, in order; or the lowest of the fault that was found and of those in any repository.
 pub(crate) fn each_named(
     alloc: Global,
     found: Option<ReadFault>,
@@ -92,7 +91,7 @@ pub(crate) fn each_named(
     }
 }
 
-/// The one of the lower number.
+/// The one with the lower number.
 fn lower(lowest: Option<ReadFault>, fault: ReadFault) -> ReadFault
     ensures { result ≡ lower lowest fault }
 {
@@ -102,7 +101,7 @@ fn lower(lowest: Option<ReadFault>, fault: ReadFault) -> ReadFault
     }
 }
 
-/// The repository of these settings, or the lowest fault that lies in them.
+/// The repository of these settings, or their lowest fault.
 fn named_of(alloc: Global, settings: Settings) -> Result<NamedConfig, ReadFault>
     ensures { HasSettingsOr settings result }
 {

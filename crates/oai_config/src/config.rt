@@ -28,8 +28,8 @@ impl Model for NamedConfig {
     ghost view = { λ h. record { name = h.name; config = h.config } };
 }
 
-/// The configuration of a host: the pages that its cache holds, 1 to 65,536, and 1 to 1,000
-/// repositories, no two of which have one name.
+/// The configuration of a host: the capacity of its cache, 1 to 65,536 pages, and 1 to 1,000 repositories with distinct
+/// names.
 #[derive(Debug, Drop)]
 pub struct Config {
     cache: u64,
@@ -49,10 +49,9 @@ impl Model for Config {
 }
 
 impl Config {
-    /// Parses the configuration, a JSON object (RFC 8259) of just its members. Of the
-    /// faults 1 to 8 that apply anywhere in the text the lowest is the error; or it is `NoMemory`,
-    /// which may come in place of any other, but not for a text that is empty or not in UTF-8. Of
-    /// two members of one name the last counts.
+    /// Parses the configuration, a JSON object (RFC 8259) with exactly its members. The error is the lowest of the
+    /// faults 1 to 8 that apply anywhere in the text; or it is `NoMemory`, which may come in place of any other, but
+    /// not for a text that is empty or not in UTF-8. Of two members with one name the last counts.
     #[tactic(auto, unfolding(crate::specs::Shapes::told_in))]
     pub fn read(alloc: Global, text: &[u8]) -> Result<Config, ReadFault>
         ensures { IsRead text.now result }
@@ -85,7 +84,7 @@ impl Config {
         self.repositories.as_slice().len()
     }
 
-    /// How many pages the cache holds: 1 to 65,536.
+    /// The capacity of the cache in pages: 1 to 65,536.
     pub fn cache(&self) -> u64
         ensures number { result ≡ self.now.cache }
         ensures valid { IsHostConfig self.now }
@@ -100,7 +99,7 @@ impl Config {
         self.repositories.as_slice()
     }
 
-    /// The repositories, in the order of the text. It takes no memory.
+    /// The repositories, in the order of the text. Allocates nothing.
     pub fn into_repositories(self) -> Sequence<NamedConfig>
         ensures repositories { result ≡ self.repositories }
         ensures named { AreNamed (names_of self.repositories) }

@@ -10,34 +10,32 @@ use std::alloc::{AllocError, AllocFailed};
 use std::error::Error;
 use std::fmt;
 
-/// Why a text is no configuration. Each cause is looked for in the whole text, and of those that
-/// apply the one of the lowest number is returned; out of memory apart, which may come wherever
-/// memory is taken.
+/// Why a text is no configuration. Each cause is tested over the whole text, and the lowest number that applies is
+/// returned; only `NoMemory` may come wherever memory is allocated.
 #[derive(Clone, Copy, Debug, PartialEq, Eq)]
 pub enum ReadFault {
-    /// The text is not in UTF-8, or no JSON (RFC 8259). Number 1.
+    /// The text is not in UTF-8, or not JSON (RFC 8259). Number 1.
     BadJson,
-    /// A member is missing, unknown or of another kind; the base, the name for people or an address
-    /// is not of 1 to 512 bytes, or has a character that no XML document may hold (XML 1.0, section
-    /// 2.2); there are not 1 to 16 addresses; what is kept of deleted records is not `no`,
-    /// `transient` or `persistent`; the granularity is not `days` or `seconds`; or there is no
-    /// repository. Number 2.
+    /// A member is missing, unknown or of another kind; the base, the repositoryName or an address does not have 1 to
+    /// 512 bytes, or has a character that no XML document may hold (XML 1.0, section 2.2); there are not 1 to 16
+    /// addresses; the policy on deleted records is not `no`, `transient` or `persistent`; the granularity is not `days`
+    /// or `seconds`; or there is no repository. Number 2.
     BadShape,
-    /// A name is not of 1 to 32 of `a` to `z`, `0` to `9` and `-`. Number 3.
+    /// A name is not 1 to 32 of `a` to `z`, `0` to `9` and `-`. Number 3.
     BadName,
     /// Two repositories have one name. Number 4.
     DuplicateName,
-    /// A format breaks the rules of formats, a prefix stands twice in a repository or is oai_dc, or
-    /// a repository has more than 63 formats. Number 5.
+    /// A format violates the rules of formats, a prefix occurs twice in a repository or is oai_dc, or a repository has
+    /// more than 63 formats. Number 5.
     BadFormat,
-    /// An earliest datestamp is not written in just the granularity of its repository, is no date
-    /// that there is, or is not of the years 0001 to 9998. Number 6.
+    /// An earliestDatestamp is not written at exactly the granularity of its repository, is no date that exists, or is
+    /// not in the years 0001 to 9998. Number 6.
     BadDate,
     /// A number is not whole, is negative, or is out of its range. Number 7.
     BadNumber,
     /// There are more than 1,000 repositories. Number 8.
     TooMany,
-    /// What the text has could not be stored. Number 9.
+    /// Out of memory. Number 9.
     NoMemory,
 }
 
@@ -59,7 +57,7 @@ impl ReadFault {
         }
     }
 
-    /// The fault's number and name, as `4 DuplicateName`.
+    /// The fault's number and name, such as `4 DuplicateName`.
     pub fn answer(self) -> &'static str
         ensures { result.now ≡ read_fault_text self }
     {
@@ -90,8 +88,8 @@ impl fmt::Display for ReadFault {
 
 impl Error for ReadFault {}
 
-/// A fault of a repository alone has in a whole text the number and the name that it has by itself. A
-/// theorem, proved by an empty function.
+/// A fault of one repository has the same number and name in a whole text as by itself. A theorem, proved by an empty
+/// function.
 pub fn fault_law()
     ensures { (fault : alone.ConfigFault) → settings.fault_text fault ≡ read_fault_text (read_fault_of fault) }
 {}

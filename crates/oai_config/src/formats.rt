@@ -5,7 +5,7 @@ ghost use Rattle.oai_config.specs.Shapes as shape;
 ghost use Rattle.oai_config.specs.ReadingWork.{GivesRead};
 
 use crate::faults::ReadFault;
-use crate::members::{read_text, read_texts};
+use crate::members::{read_texts, read_two};
 use oai_deposit::has_members;
 use oai_names::Sequence;
 use oai_settings::FormatSettings;
@@ -35,11 +35,13 @@ fn read_format(alloc: Global, value: &Value) -> Result<FormatSettings, ReadFault
     if !has_members(value, &["prefix", "schema", "namespace", "root", "fields"]) {
         return Err(ReadFault::BadShape);
     }
+    let (prefix, schema) = read_two(alloc, value, "prefix", "schema")?;
+    let (namespace, root) = read_two(alloc, value, "namespace", "root")?;
     Ok(FormatSettings {
-        prefix: read_text(alloc, value, "prefix")?,
-        schema: read_text(alloc, value, "schema")?,
-        namespace: read_text(alloc, value, "namespace")?,
-        root: read_text(alloc, value, "root")?,
+        prefix,
+        schema,
+        namespace,
+        root,
         fields: read_texts(alloc, value, "fields")?,
     })
 }

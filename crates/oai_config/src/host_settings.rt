@@ -13,24 +13,24 @@ use oai_settings::Settings;
 use serde_json::Value;
 use std::alloc::Global;
 
-/// The settings of a host, before they are checked.
+/// The settings of a host, not yet validated.
 #[derive(Drop)]
 pub(crate) struct HostSettings {
-    /// The pages that the cache holds: 1 to 65,536. None where a number was given that does not fit 64
-    /// bits, is not whole, or is negative.
+    /// The capacity of the cache in pages: 1 to 65,536. None if the given number does not fit 64 bits, is not whole, or
+    /// is negative.
     pub cache: Option<u64>,
     /// The settings of each repository, in the order of the text: 1 to 1,000 of them.
     pub repositories: Sequence<Settings>,
 }
 
-/// The law of the shape: the settings of a host are parsed from the JSON object that they are written as,
-/// on some base, and from no other value. A theorem, proved by an empty function.
+/// The law of the shape: the settings of a host are parsed from exactly the JSON objects that are written for them, on
+/// some base. A theorem, proved by an empty function.
 pub fn shape_law()
     ensures { ConfigShapeLaw }
 {}
 
-/// The settings that the text has: `BadJson` where it is no JSON text, `BadShape` where that is not of the
-/// shape of a configuration.
+/// The settings in the text. The errors: `BadJson` if it is no JSON text, `BadShape` if that does not have the shape of
+/// a configuration.
 pub(crate) fn told_in(alloc: Global, text: &[u8]) -> Result<HostSettings, ReadFault>
     ensures { IsJsonText text.now result }
 {
@@ -40,8 +40,7 @@ pub(crate) fn told_in(alloc: Global, text: &[u8]) -> Result<HostSettings, ReadFa
     }
 }
 
-/// The settings that an object of exactly the members of a configuration has; `BadShape` at any other
-/// value.
+/// The settings of an object with exactly the members of a configuration; `BadShape` for any other value.
 #[tactic(auto, unfolding(crate::specs::Shapes::told_of))]
 fn told_of(alloc: Global, value: &Value) -> Result<HostSettings, ReadFault>
     ensures { GivesRead result (shape.told_of (view value.now)) }

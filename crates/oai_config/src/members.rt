@@ -3,7 +3,7 @@ ghost use Rattle.serde_json.specs.Find.{as_str};
 ghost use Rattle.serde_json.specs.View.{view};
 ghost use Rattle.oai_names.specs.Optional.{each_of};
 ghost use Rattle.oai_deposit.specs.Json as json;
-ghost use Rattle.oai_config.specs.ReadingWork.{GivesRead, GivesView};
+ghost use Rattle.oai_config.specs.ReadingWork.{GivesRead, GivesView, two_texts};
 
 use crate::faults::ReadFault;
 use oai_deposit::{elements_at, number_at, text_at};
@@ -19,6 +19,20 @@ pub(crate) fn read_text(alloc: Global, value: &Value, name: &str) -> Result<Text
         Some(text) => Ok(Text::new(alloc, text)?),
         None => Err(ReadFault::BadShape),
     }
+}
+
+/// A copy of the texts of the members of two names; `BadShape` where one of them is no such string.
+pub(crate) fn read_two(
+    alloc: Global,
+    value: &Value,
+    first: &str,
+    second: &str,
+) -> Result<(Text, Text), ReadFault>
+    ensures { GivesRead result (two_texts first.now second.now (view value.now)) }
+{
+    let first = read_text(alloc, value, first)?;
+    let second = read_text(alloc, value, second)?;
+    Ok((first, second))
 }
 
 /// The number of the member of that name, None where it is none of 64 bits that is whole and not

@@ -3,7 +3,7 @@ ghost use Rattle.oai_deposit.specs.Json.{has_members};
 ghost use Rattle.serde_json.specs.View.{view};
 ghost use Rattle.oai_names.specs.Optional.{each_of};
 ghost use Rattle.oai_config.specs.Shapes as shape;
-ghost use Rattle.oai_config.specs.ReadingWork.{GivesView, GivesRead};
+ghost use Rattle.oai_config.specs.ReadingWork.{GivesView, GivesRead, rules_from, texts_from};
 
 use crate::faults::ReadFault;
 use crate::formats::each_format;
@@ -57,25 +57,70 @@ fn settings_of(alloc: Global, base: &str, value: &Value) -> Result<Settings, Rea
     if !is_repository(value) {
         return Err(ReadFault::BadShape);
     }
-    let deleted = deleted_at(value)?;
-    let granularity = granularity_at(value)?;
-    let chunk = read_number(value, "chunk")?;
-    let lifetime = read_number(value, "lifetime")?;
-    let lists = read_number(value, "lists")?;
-    let items = read_number(value, "items")?;
+    let rules = rules_of(value)?;
+    let texts = texts_of(alloc, value)?;
+    let formats = formats_at(alloc, value)?;
     Ok(Settings {
         base: Text::new(alloc, base)?,
+        name: texts.name,
+        repository_name: texts.repository_name,
+        addresses: texts.addresses,
+        earliest: texts.earliest,
+        deleted: rules.deleted,
+        granularity: rules.granularity,
+        chunk: rules.chunk,
+        lifetime: rules.lifetime,
+        lists: rules.lists,
+        items: rules.items,
+        formats,
+    })
+}
+
+/// The texts of a repository's settings.
+#[derive(Drop)]
+struct Texts {
+    name: Text,
+    repository_name: Text,
+    addresses: Sequence<Text>,
+    earliest: Text,
+}
+
+/// The texts that the members of a repository have; `BadShape` where one of them is of another kind.
+#[tactic(auto, unfolding(crate::specs::ReadingWork::texts_from))]
+fn texts_of(alloc: Global, value: &Value) -> Result<Texts, ReadFault>
+    ensures { GivesRead result (texts_from (view value.now)) }
+{
+    Ok(Texts {
         name: read_text(alloc, value, "name")?,
         repository_name: read_text(alloc, value, "repositoryName")?,
         addresses: read_texts(alloc, value, "adminEmail")?,
         earliest: read_text(alloc, value, "earliestDatestamp")?,
-        deleted,
-        granularity,
-        chunk,
-        lifetime,
-        lists,
-        items,
-        formats: formats_at(alloc, value)?,
+    })
+}
+
+/// What a repository's settings say of its deleted records, its datestamps and its limits.
+#[derive(Clone, Copy)]
+struct Rules {
+    deleted: DeletedRecord,
+    granularity: Granularity,
+    chunk: Option<u64>,
+    lifetime: Option<u64>,
+    lists: Option<u64>,
+    items: Option<u64>,
+}
+
+/// What the members of a repository say of these; `BadShape` where one of them is of another kind.
+#[tactic(auto, unfolding(crate::specs::ReadingWork::rules_from))]
+fn rules_of(value: &Value) -> Result<Rules, ReadFault>
+    ensures { GivesView (λ rules. rules) result (rules_from (view value.now)) }
+{
+    Ok(Rules {
+        deleted: deleted_at(value)?,
+        granularity: granularity_at(value)?,
+        chunk: read_number(value, "chunk")?,
+        lifetime: read_number(value, "lifetime")?,
+        lists: read_number(value, "lists")?,
+        items: read_number(value, "items")?,
     })
 }
 

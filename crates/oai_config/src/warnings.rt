@@ -1,4 +1,4 @@
-//! What of a configuration makes documents invalid by the schema of OAI-PMH, or is of no use to a harvester.
+//! Warnings: what in a configuration makes documents invalid by the schema of OAI-PMH, or is of no use to a harvester.
 ghost use Rattle.std.specs.Prelude.{◌≡◌, OnOk, true, false};
 ghost use Rattle.std.specs.List.{flat_map, list_all};
 ghost use Rattle.std.specs.String.{string_bytes};
@@ -12,8 +12,9 @@ use oai_item::Format;
 use oai_names::{Text, may_be_identifier};
 use std::alloc::AllocError;
 
-/// Appends the warnings of a configuration, each a line: for each repository in order, of its base URL, its addresses, and its
-/// formats, for each of these of the schema, the namespace and the root. Nothing where all is well. The error is out of memory.
+/// Appends the warnings of a configuration, each a line: for each repository in order, of its base URL, its addresses,
+/// and its formats, for each of these of the schema, the namespace and the root. Nothing if all is well. The error is
+/// out of memory.
 pub fn write_warnings(config: &Config, out: &mut String) -> Result<(), AllocError>
     ensures { OnOk result (Appends (string_bytes out.old) (string_bytes out.new)
         (spec.warnings_of config.now)) }
@@ -37,7 +38,7 @@ fn warn_of_repository(entry: &NamedConfig, out: &mut String) -> Result<(), Alloc
     Ok(())
 }
 
-/// Appends a warning for each address that is none.
+/// Appends a warning for each text that is no address.
 fn warn_of_addresses(name: &str, addresses: &[Text], out: &mut String) -> Result<(), AllocError>
     ensures { OnOk result (Appends (string_bytes out.old) (string_bytes out.new)
         (flat_map (spec.address_warning name.now) addresses.now)) }
@@ -48,7 +49,7 @@ fn warn_of_addresses(name: &str, addresses: &[Text], out: &mut String) -> Result
     Ok(())
 }
 
-/// Appends a warning, where the text is no address.
+/// Appends a warning, if the text is no address.
 fn warn_of_address(name: &str, address: &Text, out: &mut String) -> Result<(), AllocError>
     ensures { OnOk result (Appends (string_bytes out.old) (string_bytes out.new)
         (spec.address_warning name.now address.now)) }
@@ -99,7 +100,7 @@ fn warn_of_namespace(name: &str, format: &Format, out: &mut String) -> Result<()
     Ok(())
 }
 
-/// Appends a warning about a repository, where something does not pass.
+/// Appends a warning about a repository, unless the test passes.
 fn warn_unless(passes: bool, name: &str, what: &str, out: &mut String) -> Result<(), AllocError>
     ensures { OnOk result (Appends (string_bytes out.old) (string_bytes out.new)
         (spec.warning_unless passes name.now what.now)) }
@@ -111,7 +112,7 @@ fn warn_unless(passes: bool, name: &str, what: &str, out: &mut String) -> Result
     }
 }
 
-/// Appends a warning about a format of a repository, where something does not pass.
+/// Appends a warning about a format of a repository, unless the test passes.
 fn warn_of(
     passes: bool,
     name: &str,
@@ -140,7 +141,7 @@ fn write_warning(name: &str, what: &str, out: &mut String) -> Result<(), AllocEr
     Ok(())
 }
 
-/// Appends a line about the format of that prefix of a repository.
+/// Appends a line about the format with that prefix of a repository.
 #[tactic(auto, unfolding(crate::specs::Warnings::format_warning))]
 fn write_format_warning(
     name: &str,
@@ -157,7 +158,7 @@ fn write_format_warning(
     Ok(())
 }
 
-/// Appends what something is, its name, a colon and a space.
+/// Appends the kind of a thing, its name, a colon and a space.
 #[tactic(auto, unfolding(crate::specs::Warnings::named))]
 fn put_named(what: &str, name: &str, out: &mut String) -> Result<(), AllocError>
     ensures { OnOk result (Appends (string_bytes out.old) (string_bytes out.new)
@@ -180,14 +181,14 @@ fn put_line(text: &str, out: &mut String) -> Result<(), AllocError>
     Ok(())
 }
 
-/// Appends the text as it stands.
+/// Appends the text unchanged.
 fn put(text: &str, out: &mut String) -> Result<(), AllocError>
     ensures { OnOk result (Appends (string_bytes out.old) (string_bytes out.new) text.now) }
 {
     out.push_str(text)
 }
 
-/// Whether a harvester may ask at the text: a URL of `http` or `https` with a host behind it.
+/// Whether a harvester may send requests to the text: a URL of `http` or `https` with a host.
 #[tactic(auto, unfolding(crate::specs::Warnings::is_url, crate::specs::Warnings::is_at_host))]
 fn is_url(text: &str) -> bool
     ensures { result ≡ spec.is_url text.now }
@@ -244,7 +245,7 @@ fn is_address(text: &str) -> bool
     }
 }
 
-/// Whether there is something before the first dot, and behind it.
+/// Whether the text has something before the first dot, and after it.
 #[tactic(auto, unfolding(crate::specs::Warnings::has_two_parts))]
 fn has_two_parts(host: &str) -> bool
     ensures { result ≡ spec.has_two_parts host.now }
@@ -267,7 +268,7 @@ fn is_space(b: u8) -> bool
     b == 32 || b == 9 || b == 10 || b == 13
 }
 
-/// Whether a namespace is none of those that are kept for others.
+/// Whether a namespace is not a reserved one.
 fn is_free(namespace: &str) -> bool
     ensures { result ≡ spec.is_free namespace.now }
 {

@@ -9,8 +9,8 @@ use oai_item::Item;
 use std::alloc::{AllocError, Global};
 use std::marker::Model;
 
-/// A harvester's copy of an archive: for each identifier the state of its item that was harvested
-/// last, live or deleted, in the order of the identifiers by their bytes.
+/// A harvester's copy of an archive: for each identifier the version of its item that was harvested last, live or
+/// deleted, in the byte order of the identifiers.
 #[derive(Debug, Drop)]
 pub struct Copy {
     items: Vec<Item>,
@@ -29,7 +29,7 @@ impl Model for Copy {
 }
 
 impl Copy {
-    /// A copy that holds nothing yet. It takes no memory.
+    /// An empty copy. Allocates nothing.
     pub fn new(alloc: Global) -> Copy
         ensures { result ≡ [] }
     {
@@ -38,10 +38,9 @@ impl Copy {
         }
     }
 
-    /// Catches up with the items of a harvest, in the order in which they came: each replaces the item
-    /// of its identifier, or is added where there is none. So of several items of one identifier the
-    /// last one stays, and a deleted item stays as one. A copy of n items takes n + m log m steps for m
-    /// items. The error is out of memory; the copy is then as before.
+    /// Applies a harvest, in the order in which its items came: each item replaces the one with its identifier, or is
+    /// added. So the last of several items with one identifier stays, and a deleted item stays as a tombstone. O(n + m
+    /// log m) for a copy of n items and a harvest of m. The error is out of memory, and the copy is unchanged.
     pub fn catch_up(&mut self, items: &[Item]) -> Result<(), AllocError>
         ensures ok { OnOk result (self.new ≡ caught_up self.old items.now) }
         ensures err { OnErr result (self.new ≡ self.old) }
@@ -49,8 +48,7 @@ impl Copy {
         catch_up(&mut self.items, items)
     }
 
-    /// The items that it holds, in the order of their identifiers by their bytes; each identifier stands
-    /// once.
+    /// The items of the copy, in the byte order of their identifiers, which are distinct.
     pub fn items(&self) -> &[Item]
         ensures items { result.now ≡ self.now }
         ensures listed { are_listed self.now ≡ true }
@@ -59,9 +57,8 @@ impl Copy {
     }
 }
 
-/// What a new copy holds that caught up with harvests, one after the other: under each identifier the
-/// last item of that identifier in any of them, in the order of the identifiers, each of which stands
-/// once.
+/// After harvests, one after the other, a new copy holds under each identifier the last item with that identifier in
+/// any of them, in the order of the identifiers, which are distinct. A theorem, proved by an empty function.
 pub fn copy_law()
     ensures last { (harvests : List (List ItemState)) (identifier : List ℕ)
         → item_named identifier (caught_up_with [] harvests)

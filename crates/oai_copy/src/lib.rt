@@ -1,4 +1,4 @@
-//! A harvester's copy of an archive, which catches up with what it harvests.
+//! A harvester's copy of an archive, which is updated by harvests.
 #![tactic(auto)]
 
 mod copies;

@@ -9,8 +9,8 @@ use oai_item::Item;
 use std::alloc::{AllocError, Global};
 use std::cmp::Ordering;
 
-/// Replaces or adds the items of a harvest, each in turn, in a list that is in the order of its
-/// identifiers. The error is out of memory; the list is then as before.
+/// Replaces or adds the items of a harvest, each in turn, in a list in the order of its identifiers. The error is out
+/// of memory, and the list is unchanged.
 pub(crate) fn catch_up(items: &mut Vec<Item>, harvest: &[Item]) -> Result<(), AllocError>
     requires { are_listed items.old.items ≡ true }
     ensures ok { OnOk result (items.new.items ≡ caught_up items.old.items harvest.now) }
@@ -25,8 +25,7 @@ pub(crate) fn catch_up(items: &mut Vec<Item>, harvest: &[Item]) -> Result<(), Al
     Ok(())
 }
 
-/// Copies of the items in the order of their identifiers; those of one identifier stay in their order.
-/// The error is out of memory.
+/// Copies of the items sorted by identifier, stably. The error is out of memory.
 fn arranged(alloc: Global, items: &[Item]) -> Result<Vec<Item>, AllocError>
     ensures { IfOk result (λ arranged. IsArranged items.now arranged.items) }
 {
@@ -46,16 +45,16 @@ fn copies(alloc: Global, items: &[Item]) -> Result<Vec<Item>, AllocError>
     Ok(copies)
 }
 
-/// How the identifiers of two items stand to each other, by their bytes.
+/// Compares the identifiers of two items, byte by byte.
 fn order(a: &Item, b: &Item) -> Ordering
     ensures { result ≡ slice_cmp nat_cmp a.now.identifier b.now.identifier }
 {
     a.identifier().as_str().cmp(b.identifier().as_str())
 }
 
-/// Moves the items of two lists, both in the order of their identifiers, into a third one in that
-/// order: of each identifier the last item of the newer list, or else that of the older one. It takes
-/// no memory: the third list is empty and has room for all.
+/// Merges two lists, both in the order of their identifiers, into a third one in that order: for each identifier the
+/// last item of the newer list, or else that of the older one. Allocates nothing: the third list is empty and has
+/// capacity for all.
 fn merge(older: &mut Vec<Item>, newer: &mut Vec<Item>, merged: &mut Vec<Item>)
     requires listed { are_listed older.old.items ≡ true }
     requires ordered { never_fall newer.old.items ≡ true }
@@ -70,8 +69,8 @@ fn merge(older: &mut Vec<Item>, newer: &mut Vec<Item>, merged: &mut Vec<Item>)
     merged.reverse();
 }
 
-/// Takes the item out that has the greatest identifier of two lists, each in the order of its
-/// identifiers; where both have one, that of the newer list.
+/// Removes the item with the greatest identifier from two lists, each in the order of its identifiers; of equal ones,
+/// that of the newer list.
 fn take_last(older: &mut Vec<Item>, newer: &mut Vec<Item>) -> Option<Item>
     ensures taken { IsTaken older.old.items newer.old.items result older.new.items newer.new.items }
     ensures none { IsNone result → (older.old.items ≡ []) × (newer.old.items ≡ []) }
@@ -85,8 +84,7 @@ fn take_last(older: &mut Vec<Item>, newer: &mut Vec<Item>) -> Option<Item>
     }
 }
 
-/// Whether the last item of the newer list is to go before that of the older one: it is not before that
-/// one in the order of identifiers.
+/// Whether the last item of the newer list is taken before that of the older one: its identifier is not the lower one.
 fn goes_first(older: Option<&Item>, newer: Option<&Item>) -> bool
     ensures { result ≡ goes_first (option_copied older.entry) (option_copied newer.entry) }
 {
@@ -97,7 +95,7 @@ fn goes_first(older: Option<&Item>, newer: Option<&Item>) -> bool
     }
 }
 
-/// Pushes the item, unless the last one has its identifier. There is room for it.
+/// Pushes the item, unless the last one has its identifier. Capacity is reserved.
 #[tactic(auto, using(crate::proofs::MergeLemmas::push_kept, crate::proofs::MergeLemmas::push_added))]
 fn push_first(items: &mut Vec<Item>, item: Item)
     requires room { vec_len items.old < vec_capacity items.old }
@@ -111,7 +109,7 @@ fn push_first(items: &mut Vec<Item>, item: Item)
     items.push(item).unwrap();
 }
 
-/// Whether the first item is there and has the identifier of the second.
+/// Whether the first item exists and has the identifier of the second.
 fn is_same_named(first: Option<&Item>, item: &Item) -> bool
     ensures { result ≡ is_same_named (option_copied first.entry) item.now }
 {

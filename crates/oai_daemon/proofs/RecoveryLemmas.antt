@@ -11,7 +11,7 @@ use Rattle.oai_daemon.specs.declared.dated.Dated.{Dated}
 pub inside : {H K D : Type 0} (kept : H → K) (is_honest : H → Bool) (leaving : Leaving K) (seen : D → List ℕ) (may_leave : D → List ℕ → Type 0) (was old : H) (dated : Dated H)
     (recovery : Recovery D) (first : Entry) (count : ℕ) → old ≡ was
     → IsRecovered (λ (d : Dated H). kept d.handler) (λ (d : Dated H). is_honest d.handler) leaving seen may_leave (kept old) dated recovery first count
-    → HasRedoneAll kept is_honest leaving seen may_leave (kept was) dated.handler recovery
+    → HasRedoneAll kept is_honest leaving seen may_leave (kept was) dated.handler recovery first
 inside {H} kept is_honest leaving seen may_leave was old dated recovery first count same r =
-    subst (λ (h : H). HasRedoneAll kept is_honest leaving seen may_leave (kept h) dated.handler recovery) same
-    (first, count, record { entries = r.entries; many = r.many; has = record { read = r.has.read; so = r.has.so }; undamaged = r.undamaged })
+    subst (λ (h : H). HasRedoneAll kept is_honest leaving seen may_leave (kept h) dated.handler recovery first) same
+    (count, record { entries = r.entries; many = r.many; has = record { read = r.has.read; so = r.has.so }; undamaged = r.undamaged })

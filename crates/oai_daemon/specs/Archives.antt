@@ -1,4 +1,4 @@
--- What the hosts of an archive keep, over all its lives. This repository's own.
+-- The state of the hosts of an archive, over all its lives. A life is one run of the server. This repository's own.
 use Rattle.std.specs.Prelude.{List}
 use Rattle.oai_durable.specs.Checkpoints.{Saving}
 use Rattle.oai_durable.specs.Journaled.{Replaying}
@@ -7,8 +7,8 @@ use Rattle.oai_host.specs.Hosts.{HostState, Repository}
 use Rattle.oai_host.specs.Redone.{redone_all, reply_all}
 use Rattle.oai_host.specs.Saved.{emptied_in, ended_in, parts_in, restored_in}
 
--- the states of the repositories: what calls and parts leave of them, what a call is answered, which parts they have, and what they are once all lists
--- ended, and as they begin
+-- the states of the repositories: after calls and parts, the answer to a call, their parts, their state after all lists
+-- ended, and their initial state
 abbrev pub archive : Saving (List Repository)
 archive = record {
   leaving = record { redone = redone_all; restored = restored_in };
@@ -18,7 +18,7 @@ archive = record {
   emptied = emptied_in;
 }
 
--- a host, which keeps these states, as its journal performs it again
+-- a host with these states, as its journal replays it
 abbrev pub archived : Replaying HostState
 archived = record {
   step = IsHandled;

@@ -1,4 +1,5 @@
 pub mod Notes
 pub mod Archives
+pub mod Ends
 pub mod Starts
 pub mod Lives

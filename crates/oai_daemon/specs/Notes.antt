@@ -1,4 +1,4 @@
--- What a server says while it runs. This repository's own.
+-- The messages of a server while it runs. This repository's own.
 use Rattle.std.specs.Prelude.{ℕ, List, ◌++◌, codes, decimal}
 use Rattle.oai_daemon.specs.declared.notes.Note.{Note}
 use Rattle.oai_daemon.specs.declared.notes.Note.TheVariants.{Clock, Failed, OtherConfig, Recovered, Recovering}

@@ -1,7 +1,8 @@
--- How far a start has come, of which a life is made. This repository's own.
+-- How far a startup has come, with which a life begins. This repository's own.
 use Rattle.std.specs.Prelude.{◌≡◌, ℕ, Bool, IsTrue, List, [], length, map, Option, Result, Ok}
 use Rattle.oai_config.specs.Configs.{HostConfig}
 use Rattle.oai_config.specs.Reading.{IsRead}
+use Rattle.oai_archive.specs.Firsts.{IsOf}
 use Rattle.oai_host.specs.Hosts.{HostState, begun}
 use Rattle.oai_journal.specs.Records.{Entry}
 use Rattle.oai_journal.specs.Recovered.{disk_of}
@@ -9,6 +10,7 @@ use Rattle.oai_journal.specs.declared.file.FileJournal.{FileJournal}
 use Rattle.oai_journal.specs.declared.journals.Journal as journal
 use Rattle.oai_journal.specs.declared.recovery.Recovery.{Recovery}
 use Rattle.oai_front.specs.Performing.{Steps}
+use Rattle.oai_serving.specs.Accepted.{Known}
 use Rattle.oai_serving.specs.Rounds.{IsService, Settles, World}
 use Rattle.oai_serving.specs.declared.faults.ServeFault.{ServeFault}
 use Rattle.oai_durable.specs.Journaled.{IsExchange, IsHeld, IsSettled, Parts, Replaying}
@@ -16,38 +18,36 @@ use Rattle.oai_durable.specs.Records.{Leaving}
 use Rattle.oai_durable.specs.Recovered.{HasRedone, IsRecovered}
 use Rattle.oai_daemon.specs.Archives.{archived}
 
--- all records of the journal were read and performed again, from that beginning
-abbrev pub HasRedoneAll : {H K D : Type 0} → (H → K) → (H → Bool) → Leaving K → (D → List ℕ) → (D → List ℕ → Type 0) → K → H → Recovery D → Type 0
-HasRedoneAll kept is_honest leaving seen may_leave begun handler recovery =
-    (first : Entry) × (count : ℕ) × IsRecovered kept is_honest leaving seen may_leave begun handler recovery first count
+-- all records of the journal behind its first one were read and replayed, from that beginning
+abbrev pub HasRedoneAll : {H K D : Type 0} → (H → K) → (H → Bool) → Leaving K → (D → List ℕ) → (D → List ℕ → Type 0) → K → H → Recovery D → Entry → Type 0
+HasRedoneAll kept is_honest leaving seen may_leave begun handler recovery first =
+    (count : ℕ) × IsRecovered kept is_honest leaving seen may_leave begun handler recovery first count
 
--- the host is of the configuration in the text, as it begins
+-- the host is of the configuration in the text, in its initial state
 abbrev pub IsHostOf : List ℕ → HostState → Type 0
 IsHostOf text host = (config : HostConfig) × IsRead text (Ok config) × (host.repositories ≡ map begun config.repositories)
 
--- the host of the configuration in the text has performed all records of the journal again
+-- the host of the configuration in the text has replayed all records of the journal, which is of that configuration
 pub record HasStarted {D : Type 0} (seen : D → List ℕ) (may_leave : D → List ℕ → Type 0) (is_clean : D → Bool) (text : List ℕ) (host : HostState) (recovery : Recovery D) : Type 0 where
   pub config : HostConfig
   pub read : IsRead text (Ok config)
-  pub redone : IsTrue (is_clean (disk_of recovery))
-      → HasRedoneAll archived.kept archived.is_honest archived.leaving seen may_leave (map begun config.repositories) host recovery
+  pub redone : IsTrue (is_clean (disk_of recovery)) → (first : Entry) × IsOf first.name first.body text
+      × HasRedoneAll archived.kept archived.is_honest archived.leaving seen may_leave (map begun config.repositories) host recovery first
 
--- a server with that handler and no connection served
-pub record HasServed {S H : Type 0} (step : Steps H) (settled : Settles H) (contents remaining : S → Option (List ℕ)) (handler : H) : Type 0 where
-  pub known : Option (List S)
-  pub later : Option (List S)
+-- a server with that handler and no connection served, from when those streams were accepted, until it ended so, in that world
+pub record HasServed {S H : Type 0} (step : Steps H) (settled : Settles H) (contents remaining : S → Option (List ℕ)) (handler : H)
+    (known later : Known S) (result : Result (Unit {0}) ServeFault) (new : World S H) : Type 0 where
   pub old : World S H
-  pub result : Result (Unit {0}) ServeFault
-  pub new : World S H
   pub handles : old.handler ≡ handler
   pub unlinked : old.links.slots ≡ []
   pub none : old.last ≡ 0
   pub serves : IsService step settled contents remaining known later old result new
 
--- the handler served with the journal whose records it performed again
+-- the handler served with the journal whose records it replayed, until it ended so
 pub record HasResumed {S H D : Type 0} (h : Replaying H) (j : journal.Ghosts (FileJournal D)) (seen : D → List ℕ) (may_leave : D → List ℕ → Type 0)
-    (contents remaining : S → Option (List ℕ)) (handler : H) (recovery : Recovery D) : Type 0 where
+    (contents remaining : S → Option (List ℕ)) (handler : H) (recovery : Recovery D)
+    (known later : Known S) (result : Result (Unit {0}) ServeFault) (new : World S (Parts H (FileJournal D))) : Type 0 where
   pub parts : Parts H (FileJournal D)
   pub begins : (begun : h.Kept) (first : Entry) (entries : List Entry) → HasRedone h.kept h.is_honest h.leaving seen may_leave begun handler recovery first entries
       → IsHeld h j begun parts entries (length entries)
-  pub served : HasServed (IsExchange h j) (IsSettled j) contents remaining parts
+  pub served : HasServed (IsExchange h j) (IsSettled j) contents remaining parts known later result new

@@ -1,27 +1,30 @@
 //! The clock of a server.
+ghost use Rattle.oai_daemon.specs.Ends.{moment_at};
+ghost use Rattle.std.specs.Prelude.{◌≡◌};
+
 use oai_archive::Stop;
-use oai_cli::Stop as Other;
+use oai_startup::Stop as Other;
 use std::cell::Cell;
 use std::io;
 use std::rt::Clock;
 use std::time::Duration;
 
-/// How many seconds the system's clock may gain on the one that does not go back: a day.
+/// How many seconds the system's clock may gain on the monotonic one: a day.
 const MAX_GAIN: u64 = 86_400;
 
-/// The system's clock, which cannot be read once it has jumped ahead: it gained more than a day, between two readings of it, on the
-/// clock that does not go back.
+/// The system's clock, which cannot be read once it has jumped ahead: it gained more than a day, between two readings
+/// of it, on the monotonic clock.
 #[derive(Drop)]
 pub(crate) struct GuardedClock<'a, C> {
     clock: &'a C,
-    /// What both clocks showed at the last reading, in seconds; none was made where both are 0.
+    /// What both clocks showed at the last reading, in seconds; both are 0 before the first.
     last: Cell<(u64, u64)>,
     /// The second to which it jumped.
     jumped: Cell<Option<u64>>,
 }
 
 impl<'a, C: Clock> GuardedClock<'a, C> {
-    /// Over the clock of the system, which has not been read.
+    /// Over the system's clock, which has not been read.
     pub(crate) fn new(clock: &'a C) -> GuardedClock<'a, C> {
         GuardedClock {
             clock,
@@ -54,7 +57,7 @@ impl<C: Clock> Clock for GuardedClock<'_, C> {
     }
 }
 
-/// Whether the clock gained more than a day on the one that does not go back, between two readings of both.
+/// Whether the clock gained more than a day on the monotonic one, between two readings of both.
 fn has_jumped(last: (u64, u64), now: (u64, u64)) -> bool {
     if last == (0, 0) {
         return false;
@@ -71,7 +74,7 @@ pub(crate) fn moment_of<C: Clock>(clock: &C) -> Result<i64, Stop> {
     }
 }
 
-/// The second of a clock that does not go back; 0 where it cannot be read.
+/// The second of a monotonic clock; 0 if it cannot be read.
 pub(crate) fn second_of<C: Clock>(clock: &C) -> u64 {
     match clock.monotonic() {
         Ok(time) => time.as_secs(),
@@ -80,6 +83,8 @@ pub(crate) fn second_of<C: Clock>(clock: &C) -> u64 {
 }
 
 /// The second from 1970 on, as a moment.
-pub(crate) fn to_moment(second: u64) -> i64 {
+pub(crate) fn to_moment(second: u64) -> i64
+    ensures { result ≡ moment_at second }
+{
     i64::try_from(second).unwrap_or(i64::MAX)
 }

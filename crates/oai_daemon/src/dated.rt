@@ -1,4 +1,4 @@
-//! A handler, and what is to be known of the records that it performs again.
+//! A handler, and what has to be known of the records that it replays.
 ghost use Rattle.std.specs.Prelude.{◌≡◌};
 
 use oai_http::{
@@ -6,20 +6,20 @@ use oai_http::{
 };
 use oai_item::Fault;
 
-/// A handler, and what is to be known of the records that it performs again.
+/// A handler, and what has to be known of the records that it replays.
 #[derive(Drop)]
 pub(crate) struct Dated<H> {
     pub(crate) handler: H,
-    /// The latest moment of them, in seconds from 1970 on.
+    /// Their latest moment, in seconds from 1970 on.
     pub(crate) last: Option<i64>,
     /// The latest moment of those up to the last that may have begun or continued a list.
     pub(crate) listed: Option<i64>,
-    /// How many bytes the parts of a checkpoint have.
+    /// The length in bytes of the parts of a checkpoint.
     pub(crate) saved: usize,
 }
 
 impl<H> Dated<H> {
-    /// The handler, which has performed nothing again.
+    /// The handler, which has replayed nothing.
     pub(crate) fn new(handler: H) -> Dated<H>
         ensures { result.handler ≡ handler }
     {
@@ -88,7 +88,7 @@ impl<H: Replayed> Replayed for Dated<H> {
     ghost same_restored = { H.same_restored };
 }
 
-/// The later one of two moments, of which there may be only one.
+/// The later of two moments, of which the first may be missing.
 fn later(last: Option<i64>, moment: i64) -> Option<i64> {
     match last {
         Some(before) => Some(before.max(moment)),

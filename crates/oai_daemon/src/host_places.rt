@@ -6,10 +6,10 @@ ghost use Rattle.std.specs.Prelude.{IsTrue};
 use crate::notes::Note;
 use crate::places::Place;
 use oai_archive::Stop;
-use oai_cli::Stop as Other;
 use oai_device::FileDevice;
 use oai_journal::Recovery;
 use oai_serving::{Listener, Socket};
+use oai_startup::Stop as Other;
 use sqlite_disk::{Disk, Files};
 use sqlite_std_file::{FileFrom, OpenError, Start, Unknown, Wary, open};
 use std::fs::{self, DirBuilder, File, OpenOptions, TryLockError};
@@ -17,15 +17,15 @@ use std::io::{self, ErrorKind};
 use std::net::{Ipv4Addr, SocketAddr, SocketAddrV4};
 use std::os::unix::fs::{DirBuilderExt, OpenOptionsExt};
 
-/// The mode of a folder that is made.
+/// The mode of a new folder.
 const FOLDER_MODE: u32 = 0o750;
 
-/// The mode of a file that is made.
+/// The mode of a new file.
 const FILE_MODE: u32 = 0o640;
 
-/// A folder by its path, a port of 127.0.0.1, and the standard streams. In the folder are `lock`, which is locked from the
-/// first call to the last and never renamed, `journal`, `journal-wal`, which the file layer keeps beside it and which is
-/// empty, and `pages`; while a journal is begun also `journal.new` and `journal.new-wal`.
+/// A folder by its path, a port of 127.0.0.1, and the standard streams. In the folder are `lock`, which is locked from
+/// the first call to the last and never renamed, `journal`, `journal-wal`, which the file layer keeps beside it and
+/// which is empty, and `pages`; while a journal is begun also `journal.new` and `journal.new-wal`.
 #[derive(Drop)]
 pub struct HostPlace<'a> {
     rt: &'a HostRuntime,
@@ -35,7 +35,7 @@ pub struct HostPlace<'a> {
 }
 
 impl<'a> HostPlace<'a> {
-    /// The folder at that path, and that port; port 0 is a free one. Nothing is opened.
+    /// The folder at that path, and that port; port 0 means a free one. Nothing is opened.
     pub fn new(rt: &'a HostRuntime, folder: &'a str, port: u16) -> HostPlace<'a> {
         HostPlace {
             rt,
@@ -45,13 +45,13 @@ impl<'a> HostPlace<'a> {
         }
     }
 
-    /// The path of the file of that name in the folder.
+    /// The path of the file with that name in the folder.
     fn path(&self, name: &str) -> Result<String, Stop> {
         let folder = self.folder;
         Ok(format!(in self.rt.alloc(); "{folder}/{name}")?)
     }
 
-    /// Removes the file of that name, where there is one.
+    /// Removes the file with that name, if it exists.
     fn remove(&self, name: &str) -> Result<(), Stop> {
         match fs::remove_file(self.rt, self.path(name)?.as_str()) {
             Ok(()) => Ok(()),
@@ -60,7 +60,7 @@ impl<'a> HostPlace<'a> {
         }
     }
 
-    /// Syncs the folder of that name in the folder, as `.`.
+    /// Syncs the folder with that name in the folder, such as `.`.
     fn sync(&self, name: &str) -> Result<(), Stop> {
         let folder = match File::open(self.rt, self.path(name)?.as_str()) {
             Ok(folder) => folder,
@@ -72,7 +72,7 @@ impl<'a> HostPlace<'a> {
         }
     }
 
-    /// Makes the folder, where there is none.
+    /// Creates the folder, unless it exists.
     fn make_folder(&self) -> Result<(), Stop> {
         let made = DirBuilder::new()
             .mode(FOLDER_MODE)
@@ -84,7 +84,8 @@ impl<'a> HostPlace<'a> {
         }
     }
 
-    /// Opens the file of that name to be read and written. It is made where there is none, and emptied where that is asked for.
+    /// Opens the file with that name for reading and writing. It is created if it does not exist, and truncated if
+    /// `emptied`.
     fn open_file(&self, name: &str, emptied: bool) -> Result<File, Stop> {
         let opened = OpenOptions::new()
             .read(true)
@@ -99,7 +100,7 @@ impl<'a> HostPlace<'a> {
         }
     }
 
-    /// The disk over the file of that name, which held what `S` says.
+    /// The disk over the file with that name, whose contents are those of `S`.
     fn disk<S: Start>(&self, name: &str, start: S) -> Result<FileFrom<S>, Stop> {
         match open(self.rt, self.path(name)?.as_str(), start) {
             Ok(Files { log: _, db }) => Ok(db),
@@ -108,7 +109,7 @@ impl<'a> HostPlace<'a> {
     }
 }
 
-/// Why the server stops, where the file of a journal could not be opened.
+/// Why the server stops if the file of a journal could not be opened.
 fn stop_of_opening(error: OpenError) -> Stop {
     match error {
         OpenError::OutOfMemory => Stop::Common(Other::NoMemory),
@@ -118,7 +119,7 @@ fn stop_of_opening(error: OpenError) -> Stop {
     }
 }
 
-/// Why the server stops, where a file or a folder could not be opened, made or removed.
+/// Why the server stops if a file or a folder could not be opened, created or removed.
 fn stop_of(error: io::Error) -> Stop {
     match error.kind() {
         ErrorKind::OutOfMemory => Stop::Common(Other::NoMemory),

@@ -1,5 +1,5 @@
 //! The journal of a folder, found or begun.
-ghost use Rattle.oai_archive.specs.Readings.{HasBegun};
+ghost use Rattle.oai_archive.specs.Readings.{HasBegun, HasBegunFor};
 ghost use Rattle.oai_journal.specs.Recovered.{disk_of};
 ghost use Rattle.std.specs.Prelude.{IfOk, IsTrue};
 
@@ -12,9 +12,9 @@ use oai_journal::Recovery;
 use std::alloc::Global;
 use std::rt::Clock;
 
-/// The journal of the place, of which the first record is read: it is of the configuration in the text, but for how many pages the cache
-/// has. Where there is none it is begun; where it is of another configuration that the archive can go on with, it is replaced by a
-/// checkpoint, and the open lists have ended.
+/// The journal of the place, whose first record is read: it has the configuration in the text, ignoring the size of the
+/// cache. If there is none it is begun; if it has another configuration with which the archive can continue, it is
+/// replaced by a checkpoint, and the open lists have ended.
 pub(crate) fn open_journal<P: Place, C: Clock>(
     alloc: Global,
     place: &mut P,
@@ -22,7 +22,7 @@ pub(crate) fn open_journal<P: Place, C: Clock>(
     text: &[u8],
 ) -> Result<Recovery<P::Disk>, Stop>
     ensures { IfOk result (λ recovery. IsTrue (P.Disk.Disk.is_clean (disk_of recovery))
-        → HasBegun P.Disk.Disk.seen P.Disk.Disk.may_leave recovery) }
+        → HasBegunFor P.Disk.Disk.seen P.Disk.Disk.may_leave text.now recovery) }
 {
     if !place.find_journal()? {
         begin_journal(alloc, place, clock, text)?;
@@ -34,10 +34,27 @@ pub(crate) fn open_journal<P: Place, C: Clock>(
     drop(recovery);
     renew(alloc, place, clock, text, 0)?;
     place.tell(Note::OtherConfig);
-    read_first(alloc, place)
+    reopen_journal(alloc, place, text)
 }
 
-/// The journal of the place, of which the first record is read.
+/// The journal of the place, of which the first record is read, and which was replaced by a checkpoint with the configuration in the text.
+/// The error is `NotOurs` where it is of another one.
+pub(crate) fn reopen_journal<P: Place>(
+    alloc: Global,
+    place: &mut P,
+    text: &[u8],
+) -> Result<Recovery<P::Disk>, Stop>
+    ensures { IfOk result (λ recovery. IsTrue (P.Disk.Disk.is_clean (disk_of recovery))
+        → HasBegunFor P.Disk.Disk.seen P.Disk.Disk.may_leave text.now recovery) }
+{
+    let recovery = read_first(alloc, place)?;
+    if has_config(alloc, &recovery, text)? {
+        return Ok(recovery);
+    }
+    Err(Stop::NotOurs)
+}
+
+/// The journal of the place, whose first record is read.
 pub(crate) fn read_first<P: Place>(alloc: Global, place: &mut P) -> Result<Recovery<P::Disk>, Stop>
     ensures { IfOk result (λ recovery. IsTrue (P.Disk.Disk.is_clean (disk_of recovery))
         → HasBegun P.Disk.Disk.seen P.Disk.Disk.may_leave recovery) }

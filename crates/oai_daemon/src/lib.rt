@@ -1,5 +1,5 @@
-//! A server that keeps what it acknowledged: what it is called with, the order in which it starts, and what it says. Files,
-//! ports and streams are those of a `Place`; `HostPlace` has them of the system.
+//! A server whose acknowledged writes are durable: its arguments, the order of its startup, and its messages. Files,
+//! ports and streams are those of a `Place`; `HostPlace` has the system's.
 #![tactic(auto)]
 
 mod checkpoints;
@@ -21,4 +21,5 @@ pub use host_places::HostPlace;
 pub use laws::archive_law;
 pub use notes::Note;
 pub use places::Place;
-pub use service::serve;
+pub use service::{Ended, Hosting, serve};
+pub use watched::Watched;

@@ -1,4 +1,4 @@
-//! What a server says while it runs.
+//! The messages of a server while it runs.
 ghost use Rattle.std.specs.Prelude.{◌≡◌};
 ghost use Rattle.oai_daemon.specs.Notes as spec;
 
@@ -6,19 +6,19 @@ use oai_archive::{Second, fault_word};
 use oai_item::Fault;
 use std::fmt;
 
-/// What a server says of its work.
+/// A message of a server about its work.
 #[derive(Clone, Copy, Debug, PartialEq, Eq)]
 pub enum Note {
-    /// How far a recovery is: so many bytes of so many are read, and so many records performed.
+    /// The progress of a recovery: bytes read, bytes of the journal, and records replayed.
     Recovering(usize, usize, u64),
-    /// A recovery is done: so many records of so many bytes, in so many seconds.
+    /// A recovery is done: the records and bytes of the journal, and the seconds that it took.
     Recovered(u64, usize, u64),
-    /// The clock is at that second, from 1970 on, more than 366 days ahead of the last record, whose second is the other, or more than an hour
-    /// behind it.
+    /// The clock is at the first second, from 1970 on, more than 366 days ahead of the last record, whose second is the
+    /// other, or more than an hour behind it.
     Clock(i64, i64),
-    /// The archive goes on with another configuration, and its open lists have ended.
+    /// The archive continues with another configuration, and its open lists have ended.
     OtherConfig,
-    /// So many exchanges were answered 500 (Internal Server Error) for that fault.
+    /// That many exchanges were answered 500 (Internal Server Error) for that fault.
     Failed(u64, Fault),
 }
 
@@ -52,7 +52,7 @@ impl fmt::Display for Note {
     }
 }
 
-/// What stands between the time of a clock and that of a record.
+/// The words between the time of a clock and that of a record.
 #[tactic(auto, unfolding(crate::specs::Notes::last_record))]
 fn last_record() -> &'static str
     ensures { result.now ≡ spec.last_record }

@@ -1,7 +1,8 @@
-//! What a server has of the world around it.
+//! The outside of a server: its folder, port and streams.
 ghost use Rattle.oai_archive.specs.Readings.{IsReadBack};
 ghost use Rattle.oai_journal.specs.Recovered.{disk_of};
-ghost use Rattle.std.specs.Prelude.{IsTrue};
+ghost use Rattle.oai_serving.specs.Accepted.{PassesNone, known_of};
+ghost use Rattle.std.specs.Prelude.{IfOk, IsTrue};
 
 use crate::notes::Note;
 use oai_archive::Stop;
@@ -10,12 +11,13 @@ use oai_journal::Recovery;
 use oai_serving::{Sockets, Stream};
 use sqlite_disk::Disk;
 
-/// A folder, a port, and the streams on which a server says what it does. The calls are made in the order in which they stand here; where a
-/// journal is replaced by a checkpoint, those from `begin_journal` to `empty_pages` are made again.
+/// A folder, a port, and the streams on which a server reports. The calls are made in the order of the methods here; if
+/// a journal is replaced by a checkpoint, those from `begin_journal` to `empty_pages` are made again.
 pub trait Place {
     /// The disk of the journal.
     type Disk: Disk + Drop;
-    /// The disk of a journal that is begun. It is another type, since what a disk's clauses say of its contents is of one file.
+    /// The disk of a journal that is begun. It is another type, since a disk's clauses about its contents are about one
+    /// file.
     type NewDisk: Disk + Drop;
     /// The device of the pages.
     type Pages: PageDevice + Drop;
@@ -24,13 +26,14 @@ pub trait Place {
     /// What accepts connections.
     type Port: Sockets<Self::Link> + Drop;
 
-    /// Opens the folder, or makes it, and keeps others out of it from now on. The errors are `CannotOpen` and `InUse`.
+    /// Opens the folder, or creates it, and locks it until the end. The errors are `CannotOpen` and `InUse`.
     fn lock(&mut self) -> Result<(), Stop>;
 
-    /// Listens at the port; connections wait until they are accepted. The errors are `SocketFault` and `NoMemory`.
-    fn listen(&mut self) -> Result<Self::Port, Stop>;
+    /// Listens at the port; connections wait until they are accepted, and none was yet, or let go. The errors are `SocketFault` and `NoMemory`.
+    fn listen(&mut self) -> Result<Self::Port, Stop>
+        ensures { IfOk result (λ port. PassesNone (known_of (Self.Port.Sockets.accepted port) (Self.Port.Sockets.gone port))) };
 
-    /// Takes away what an earlier start left of a journal that it began, and says whether there is a journal.
+    /// Removes what an earlier startup left of a journal that it began, and returns whether there is a journal.
     fn find_journal(&mut self) -> Result<bool, Stop>;
 
     /// The disk of a journal that is begun beside the folder's: it is empty.
@@ -39,7 +42,8 @@ pub trait Place {
     /// The disk of the journal that was begun and written, to be read back.
     fn open_begun(&mut self) -> Result<Self::Disk, Stop>;
 
-    /// Makes the journal that was begun the folder's, in place of the one that is there. It was read to its end, and all its bytes are synced.
+    /// Replaces the folder's journal, if there is one, by the journal that was begun. It was read to its end, and all
+    /// its bytes are synced.
     fn keep_journal(&mut self, begun: Recovery<Self::Disk>) -> Result<(), Stop>
         requires synced { IsTrue (Self.Disk.Disk.is_clean (disk_of begun))
             → IsReadBack Self.Disk.Disk.seen Self.Disk.Disk.may_leave begun };
@@ -47,11 +51,11 @@ pub trait Place {
     /// The disk of the folder's journal.
     fn open_journal(&mut self) -> Result<Self::Disk, Stop>;
 
-    /// The device of the pages, without pages.
+    /// The device of the pages, empty.
     fn empty_pages(&mut self) -> Result<Self::Pages, Stop>;
 
-    /// Writes to standard output at which port it listens. The error is `OutputFault`, or `SocketFault` where
-    /// the port is not known.
+    /// Writes to standard output at which port it listens. The error is `OutputFault`, or `SocketFault` if the port is
+    /// not known.
     fn announce(&mut self, port: &Self::Port) -> Result<(), Stop>;
 
     /// Reports to the operator what the server does. A report that cannot be written ends nothing.

@@ -1,4 +1,4 @@
-//! What a server performed before, performed again.
+//! Replays what a server performed before.
 ghost use Rattle.oai_daemon.specs.Starts.{HasRedoneAll};
 ghost use Rattle.oai_durable.specs.Recovered.{IsRecovered};
 ghost use Rattle.oai_journal.specs.Records.{Entry};
@@ -15,13 +15,13 @@ use oai_http::Replayed;
 use oai_journal::Recovery;
 use std::rt::Clock;
 
-/// How many seconds the clock may be ahead of the last record, without a warning: 366 days.
+/// How many seconds the clock may be ahead of the last record without a warning: 366 days.
 const MAX_AHEAD: i64 = 31_622_400;
 
 /// How many seconds it may be behind it: an hour.
 const MAX_BEHIND: i64 = 3_600;
 
-/// Says each second how far a recovery is.
+/// Reports the progress of a recovery each second.
 #[derive(Drop)]
 struct Meter<'a, P, C> {
     place: &'a mut P,
@@ -40,9 +40,9 @@ impl<P: Place, C: Clock> Progress for Meter<'_, P, C> {
     }
 }
 
-/// Performs again what the journal has behind its first record, and says how far it is each second, and at its end what it was, and
-/// whether the clock is far from the last record. The handler is then what it was. The errors are `Damaged`, `NotOurs`, `Performing`,
-/// `InputFault` and `NoMemory`.
+/// Replays the records of the journal after its first one. It reports its progress each second, at its end the totals,
+/// and whether the clock is far from the last record. The handler then has its state again. The errors are `Damaged`,
+/// `NotOurs`, `Performing`, `InputFault` and `NoMemory`.
 pub(crate) fn recover_all<P: Place, H: Replayed + Drop, C: Clock>(
     place: &mut P,
     clock: &C,
@@ -52,7 +52,7 @@ pub(crate) fn recover_all<P: Place, H: Replayed + Drop, C: Clock>(
     ensures recovered { IfOk result (λ dated. IsTrue (P.Disk.Disk.is_clean (disk_of recovery.new)) → (first : Entry)
         → HasRecovered P.Disk.Disk.seen P.Disk.Disk.may_leave recovery.old first []
         → HasRedoneAll H.kept H.is_honest (record { redone = H.redone; restored = H.restored })
-        P.Disk.Disk.seen P.Disk.Disk.may_leave (H.kept handler) dated.handler recovery.new) }
+        P.Disk.Disk.seen P.Disk.Disk.may_leave (H.kept handler) dated.handler recovery.new first) }
     ensures clean { IsTrue (P.Disk.Disk.is_clean (disk_of recovery.new))
         → IsTrue (P.Disk.Disk.is_clean (disk_of recovery.old)) }
 {
@@ -65,7 +65,7 @@ pub(crate) fn recover_all<P: Place, H: Replayed + Drop, C: Clock>(
     Ok(dated)
 }
 
-/// Performs again what the journal has behind its first record; how many records that are.
+/// Replays the records of the journal after its first one; returns how many there are.
 fn recover_dated<P: Place, H: Replayed, C: Clock>(
     place: &mut P,
     clock: &C,
@@ -86,7 +86,7 @@ fn recover_dated<P: Place, H: Replayed, C: Clock>(
     }
 }
 
-/// Says where the moment is more than 366 days ahead of the last record, or more than an hour behind it.
+/// Reports if the moment is more than 366 days ahead of the last record, or more than an hour behind it.
 fn tell_clock<P: Place>(place: &mut P, moment: i64, last: Option<i64>) {
     match last {
         Some(last) if is_far(moment, last) => place.tell(Note::Clock(moment, last)),

@@ -1,16 +1,19 @@
-//! A journal that is replaced by a checkpoint.
+//! Replaces a journal by a checkpoint.
 use crate::clocks::moment_of;
+use crate::dated::Dated;
 use crate::journals::read_first;
 use crate::places::Place;
-use crate::starts::{Started, host_in, recovered_host};
+use crate::starts::{host_in, recovered_host};
 use oai_archive::{Stop, check_differences, config_text, read_checkpoint, write_checkpoint};
 use oai_http::Replayed;
+use oai_journal::Recovery;
 use std::alloc::Global;
 use std::rt::Clock;
 
-/// Replaces the journal of the place by a checkpoint with the configuration in the text, which may be another one that the archive can
-/// go on with. All open lists have ended then, and the number of each next list is raised by so many. Where another configuration does
-/// not serve, or a fault comes, the journal is as it was: a checkpoint takes its place only once it was read back.
+/// Replaces the journal of the place by a checkpoint with the configuration in the text, which may be another one with
+/// which the archive can continue. All open lists have ended then, and the number of each next list is raised by that
+/// much. If the configuration does not match, or after a fault, the journal is unchanged: a checkpoint replaces it only
+/// once it was read back.
 pub(crate) fn renew<P: Place, C: Clock>(
     alloc: Global,
     place: &mut P,
@@ -25,13 +28,13 @@ pub(crate) fn renew<P: Place, C: Clock>(
     replace_journal(alloc, place, clock, text, started, raise)
 }
 
-/// Replaces the journal of the place, whose records the host has performed again, as `renew` does.
-pub(crate) fn replace_journal<P: Place, C: Clock>(
+/// Replaces the journal of the place, whose records the handler has replayed, as `renew` does.
+pub(crate) fn replace_journal<P: Place, H: Replayed + Drop, C: Clock>(
     alloc: Global,
     place: &mut P,
     clock: &C,
     text: &[u8],
-    started: Started<P>,
+    started: (Recovery<P::Disk>, Dated<H>),
     raise: u32,
 ) -> Result<(), Stop> {
     let (recovery, mut recovered) = started;
@@ -41,8 +44,8 @@ pub(crate) fn replace_journal<P: Place, C: Clock>(
     keep_checkpoint(alloc, place, text)
 }
 
-/// Writes what the handler keeps as a checkpoint beside the journal of the place, with the configuration in the text, and the number of
-/// each next list raised by so many.
+/// Writes the handler's state as a checkpoint beside the journal of the place, with the configuration in the text, and
+/// the number of each next list raised by that much.
 fn begin_checkpoint<P: Place, H: Replayed, C: Clock>(
     alloc: Global,
     place: &mut P,
@@ -52,13 +55,24 @@ fn begin_checkpoint<P: Place, H: Replayed, C: Clock>(
     raise: u32,
 ) -> Result<(), Stop> {
     let disk = place.begin_journal()?;
-    write_checkpoint(alloc, disk, moment_of(clock)?, text, handler, raise)
+    drop(write_checkpoint(alloc, disk, moment_of(clock)?, text, handler, raise)?);
+    Ok(())
 }
 
-/// Reads the checkpoint back that was written, as a start does, and makes it the journal of the place.
+/// Reads the written checkpoint back, as a startup does, and makes it the journal of the place.
 fn keep_checkpoint<P: Place>(alloc: Global, place: &mut P, text: &[u8]) -> Result<(), Stop> {
     let disk = place.open_begun()?;
     let host = host_in(alloc, place, text)?;
-    let begun = read_checkpoint(alloc, disk, host)?;
+    keep_read_back(alloc, place, disk, host)
+}
+
+/// Reads the checkpoint on the disk back by the handler, and makes it the journal of the place.
+fn keep_read_back<P: Place, H: Replayed + Drop>(
+    alloc: Global,
+    place: &mut P,
+    disk: P::Disk,
+    handler: H,
+) -> Result<(), Stop> {
+    let begun = read_checkpoint(alloc, disk, handler)?;
     place.keep_journal(begun)
 }

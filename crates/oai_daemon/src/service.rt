@@ -1,36 +1,75 @@
-//! A start, and the service behind it.
+//! A startup, and the service after it.
+ghost use Rattle.oai_daemon.specs.Ends.{outcome_of, stop_of};
 ghost use Rattle.oai_daemon.specs.Lives.{HasLived};
 ghost use Rattle.oai_daemon.specs.Starts.{HasResumed, HasServed};
-ghost use Rattle.std.specs.Prelude.{IfOk};
+ghost use Rattle.oai_serving.specs.Accepted.{PassesNone, known_of};
+ghost use Rattle.std.specs.Prelude.{◌≡◌, IfOk};
 
 use crate::clocks::{GuardedClock, to_moment};
 use crate::places::Place;
 use crate::starts::start;
 use crate::watched::Watched;
 use oai_archive::Stop;
-use oai_cli::{Stop as Other, config_in};
-use oai_durable::resume;
+use oai_durable::{Journaled, resume};
+use oai_host::Host;
 use oai_http::{Replayed, Settled};
 use oai_journal::{FileJournal, Journal, Recovery};
+use oai_paged::PagedVersions;
 use oai_serving::{ServeFault, Server, Sockets, Stream};
+use oai_startup::{Stop as Other, config_in};
 use std::alloc::Global;
 use std::rt::Clock;
 
-/// Serves the repositories of the configuration in the text, in the state that the journal of the place gives, until it is
-/// killed or cannot go on. What is performed stands in the journal, synced, before it is answered. The error is why it stopped before
-/// it served; the value is how its service ended.
+/// A service that has ended.
+#[derive(Drop)]
+pub struct Ended<S, K, H> {
+    /// The server, with the connections that were open.
+    pub server: Server<S, H>,
+    /// What its connections came from.
+    pub port: K,
+    /// Why it ended; Ok after at least 2^64 - 1 rounds.
+    pub result: Result<(), ServeFault>,
+    /// The second from 1970 on to which the system's clock jumped, where it did.
+    pub jumped: Option<u64>,
+}
+
+impl<S, K, H> Ended<S, K, H> {
+    /// Why the program stops: `CannotWrite` where the journal could not be written or synced, `Jumped` where the clock jumped,
+    /// `InputFault` where it could not be read, and `SocketFault` where the sockets could not be waited for.
+    pub fn outcome(&self) -> Result<(), Stop>
+        ensures { result ≡ outcome_of self.now.result self.now.jumped }
+    {
+        match self.result {
+            Ok(()) => Ok(()),
+            Err(fault) => Err(stop_of(fault, self.jumped)),
+        }
+    }
+}
+
+/// The handler of a place's server: a host over the pages of the place, whose exchanges stand in its journal, and whose faults are
+/// reported to it.
+pub type Hosting<'a, P> = Watched<
+    'a,
+    Journaled<Host<PagedVersions<<P as Place>::Pages>>, FileJournal<<P as Place>::Disk>>,
+    P,
+>;
+
+/// Serves the repositories of the configuration in the text, in the state that the journal of the place gives, until it
+/// is killed or cannot continue. What is performed is logged in the journal, and synced, before it is answered. The
+/// error is why it stopped before it served; the value is what its service ended with.
 ///
-/// A start goes in this order, and stops at the first fault: the configuration, the folder, the port, the journal and its
-/// first record, the pages, all other records, and the report of where the server listens. A journal of another configuration, and
-/// one that is long while no list is open, is replaced by a checkpoint before that.
-pub fn serve<P: Place, C: Clock>(
+/// A startup goes in this order, and stops at the first fault: the configuration, the folder, the port, the journal and
+/// its first record, the pages, all other records, and the report of where the server listens. A journal with another
+/// configuration, and one that is long while no list is open, is replaced by a checkpoint before that.
+pub fn serve<'a, P: Place, C: Clock>(
     alloc: Global,
-    place: &mut P,
+    place: &'a mut P,
     clock: &C,
     text: &[u8],
-) -> Result<Result<(), Stop>, Stop>
+) -> Result<Ended<P::Link, P::Port, Hosting<'a, P>>, Stop>
     ensures { IfOk result (λ ended. HasLived ⟦<FileJournal<P::Disk> as Journal>⟧ P.Disk.Disk.seen P.Disk.Disk.is_clean
-        P.Link.Stream.contents P.Link.Stream.remaining text.now) }
+        P.Link.Stream.contents P.Link.Stream.remaining text.now
+        (known_of (P.Port.Sockets.accepted ended.port) (P.Port.Sockets.gone ended.port)) ended.result ended.server) }
 {
     let port = open(alloc, place, text)?;
     let started = start(alloc, place, clock, text)?;
@@ -39,21 +78,23 @@ pub fn serve<P: Place, C: Clock>(
 }
 
 /// Reads the configuration, opens the folder, and listens.
-fn open<P: Place>(alloc: Global, place: &mut P, text: &[u8]) -> Result<P::Port, Stop> {
+fn open<P: Place>(alloc: Global, place: &mut P, text: &[u8]) -> Result<P::Port, Stop>
+    ensures { IfOk result (λ port. PassesNone (known_of (P.Port.Sockets.accepted port) (P.Port.Sockets.gone port))) }
+{
     drop(config_in(alloc, text)?);
     place.lock()?;
     place.listen()
 }
 
-/// Serves the handler, which all that the journal has was performed by again.
-fn serve_over<P: Place, H: Replayed + Drop, C: Clock>(
+/// Serves the handler, which has replayed the whole journal.
+fn serve_over<'a, P: Place, H: Replayed + Drop, C: Clock>(
     alloc: Global,
-    place: &mut P,
+    place: &'a mut P,
     clock: &C,
     handler: H,
     recovery: Recovery<P::Disk>,
-    mut port: P::Port,
-) -> Result<Result<(), Stop>, Stop>
+    port: P::Port,
+) -> Result<Ended<P::Link, P::Port, Watched<'a, Journaled<H, FileJournal<P::Disk>>, P>>, Stop>
     ensures { IfOk result (λ ended. HasResumed (record {
       step = H.step;
       Kept = H.Kept;
@@ -62,36 +103,44 @@ fn serve_over<P: Place, H: Replayed + Drop, C: Clock>(
       leaving = record { redone = H.redone; restored = H.restored };
       reply = H.reply;
     }) ⟦<FileJournal<P::Disk> as Journal>⟧ P.Disk.Disk.seen P.Disk.Disk.may_leave
-        P.Link.Stream.contents P.Link.Stream.remaining handler recovery) }
+        P.Link.Stream.contents P.Link.Stream.remaining handler recovery
+        (known_of (P.Port.Sockets.accepted port) (P.Port.Sockets.gone port))
+        (known_of (P.Port.Sockets.accepted ended.port) (P.Port.Sockets.gone ended.port)) ended.result ended.server) }
 {
     let Some(journaled) = resume(alloc, handler, recovery) else {
         return Err(Stop::Common(Other::InputFault));
     };
     place.announce(&port)?;
     let watched = Watched::new(journaled, place);
-    serve_at(alloc, &GuardedClock::new(clock), watched, &mut port)
+    serve_at(alloc, &GuardedClock::new(clock), watched, port)
 }
 
-/// Serves the handler until it is killed or cannot go on. The error is out of memory, before it served.
-fn serve_at<S: Stream + Drop, K: Sockets<S>, H: Settled + Drop, C: Clock>(
+/// Serves the handler until it is killed or cannot continue. The error is out of memory, before it served.
+fn serve_at<S: Stream + Drop, K: Sockets<S> + Drop, H: Settled + Drop, C: Clock>(
     alloc: Global,
     clock: &GuardedClock<'_, C>,
     handler: H,
-    port: &mut K,
-) -> Result<Result<(), Stop>, Stop>
-    ensures { IfOk result (λ ended. HasServed H.step H.settled S.contents S.remaining handler) }
+    mut port: K,
+) -> Result<Ended<S, K, H>, Stop>
+    ensures { IfOk result (λ ended. HasServed H.step H.settled S.contents S.remaining handler
+        (known_of (K.accepted port) (K.gone port)) (known_of (K.accepted ended.port) (K.gone ended.port)) ended.result ended.server) }
 {
     let Ok(mut server) = Server::new(alloc, handler) else {
         return Err(Stop::Common(Other::NoMemory));
     };
-    match server.serve(port, clock) {
-        Ok(()) => Ok(Ok(())),
-        Err(fault) => Ok(Err(stop_of(fault, clock.jumped()))),
-    }
+    let result = server.serve(&mut port, clock);
+    Ok(Ended {
+        server,
+        port,
+        result,
+        jumped: clock.jumped(),
+    })
 }
 
-/// Why the server stops, where its service ended, and the clock jumped to that second, or did not jump.
-fn stop_of(fault: ServeFault, jumped: Option<u64>) -> Stop {
+/// Why the server stops when its service ended, and the clock jumped to that second, or did not jump.
+fn stop_of(fault: ServeFault, jumped: Option<u64>) -> Stop
+    ensures { result ≡ stop_of fault jumped }
+{
     match (fault, jumped) {
         (ServeFault::Wait, _) => Stop::Common(Other::SocketFault),
         (ServeFault::Clock, Some(second)) => Stop::Jumped(to_moment(second)),

@@ -1,24 +1,25 @@
-//! A host that has performed a journal again.
-ghost use Rattle.oai_archive.specs.Readings.{HasBegun};
+//! A host that has replayed a journal.
+ghost use Rattle.oai_archive.specs.Readings.{HasBegunFor};
 ghost use Rattle.oai_daemon.specs.Starts.{HasStarted, IsHostOf};
 ghost use Rattle.oai_journal.specs.Recovered.{disk_of};
 ghost use Rattle.std.specs.Prelude.{IfOk, IsTrue};
 
 use crate::clocks::moment_of;
 use crate::dated::Dated;
-use crate::journals::{open_journal, read_first};
+use crate::journals::{open_journal, reopen_journal};
 use crate::places::Place;
 use crate::recoveries::recover_all;
 use crate::renewals::replace_journal;
 use oai_archive::Stop;
-use oai_cli::{config_in, host_on};
 use oai_host::Host;
 use oai_journal::Recovery;
 use oai_paged::PagedVersions;
+use oai_startup::{config_in, host_on};
 use std::alloc::Global;
 use std::rt::Clock;
 
-/// A journal longer than twice its last checkpoint and so many bytes is replaced by a checkpoint at a start: 64 MiB.
+/// A startup replaces a journal by a checkpoint if it is longer than twice its last checkpoint and this many bytes: 64
+/// MiB.
 const MAX_TAIL: usize = 67_108_864;
 
 /// A host over the pages of a place, recovered from the journal of the place.
@@ -27,8 +28,8 @@ pub(crate) type Started<P> = (
     Dated<Host<PagedVersions<<P as Place>::Pages>>>,
 );
 
-/// The host of the configuration in the text, in the state that the journal of the place gives. A journal of another configuration, and
-/// one that is long while no list is open, is replaced by a checkpoint before that.
+/// The host of the configuration in the text, in the state that the journal of the place gives. A journal with another
+/// configuration, and one that is long while no list is open, is replaced by a checkpoint before that.
 pub(crate) fn start<P: Place, C: Clock>(
     alloc: Global,
     place: &mut P,
@@ -46,7 +47,7 @@ pub(crate) fn start<P: Place, C: Clock>(
     Ok(started)
 }
 
-/// The host in the state that it has, but for the lists, which have ended, once a checkpoint took the place of the journal.
+/// The host with its state, except that its lists have ended, after a checkpoint replaced the journal.
 fn restart<P: Place, C: Clock>(
     alloc: Global,
     place: &mut P,
@@ -58,12 +59,12 @@ fn restart<P: Place, C: Clock>(
         started.1.handler started.0) }
 {
     replace_journal(alloc, place, clock, text, started, 0)?;
-    let recovery = read_first(alloc, place)?;
+    let recovery = reopen_journal(alloc, place, text)?;
     recovered_host(alloc, place, clock, text, recovery)
 }
 
-/// The host of the configuration in the text, over emptied pages, once all that the journal has was performed again. The first record of the
-/// journal is read.
+/// The host of the configuration in the text, over emptied pages, after it replayed the whole journal. The first record
+/// of the journal is read.
 pub(crate) fn recovered_host<P: Place, C: Clock>(
     alloc: Global,
     place: &mut P,
@@ -72,7 +73,7 @@ pub(crate) fn recovered_host<P: Place, C: Clock>(
     mut recovery: Recovery<P::Disk>,
 ) -> Result<Started<P>, Stop>
     requires { IsTrue (P.Disk.Disk.is_clean (disk_of recovery))
-        → HasBegun P.Disk.Disk.seen P.Disk.Disk.may_leave recovery }
+        → HasBegunFor P.Disk.Disk.seen P.Disk.Disk.may_leave text.now recovery }
     ensures { IfOk result (λ started. HasStarted P.Disk.Disk.seen P.Disk.Disk.may_leave P.Disk.Disk.is_clean text.now
         started.1.handler started.0) }
 {
@@ -81,7 +82,7 @@ pub(crate) fn recovered_host<P: Place, C: Clock>(
     Ok((recovery, recovered))
 }
 
-/// The host of the configuration in the text over emptied pages, as it begins.
+/// The host of the configuration in the text over emptied pages, in its initial state.
 #[tactic(auto, using(crate::proofs::StartLemmas::host_of))]
 pub(crate) fn host_in<P: Place>(
     alloc: Global,
@@ -95,7 +96,7 @@ pub(crate) fn host_in<P: Place>(
     Ok(host_on(alloc, config, pages)?)
 }
 
-/// Whether the journal is long, and no list can be open any more.
+/// Whether the journal is long, and no list can still be open.
 fn is_due<P: Place, C: Clock>(
     alloc: Global,
     clock: &C,
@@ -114,7 +115,7 @@ fn is_due<P: Place, C: Clock>(
     })
 }
 
-/// The most seconds that a list of the configuration in the text is open without being asked for.
+/// The longest time in seconds that a list of the configuration in the text stays open without a request.
 fn longest_lifetime(alloc: Global, text: &[u8]) -> Result<i64, Stop> {
     let mut longest = 0;
     for repository in config_in(alloc, text)?.into_repositories().as_slice() {

@@ -7,13 +7,13 @@ use oai_http::{Answer, Exchange, Handler, SettleFault, Settled, Status};
 use oai_item::Fault;
 use std::marker::Model;
 
-/// A handler, and the place to which each exchange is reported that it answers with 500 (Internal Server Error); of equal faults once a second,
-/// with how many they were since.
+/// A handler, and the place to which each exchange is reported that it answers with 500 (Internal Server Error); equal
+/// faults once a second, with their number since.
 #[derive(Drop)]
-pub(crate) struct Watched<'a, H, P> {
+pub struct Watched<'a, H, P> {
     handler: H,
     place: &'a mut P,
-    /// The fault that was reported last, and at which moment.
+    /// The fault that was reported last, and its moment.
     told: Option<(Fault, i64)>,
     /// How many equal ones came since.
     untold: u64,
@@ -38,7 +38,7 @@ impl<'a, H: Handler, P: Place> Watched<'a, H, P> {
         }
     }
 
-    /// Takes note of an answer at that moment.
+    /// Notes an answer at that moment.
     fn watch(&mut self, moment: i64, status: Status, fault: Option<Fault>)
         ensures { self.new ≡ self.old }
     {
@@ -48,7 +48,7 @@ impl<'a, H: Handler, P: Place> Watched<'a, H, P> {
         }
     }
 
-    /// Takes note of a fault at that moment.
+    /// Notes a fault at that moment.
     fn fail(&mut self, moment: i64, fault: Fault)
         ensures { self.new ≡ self.old }
     {

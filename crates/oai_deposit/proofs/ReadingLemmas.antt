@@ -1,5 +1,5 @@
 -- Readings in steps, and a reading of each of a list as a loop takes it.
-use Rattle.std.proofs.Common.{◌≡◌, Bool, true, false, cond, Option, Some, None, List, [], ◌∷◌, ◌++◌, ◌&&◌, Result, Ok, Err, refl, sym, ap, ◌∙◌, append_assoc}
+use Rattle.std.proofs.Common.{◌≡◌, ℕ, suc, ◌+◌, ◌<◌, Bool, true, false, cond, Option, Some, None, List, [], ◌∷◌, ◌++◌, ◌&&◌, length, get_or, drop, map, Result, Ok, Err, refl, sym, ap, ◌∙◌, append_assoc, add-one, drop-cons}
 use Rattle.std.specs.List.{list_all}
 use Rattle.std.proofs.lemmas.List.{append-nil}
 use Rattle.oai_item.specs.declared.refusals.LineRefusal.{LineRefusal}
@@ -35,6 +35,13 @@ pub goes_on : {A B : Type 0} (f : A → Option B) (done : List B) (x : A) (xs : 
     → f x ≡ Some y → with_front done (each_of f (x ∷ xs)) ≡ total → with_front (done ++ y ∷ []) (each_of f xs) ≡ total
 goes_on f done x xs y total is so_far =
     sym (regroup done y (each_of f xs)) ∙ ap (λ r. with_front done (r >>= λ z. each_of f xs >>= λ zs. Some (z ∷ zs))) (sym is) ∙ so_far
+
+-- one more value, of a slice
+pub next_read : {X A B : Type 0} (see : X → A) (f : A → Option B) (done : List B) (xs : List X) (i : ℕ) (d : X) (y : B) (total : Option (List B))
+    → i < length xs → f (see (get_or xs i d)) ≡ Some y → with_front done (each_of f (map see (drop i xs))) ≡ total
+    → with_front (done ++ y ∷ []) (each_of f (map see (drop (i + 1) xs))) ≡ total
+next_read see f done xs i d y total inside is so_far =
+    rw add-one (goes_on f done (see (get_or xs i d)) (map see (drop (suc i) xs)) y total is (rw (drop-cons xs i d inside) at so_far))
 
 -- no value is left
 pub is_done : {A B : Type 0} (f : A → Option B) (done : List B) (xs : List A) (total : Option (List B))
@@ -79,3 +86,8 @@ pub all_passed : {A : Type 0} (refusal : LineRefusal) (condition : Type 0) (r : 
     → FindsBy refusal (λ (ys : List A). ys) condition r (each_of (tested passes) xs) → Gives condition r (passed (list_all passes xs) refusal xs)
 all_passed refusal condition r passes xs finds =
     found_passes refusal condition r (list_all passes xs) xs (rw (← each_tested passes xs) finds)
+
+-- what passed a test was read by it
+pub passed_is_tested : {A : Type 0} (test : Bool) (refusal : LineRefusal) (x y : A) → passed test refusal x ≡ Ok y → cond test (Some x) None ≡ Some y
+passed_is_tested true refusal x y is = cc
+passed_is_tested false refusal x y is = absurd cc

@@ -1,4 +1,5 @@
--- JSON texts, and their values as plain lists; what a value, or a member of an object, is where it is of a kind. RFC 8259, sections 2 to 8.
+-- JSON texts, and their values as plain lists; what a value, or a member of an object, is if it is of a kind. RFC 8259,
+-- sections 2 to 8.
 use Rattle.std.specs.Prelude.{◌≡◌, ◌<◌, ℕ, Bool, true, ◌==◌, ◌&&◌, if◌then◌else◌, is_some, List, [], ◌∷◌, length, Option, None, option_map}
 use Rattle.std.specs.List.{list_all}
 use Rattle.std.specs.Option.{option_map_or}
@@ -14,7 +15,7 @@ use Rattle.oai_names.specs.Optional.{◌>>=◌, each_of}
 unfoldable pub json_in : List ℕ → Option Data
 json_in text = if is_utf8 text then read text else None
 
--- the texts that memory may be taken for: those in UTF-8, but not the empty one
+-- the texts for which memory may be allocated: those in UTF-8, except the empty one
 pub record TakesMemory (line : List ℕ) : Type 0 where
   pub text : is_utf8 line ≡ true
   pub some : 0 < length line
@@ -45,7 +46,7 @@ members_of (m ∷ ms) = member m.0 m.1 (members_of ms)
 abbrev pub array_of : List Data → Data
 array_of ds = array (items_of ds)
 
--- the object of these members
+-- the object with these members
 abbrev pub object_of : List (List ℕ × Data) → Data
 object_of ms = object (members_of ms)
 
@@ -53,11 +54,11 @@ object_of ms = object (members_of ms)
 abbrev pub size : Data → ℕ
 size d = option_map_or (λ ms. length (members_in ms)) (as_object d) 0
 
--- a member of each of these names
+-- a member with each of these names
 abbrev pub has_each : List (List ℕ) → Data → Bool
 has_each names d = list_all (λ name. is_some (get name d)) names
 
--- an object of exactly these members, which are of different names
+-- an object with exactly these members, whose names are distinct
 unfoldable pub has_members : List (List ℕ) → Data → Bool
 has_members names d = (size d == length names) && has_each names d
 
@@ -67,11 +68,11 @@ has_members names d = (size d == length names) && has_each names d
 unfoldable pub elements_of : Data → Option (List Data)
 elements_of d = option_map elements_in (as_array d)
 
--- a string, as the member of that name
+-- a string, as the member with that name
 unfoldable pub text_at : List ℕ → Data → Option (List ℕ)
 text_at name d = get name d >>= as_str
 
--- a number: none in it, where it is not of 64 bits, whole and not negative
+-- a number: none in it, if it is not of 64 bits, whole and not negative
 unfoldable pub number_at : List ℕ → Data → Option (Option ℕ)
 number_at name d = option_map as_u64 (get name d >>= as_number)
 

@@ -1,4 +1,5 @@
--- One line of a deposit: which change it asks for, or the first cause to refuse it. The lines are this repository's own.
+-- One line of a deposit: the change that it requests, or the first cause to refuse it. The lines are this repository's
+-- own.
 use Rattle.std.specs.Prelude.{ℕ, Bool, not, if◌then◌else◌, List, [], ◌∷◌, codes, Option, Some, None, option_map, Result, Ok, Err}
 use Rattle.std.specs.List.{list_all}
 use Rattle.serde_json.specs.Data.{Data}
@@ -18,8 +19,8 @@ use Rattle.oai_deposit.specs.Json.{json_in, members_in, has_members, elements_of
 
 -- ---- the shapes. `ShapeLaw` (Shapes.antt) says which objects they are
 
--- the texts of a command: of a deposit, the identifier, the setSpecs and the records; of a deletion, the identifier; of a purge, the
--- bound; of a new set, the setSpec and the setName
+-- the texts of a command: of a deposit, the identifier, the setSpecs and the records; of a deletion, the identifier; of
+-- a purge, the bound; of a new set, the setSpec and the setName
 pub data Shape : Type 0 where
   deposits : List ℕ → List (List ℕ) → List Metadata → Shape
   deletes : List ℕ → Shape
@@ -101,7 +102,7 @@ set_shape d = do
 abbrev pub set_members : List (List ℕ)
 set_members = codes "set" ∷ codes "name" ∷ []
 
--- a command is an object of exactly the members of one shape, of these forms
+-- a command is an object with exactly the members of one shape, of these forms
 unfoldable pub shape_of : Data → Option Shape
 shape_of d =
     if has_members deposit_members d then deposit_shape d
@@ -117,8 +118,8 @@ unfoldable pub have_xml_texts : List Metadata → Bool
 have_xml_texts records =
     list_all (λ metadata. list_all (λ field. is_xml_text field.text) metadata.1) records
 
--- the change that a command asks for: its identifier, each of its setSpecs, and the texts of its fields or its setName are tested,
--- in this order. The bound of a purge is for the repository to read, which knows its granularity
+-- the change that a command requests: its identifier, each of its setSpecs, and the texts of its fields or its setName
+-- are tested, in this order. The repository, which knows its granularity, reads the bound of a purge
 unfoldable pub asked_change : Shape → Result Change LineRefusal
 asked_change (deposits identifier sets records) =
     if not (may_be_identifier identifier) then Err BadIdentifier
@@ -135,16 +136,16 @@ asked_change (adds_set spec name) =
 
 -- ---- the line
 
--- a value that is of no shape is no command
+-- a value without a shape is no command
 abbrev pub change_asked : Option Shape → Result Change LineRefusal
 change_asked None = Err BadCommand
 change_asked (Some shape) = asked_change shape
 
--- a line that is no JSON text asks for nothing
+-- a line that is no JSON text requests nothing
 abbrev pub value_asked : Option Data → Result Change LineRefusal
 value_asked None = Err BadJson
 value_asked (Some d) = change_asked (shape_of d)
 
--- the change that a line asks for, or the first refusal: of the JSON, of the shape, of the texts
+-- the change that a line requests, or the first refusal: of the JSON, of the shape, of the texts
 unfoldable pub line_of : List ℕ → Result Change LineRefusal
 line_of line = value_asked (json_in line)

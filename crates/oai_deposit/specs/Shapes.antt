@@ -1,4 +1,4 @@
--- The JSON object that a command is written as. RFC 8259, sections 4, 5 and 7.
+-- The JSON object of a command. RFC 8259, sections 4, 5 and 7.
 use Rattle.std.specs.Prelude.{◌≡◌, ◌↔◌, ℕ, List, [], ◌∷◌, map, codes, Some, None}
 use Rattle.serde_json.specs.Data.{Data, string}
 use Rattle.serde_json.specs.Find.{get}
@@ -54,11 +54,11 @@ IsShape (deletes identifier) d = IsDeletion identifier d
 IsShape (purges before) d = IsPurge before d
 IsShape (adds_set spec name) d = IsNewSet spec name d
 
--- the value is of a shape exactly where it is the object that the shape is written as, and of none exactly where it is no such object
+-- the value has a shape exactly if it is the object of that shape, and none exactly if it is no such object
 pub record IsReadAsWritten (d : Data) : Type 0 where
   pub fits : (shape : Shape) → (shape_of d ≡ Some shape) ↔ IsShape shape d
   pub fits_none : (shape_of d ≡ None) ↔ ((shape : Shape) → ¬ IsShape shape d)
 
--- the law of the shapes, at every value
+-- the law of the shapes, for every value
 abbrev pub ShapeLaw : Type 0
 ShapeLaw = (d : Data) → IsReadAsWritten d

@@ -1,4 +1,4 @@
--- The tokens of a deposit line whose members stand in the order deposit, sets, records. RFC 8259, sections 2, 4, 5 and 7.
+-- The tokens of a deposit line with its members in the order deposit, sets, records. RFC 8259, sections 2, 4, 5 and 7.
 use Rattle.std.specs.Prelude.{◌≡◌, ℕ, ◌-◌, Bool, true, List, [], ◌∷◌, ◌++◌, length, slice_get, codes, Option, Some, None}
 use Rattle.std.specs.List.{flat_map}
 use Rattle.json.specs.Token.{Token}
@@ -8,7 +8,7 @@ use Rattle.oai_item.specs.Item.{Metadata, is_before}
 use Rattle.oai_deposit.specs.Json.{json_in}
 use Rattle.oai_deposit.specs.Lines.{deposits, shape_of}
 
--- the array of these elements, each of its tokens
+-- the array of these elements, each by its tokens
 abbrev pub array_tokens : {A : Type 0} → (A → List Token) → List A → List Token
 array_tokens tokens elements = Token.begin_array ∷ (flat_map tokens elements ++ Token.end_array ∷ [])
 
@@ -34,7 +34,7 @@ deposit_tokens identifier sets records =
     Token.begin_object ∷ Token.key (codes "deposit") ∷ Token.string identifier ∷ Token.key (codes "sets")
     ∷ (array_tokens text_tokens sets ++ Token.key (codes "records") ∷ (records_tokens records ++ Token.end_object ∷ []))
 
--- the record, where there is one, stands before the prefix, byte by byte
+-- the record, if there is one, precedes the prefix, byte by byte
 abbrev pub is_none_or_before : Option Metadata → List ℕ → Bool
 is_none_or_before None prefix = true
 is_none_or_before (Some metadata) prefix = is_before metadata.0 prefix

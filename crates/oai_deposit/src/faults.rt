@@ -8,7 +8,7 @@ use thiserror::Error;
 /// Why a line was not read.
 #[derive(Clone, Copy, Debug, PartialEq, Eq, Error)]
 pub enum LineFault {
-    /// What the line asks for could not be stored.
+    /// Out of memory.
     #[error("out of memory")]
     NoMemory,
     /// The line is refused.

@@ -1,5 +1,5 @@
-//! Deposit lines: which change a line of JSON asks a repository for, or why the line is refused. And
-//! what a JSON value has, for whatever else is read from JSON.
+//! Deposit lines: the change that a line of JSON requests of a repository, or why the line is refused. And what a JSON
+//! value has, for other readers of JSON.
 #![tactic(auto)]
 
 mod deposit_texts;

@@ -13,7 +13,7 @@ use oai_item::LineRefusal;
 use serde_json::Value;
 use std::alloc::Global;
 
-/// The text of the member of that name; `BadCommand` where there is no such string.
+/// The text of the member with that name; `BadCommand` if there is no such string.
 pub(crate) fn command_text<'v>(value: &'v Value, name: &str) -> Result<&'v str, LineFault>
     ensures { FindsBy BadCommand (λ text. text.now) ⊥ result (json.text_at name.now (view value.now)) }
 {
@@ -23,7 +23,7 @@ pub(crate) fn command_text<'v>(value: &'v Value, name: &str) -> Result<&'v str, 
     }
 }
 
-/// The texts of the member of that name; `BadCommand` where there is no such array of strings.
+/// The texts of the member with that name; `BadCommand` if there is no such array of strings.
 #[tactic(auto, unfolding(crate::specs::Json::texts_at))]
 pub(crate) fn texts_at<'v>(
     alloc: Global,
@@ -40,7 +40,7 @@ pub(crate) fn texts_at<'v>(
     }
 }
 
-/// The text of each string; `BadCommand` at the first that is none.
+/// The text of each string; `BadCommand` at the first value that is none.
 #[tactic(auto, using(crate::proofs::ReadingLemmas::starts))]
 fn texts_in(alloc: Global, values: &[Value]) -> Result<Vec<&str>, LineFault>
     ensures { FindsBy BadCommand (λ texts. map (λ text. text.now) texts.items) Anywhere result
@@ -53,7 +53,7 @@ fn texts_in(alloc: Global, values: &[Value]) -> Result<Vec<&str>, LineFault>
     Ok(texts)
 }
 
-/// The text of a string; `BadCommand` at any other value.
+/// The text of a string; `BadCommand` for any other value.
 pub(crate) fn text_of(value: &Value) -> Result<&str, LineFault>
     ensures { FindsBy BadCommand (λ text. text.now) ⊥ result (as_str (view value.now)) }
 {

@@ -105,7 +105,7 @@ fn pair_of(alloc: Global, values: &[Value]) -> Result<Field, LineFault>
 }
 
 /// The field of that name and that text.
-fn field_from(alloc: Global, name: &str, text: &str) -> Result<Field, LineFault>
+pub(crate) fn field_from(alloc: Global, name: &str, text: &str) -> Result<Field, LineFault>
     ensures { Finds Anywhere result (Some (record { name = name.now; text = text.now })) }
 {
     Ok(Field {

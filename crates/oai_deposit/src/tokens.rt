@@ -1,12 +1,14 @@
 //! Deposits that are read from the tokens of their line, with no JSON value made of it: those whose
 //! members stand in the order `deposit`, `sets`, `records`, under prefixes that rise.
 
-ghost use Rattle.std.specs.Prelude.{◌≡◌, ◌∷◌, ◌++◌, map, true, IfSome};
+ghost use Rattle.std.specs.Prelude.{◌≡◌, [], ◌∷◌, ◌++◌, codes, map, true, IfSome};
+ghost use Rattle.std.specs.List.{flat_map};
 ghost use Rattle.json.specs.Token as token;
 ghost use Rattle.oai_item.specs.Item.{are_rising};
 ghost use Rattle.oai_deposit.specs.Tokens as tokens;
 
 use crate::deposit_texts::DepositTexts;
+use crate::records::field_from;
 use json::{Reader, Scratch, Token};
 use oai_item::{Field, Records};
 use oai_names::{Sequence, Text};
@@ -40,19 +42,38 @@ fn take_deposit<'a>(alloc: Global, reader: &mut Reader<'a>) -> Option<DepositTex
         ≡ tokens.deposit_tokens texts.identifier.now (map (λ set. set.now) texts.sets.items) texts.records
         ++ reader.new) }
 {
-    take_begin_object(reader)?;
-    take_key(reader, "deposit")?;
-    let identifier = take_text(reader)?;
+    let identifier = take_identifier(reader)?;
     take_key(reader, "sets")?;
     let sets = take_texts(alloc, reader)?;
-    take_key(reader, "records")?;
-    let records = take_records(alloc, reader)?;
-    take_end_object(reader)?;
+    let records = take_last_records(alloc, reader)?;
     Some(DepositTexts {
         identifier,
         sets,
         records,
     })
+}
+
+/// Takes the brace that stands next and opens a deposit, and the member of its identifier.
+fn take_identifier<'a>(reader: &mut Reader<'a>) -> Option<&'a str>
+    ensures { IfSome result (λ identifier. reader.old
+        ≡ token.Token.begin_object ∷ token.Token.key (codes "deposit") ∷ token.Token.string identifier.now
+        ∷ reader.new) }
+{
+    take_begin_object(reader)?;
+    take_key(reader, "deposit")?;
+    take_text(reader)
+}
+
+/// Takes the member of the records that stands next, and the brace that closes the deposit behind it.
+fn take_last_records(alloc: Global, reader: &mut Reader<'_>) -> Option<Records>
+    ensures { IfSome result (λ records. reader.old
+        ≡ token.Token.key (codes "records") ∷ (tokens.records_tokens records
+        ++ token.Token.end_object ∷ reader.new)) }
+{
+    take_key(reader, "records")?;
+    let records = take_records(alloc, reader)?;
+    take_end_object(reader)?;
+    Some(records)
 }
 
 /// Takes the array of strings that stands next.
@@ -75,6 +96,21 @@ fn take_records(alloc: Global, reader: &mut Reader<'_>) -> Option<Records>
 {
     take_begin_object(reader)?;
     let mut records = Vec::new(alloc);
+    add_records(alloc, reader, &mut records)?;
+    Some(Records::new(Sequence::new(records)))
+}
+
+/// Takes the records that stand next, whose prefixes rise, and the brace behind them, into an empty list.
+fn add_records(
+    alloc: Global,
+    reader: &mut Reader<'_>,
+    records: &mut Vec<(Text, Sequence<Field>)>,
+) -> Option<()>
+    requires { records.old.items ≡ [] }
+    ensures taken { IfSome result (λ _. reader.old
+        ≡ flat_map tokens.record_tokens records.new.items ++ token.Token.end_object ∷ reader.new) }
+    ensures rising { IfSome result (λ _. are_rising records.new.items ≡ true) }
+{
     while let Some(prefix) = reader.next_key().ok()? {
         if !may_follow(records.as_slice(), prefix) {
             return None;
@@ -82,7 +118,7 @@ fn take_records(alloc: Global, reader: &mut Reader<'_>) -> Option<Records>
         let prefix = Text::new(alloc, prefix).ok()?;
         records.push((prefix, take_fields(alloc, reader)?)).ok()?;
     }
-    Some(Records::new(Sequence::new(records)))
+    Some(())
 }
 
 /// Whether the prefix stands behind the last one.
@@ -112,12 +148,12 @@ fn take_field(alloc: Global, reader: &mut Reader<'_>) -> Option<Field>
     ensures { IfSome result (λ field. reader.old ≡ tokens.field_tokens field ++ reader.new) }
 {
     take_begin_array(reader)?;
-    let name = Text::new(alloc, take_text(reader)?).ok()?;
-    let text = Text::new(alloc, take_text(reader)?).ok()?;
+    let name = take_text(reader)?;
+    let text = take_text(reader)?;
     if !reader.take_end_array() {
         return None;
     }
-    Some(Field { name, text })
+    field_from(alloc, name, text).ok()
 }
 
 /// Takes the string that stands next.

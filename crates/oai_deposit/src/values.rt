@@ -7,8 +7,8 @@ ghost use Rattle.oai_deposit.specs.Json as json;
 use serde_json::Value;
 use std::alloc::{AllocError, Global};
 
-/// The JSON value that the text is, in UTF-8 (RFC 8259); `None` where it is no JSON text. The error is
-/// out of memory, which does not come for a text that is empty or not in UTF-8.
+/// The JSON value of the text, in UTF-8 (RFC 8259); `None` if it is no JSON text. The error is out of memory, which
+/// does not come for a text that is empty or not in UTF-8.
 #[tactic(auto, unfolding(crate::specs::Json::json_in))]
 pub fn read_json(alloc: Global, text: &[u8]) -> Result<Option<Value>, AllocError>
     ensures ok { IfOk result (λ value. json.json_in text.now ≡ option_map view value) }
@@ -24,8 +24,7 @@ pub fn read_json(alloc: Global, text: &[u8]) -> Result<Option<Value>, AllocError
     }
 }
 
-/// Whether the value is an object of exactly these members (RFC 8259, section 4), in any order. It takes
-/// no memory.
+/// Whether the value is an object with exactly these members (RFC 8259, section 4), in any order. Allocates nothing.
 #[tactic(auto, using(crate::proofs::JsonLemmas::has_members_map))]
 pub fn has_members(value: &Value, names: &[&str]) -> bool
     ensures { result ≡ json.has_members (map (λ name. name.now) names.now) (view value.now) }
@@ -33,7 +32,7 @@ pub fn has_members(value: &Value, names: &[&str]) -> bool
     size(value) == names.len() && has_each(value, names)
 }
 
-/// Whether the value has a member of each of these names.
+/// Whether the value has a member with each of these names.
 fn has_each(value: &Value, names: &[&str]) -> bool
     ensures { result ≡ list_all (λ name. is_some (get name.now (view value.now))) names.now }
 {
@@ -47,7 +46,7 @@ fn has(value: &Value, name: &str) -> bool
     value.get(name).is_some()
 }
 
-/// How many members an object has, and 0 at any other value.
+/// The number of members of an object, and 0 for any other value.
 fn size(value: &Value) -> usize
     ensures { result ≡ json.size (view value.now) }
 {
@@ -57,7 +56,7 @@ fn size(value: &Value) -> usize
     }
 }
 
-/// The text of the member of that name; `None` where there is no such string. It takes no memory.
+/// The text of the member with that name; `None` if there is no such string. Allocates nothing.
 #[tactic(auto, unfolding(crate::specs::Json::text_at))]
 pub fn text_at<'v>(value: &'v Value, name: &str) -> Option<&'v str>
     ensures { json.text_at name.now (view value.now) ≡ option_copied result }
@@ -68,8 +67,8 @@ pub fn text_at<'v>(value: &'v Value, name: &str) -> Option<&'v str>
     }
 }
 
-/// The number of the member of that name, `None` in it where it is none of 64 bits that is whole and
-/// not negative; `None` where there is no such number. It takes no memory.
+/// The number of the member with that name; `Some(None)` if it is not whole, is negative, or does not fit 64 bits;
+/// `None` if there is no such number. Allocates nothing.
 #[tactic(auto, unfolding(crate::specs::Json::number_at))]
 pub fn number_at(value: &Value, name: &str) -> Option<Option<u64>>
     ensures { json.number_at name.now (view value.now) ≡ result }
@@ -80,7 +79,7 @@ pub fn number_at(value: &Value, name: &str) -> Option<Option<u64>>
     }
 }
 
-/// The elements of the member of that name; `None` where there is no such array. It takes no memory.
+/// The elements of the member with that name; `None` if there is no such array. Allocates nothing.
 #[tactic(auto, unfolding(crate::specs::Json::elements_at))]
 pub fn elements_at<'v>(value: &'v Value, name: &str) -> Option<&'v [Value]>
     ensures { json.elements_at name.now (view value.now) ≡ option_map (λ values. map view values.now) result }
@@ -91,7 +90,7 @@ pub fn elements_at<'v>(value: &'v Value, name: &str) -> Option<&'v [Value]>
     }
 }
 
-/// The elements of an array; `None` at any other value.
+/// The elements of an array; `None` for any other value.
 #[tactic(auto, unfolding(crate::specs::Json::elements_of))]
 pub(crate) fn elements_of(value: &Value) -> Option<&[Value]>
     ensures { json.elements_of (view value.now) ≡ option_map (λ values. map view values.now) result }

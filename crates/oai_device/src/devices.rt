@@ -5,10 +5,10 @@ ghost use Rattle.oai_device.specs.declared.devices.DeviceFault.TheVariants as fa
 use std::alloc::{AllocError, AllocFailed};
 use thiserror::Error;
 
-/// How many bytes a page has.
+/// The size of a page in bytes.
 pub const PAGE_BYTES: usize = 16_384;
 
-/// The last number that the count of a device's failures can have; it then stays there.
+/// The highest value of the counter of a device's failures, at which it saturates.
 pub const MAX_FAILURES: u64 = 18_446_744_073_709_551_615;
 
 /// The bytes of a page.
@@ -17,10 +17,10 @@ pub type Page = [u8; PAGE_BYTES];
 /// Why a device did not read or write a page.
 #[derive(Clone, Copy, Debug, PartialEq, Eq, Error)]
 pub enum DeviceFault {
-    /// The device failed, and counted it.
+    /// The device failed, and counted the failure.
     #[error("the device failed")]
     Failed,
-    /// Memory was refused.
+    /// Out of memory.
     #[error("out of memory")]
     NoMemory,
 }
@@ -41,28 +41,27 @@ impl<T: Drop> From<AllocFailed<T>> for DeviceFault {
     }
 }
 
-/// A device that keeps pages under numbers, and counts how often it failed. Where it is honest, it gives
-/// back what was written to it; where it is not, the bytes of a read that succeeds may be any, and all
-/// else holds still.
+/// A device that stores pages under numbers, and counts its failures. An honest device returns what was written to it.
+/// One that is not may return any bytes from a read that succeeds; all other clauses still hold.
 pub trait PageDevice: Drop {
-    /// The page that was last written under each number, or by a write that failed there whatever that
-    /// left; None where nothing was written.
+    /// The page that the last write under each number left, whatever a failed one left there; None if nothing was
+    /// written.
     ghost pages: { Self → ℕ → Option (List ℕ) };
 
-    /// How often the device has failed, up to the last number that can be counted.
+    /// How often the device has failed; the count saturates.
     ghost failures: { Self → ℕ };
 
-    /// Whether the device gives back what was written to it.
+    /// Whether the device returns what was written to it.
     ghost honest: { Self → Bool };
 
-    /// Whether a read may be refused memory.
+    /// Whether a read may run out of memory.
     ghost reads_take_memory: { Bool };
 
-    /// Whether a write may be refused memory.
+    /// Whether a write may run out of memory.
     ghost writes_take_memory: { Bool };
 
-    /// Reads the page of that number, under which one was written, into `page`. Failed, or NoMemory where
-    /// the device takes memory for a read; `page` then holds any bytes.
+    /// Reads the page with that number, under which one was written, into `page`. The errors: Failed; NoMemory, if the
+    /// type's reads take memory. After an error `page` holds any bytes.
     fn read(&mut self, no: u32, page: &mut Page) -> Result<(), DeviceFault>
         requires { IsSome (pages self.old no) }
         ensures value { OnOk result (IsTrue (honest self.old) → pages self.old no ≡ Some page.new) }
@@ -71,9 +70,8 @@ pub trait PageDevice: Drop {
         ensures memory { IsErrOf result DeviceFault.NoMemory → IsTrue reads_take_memory }
         ensures honesty { honest self.new ≡ honest self.old };
 
-    /// Reads as many bytes as `into` has of the page of that number, under which one was written, from byte
-    /// `from` on, counted from 0. Failed, or NoMemory where the device takes memory for a read; `into` then
-    /// holds any bytes.
+    /// Reads `into.len()` bytes of the page with that number, under which one was written, from byte `from` on, counted
+    /// from 0. The errors: Failed; NoMemory, if the type's reads take memory. After an error `into` holds any bytes.
     fn read_range(&mut self, no: u32, from: usize, into: &mut [u8]) -> Result<(), DeviceFault>
         requires written { IsSome (pages self.old no) }
         requires within { from + length into.old ≤ PAGE_BYTES }
@@ -84,8 +82,8 @@ pub trait PageDevice: Drop {
         ensures memory { IsErrOf result DeviceFault.NoMemory → IsTrue reads_take_memory }
         ensures honesty { honest self.new ≡ honest self.old };
 
-    /// Writes the page under that number. Failed, or NoMemory where the device takes memory for a write;
-    /// any bytes, or none, are then under that number. The pages of other numbers stay.
+    /// Writes the page under that number. The errors: Failed; NoMemory, if the type's writes take memory. After an
+    /// error the number has any bytes, or none. The pages of other numbers are unchanged.
     fn write(&mut self, no: u32, page: &Page) -> Result<(), DeviceFault>
         ensures written { OnOk result (pages self.new no ≡ Some page.now) }
         ensures others { (n : ℕ) → n ≢ no → pages self.new n ≡ pages self.old n }
@@ -93,7 +91,7 @@ pub trait PageDevice: Drop {
         ensures memory { IsErrOf result DeviceFault.NoMemory → IsTrue writes_take_memory }
         ensures honesty { honest self.new ≡ honest self.old };
 
-    /// How often the device has failed, up to the last number of a u64.
+    /// How often the device has failed; the count saturates at 2^64 - 1.
     fn faults(&self) -> u64
         ensures { result ≡ failures self.now };
 }

@@ -2,7 +2,7 @@ ghost use Rattle.std.specs.Prelude.{◌≡◌, ◌+◌, if◌then◌else◌, min
 
 use crate::devices::{DeviceFault, MAX_FAILURES, Page, PageDevice};
 
-/// A device over another one, of whose calls one fails, for tests of what stands on devices.
+/// A device over another one, in which one call fails, for tests of what is built on devices.
 #[derive(Drop)]
 pub struct FaultyDevice<D: PageDevice> {
     inner: D,
@@ -50,8 +50,8 @@ impl<D: PageDevice> PageDevice for FaultyDevice<D> {
 }
 
 impl<D: PageDevice> FaultyDevice<D> {
-    /// The device `inner`, but that the k-th read or write from now on, counted from 1 over both, does not
-    /// reach it and is Failed, which is counted. With 0 no call fails so.
+    /// The device `inner`, except that the k-th read or write from now on, counted from 1 over both, does not reach it
+    /// and returns Failed, which is counted. With 0 no call fails so.
     pub fn new(inner: D, k: u64) -> FaultyDevice<D>
         ensures pages { ⟦<FaultyDevice<D> as PageDevice>⟧.pages result ≡ D.pages inner }
         ensures failures { ⟦<FaultyDevice<D> as PageDevice>⟧.failures result
@@ -65,7 +65,7 @@ impl<D: PageDevice> FaultyDevice<D> {
         }
     }
 
-    /// One call more; whether it is the one that fails, which is then counted.
+    /// Counts one more call; returns whether it is the one that fails, which is then counted as a failure.
     fn fails(&mut self) -> bool
         ensures inner { self.new.inner ≡ self.old.inner }
         ensures failed { self.new.failed

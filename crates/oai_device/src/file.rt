@@ -1,8 +1,8 @@
-//! A device over a file of pages. It is honest where its file is. Of the system's file no clause can say
-//! what it gives back, so this is supposed of it, in words: it gives back what was written to it, and
-//! nobody else writes to it while the device is in use. Every theorem over a device that is honest holds
-//! of `FileDevice<File>` as far as its file is so. Nothing else is supposed: its failures are counted, its
-//! pages of other numbers stay as they were written, and it takes no memory, whatever the file does.
+//! A device over a file of pages. It is honest if its file is. No clause can say what the system's file returns, so
+//! this is supposed of it, in words: it returns what was written to it, and no other process writes to it while the
+//! device is in use. Every theorem over an honest device holds of `FileDevice<File>` only insofar as its file does so.
+//! Nothing else is supposed: whatever the file does, failures are counted, a write changes no page of another number,
+//! and no call allocates.
 ghost use Rattle.std.specs.Prelude.{◌≡◌, ◌⊎◌, ◌+◌, ◌*◌, ◌<◌, ◌≤◌, ℕ, None, false, is_ok, IfErr, IsTrue, OnErr};
 ghost use Rattle.oai_device.specs.Written.{AreInFile, page_under};
 ghost use Rattle.oai_device.specs.declared.devices.DeviceFault.TheVariants as fault;
@@ -11,8 +11,8 @@ use crate::devices::{DeviceFault, MAX_FAILURES, PAGE_BYTES, Page, PageDevice};
 use crate::page_file::{PageFile, read_all, write_page};
 use crate::written::Written;
 
-/// A device that keeps page n in a file, at byte n times 16,384. It takes no memory. Each call that fails
-/// is counted, a read that finds fewer bytes than it was asked for too.
+/// A device that stores page n in a file, at byte n times 16,384. It allocates nothing. Each call that fails is
+/// counted, also a read that finds fewer bytes than it asked for.
 #[derive(Drop)]
 pub struct FileDevice<F: PageFile> {
     file: F,
@@ -54,7 +54,7 @@ impl<F: PageFile> PageDevice for FileDevice<F> {
 }
 
 impl<F: PageFile> FileDevice<F> {
-    /// A device over that file, which is open to be read and written.
+    /// A device over that file, which is open for reading and writing.
     pub fn new(file: F) -> FileDevice<F>
         ensures pages { (n : ℕ) → ⟦<FileDevice<F> as PageDevice>⟧.pages result n ≡ None }
         ensures failures { ⟦<FileDevice<F> as PageDevice>⟧.failures result ≡ 0 }
@@ -68,14 +68,14 @@ impl<F: PageFile> FileDevice<F> {
     }
 }
 
-/// Where the page of that number begins in its file, in bytes.
+/// The offset in bytes of the page with that number.
 fn start_of(no: u32) -> u64
     ensures { result ≡ no * PAGE_BYTES }
 {
     u64::from(no) * PAGE_BYTES as u64
 }
 
-/// What is answered to a call that was done, or else has failed, which is counted.
+/// Ok if the call was done; otherwise Failed, which is counted.
 fn counted(done: bool, failed: &mut u64) -> Result<(), DeviceFault>
     ensures ok { is_ok result ≡ done }
     ensures fault { IfErr result (λ cause. cause ≡ fault.Failed) }

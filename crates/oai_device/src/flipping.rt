@@ -2,7 +2,8 @@ ghost use Rattle.std.specs.Prelude.{◌≡◌, false};
 
 use crate::devices::{DeviceFault, Page, PageDevice};
 
-/// A device over another one that returns a wrong byte in one read, for tests of what stands on devices. It is never honest.
+/// A device over another one that returns a wrong byte in one read, for tests of what is built on devices. It is never
+/// honest.
 #[derive(Drop)]
 pub struct FlippingDevice<D: PageDevice> {
     inner: D,
@@ -48,8 +49,8 @@ impl<D: PageDevice> PageDevice for FlippingDevice<D> {
 }
 
 impl<D: PageDevice> FlippingDevice<D> {
-    /// The device `inner`, but that the k-th read from now on that succeeds, counted from 1, has its first
-    /// byte inverted. With 0 no read has.
+    /// The device `inner`, except that the k-th read from now on that succeeds, counted from 1, has its first byte
+    /// inverted. With 0 no read has.
     pub fn new(inner: D, k: u64) -> FlippingDevice<D>
         ensures pages { ⟦<FlippingDevice<D> as PageDevice>⟧.pages result ≡ D.pages inner }
         ensures failures { ⟦<FlippingDevice<D> as PageDevice>⟧.failures result ≡ D.failures inner }

@@ -1,5 +1,5 @@
-//! Page devices: pages of 16,384 bytes under numbers, in memory or in a file; and two devices for tests,
-//! one that fails and one that lies.
+//! Page devices: pages of 16,384 bytes under numbers, in memory or in a file; and two faulty devices for tests, one
+//! that fails and one that returns a wrong byte.
 #![tactic(auto)]
 
 mod devices;

@@ -5,8 +5,8 @@ use crate::devices::{DeviceFault, Page, PageDevice};
 use std::alloc::Global;
 use std::collections::HashMap;
 
-/// A device in memory. It never fails, and a read takes no memory; a write takes some where nothing was
-/// written under its number.
+/// A device in memory. It never fails, and reads allocate nothing; a write allocates if nothing was written under its
+/// number.
 #[derive(Drop)]
 pub struct MemoryDevice {
     alloc: Global,
@@ -55,7 +55,7 @@ impl PageDevice for MemoryDevice {
 }
 
 impl MemoryDevice {
-    /// A device under no number of which anything was written.
+    /// A device to which nothing was written.
     pub fn new(alloc: Global) -> MemoryDevice
         ensures pages { (n : ℕ) → ⟦<MemoryDevice as PageDevice>⟧.pages result n ≡ None }
         ensures failures { ⟦<MemoryDevice as PageDevice>⟧.failures result ≡ 0 }

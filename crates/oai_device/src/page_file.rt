@@ -7,17 +7,17 @@ use std::io;
 use std::io::ErrorKind;
 use std::os::unix::fs::FileExt;
 
-/// A file that is read and written at offsets. A call may come short: it reads or writes fewer bytes than
-/// it was asked to, and returns how many; none where the file ends there.
+/// A file that is read and written at offsets. A call may be short: it transfers fewer bytes than it was asked for, and
+/// returns how many; 0 at the end of the file.
 pub trait PageFile: Drop {
-    /// Of a file that is honest, the byte that was last written at each offset, or by a write that failed
-    /// there whatever that left; None where nothing was written.
+    /// For an honest file, the byte that the last write left at each offset, whatever a failed one left there; None if
+    /// nothing was written.
     ghost bytes: { Self → Bytes };
 
-    /// Whether the file gives back what was written to it.
+    /// Whether the file returns what was written to it.
     ghost honest: { Self → Bool };
 
-    /// Reads bytes at that offset into the front of `into`, and returns how many.
+    /// Reads bytes at that offset into the start of `into`, and returns how many. Any error may come.
     fn read_some(&mut self, offset: u64, into: &mut [u8]) -> io::Result<usize>
         ensures count { IfOk result (λ n. n ≤ length into.new) }
         ensures value { IfOk result (λ n. IsTrue (honest self.old)
@@ -25,7 +25,7 @@ pub trait PageFile: Drop {
         ensures same { bytes self.new ≡ bytes self.old }
         ensures honesty { honest self.new ≡ honest self.old };
 
-    /// Writes bytes of the front of `from` at that offset, and returns how many.
+    /// Writes bytes from the start of `from` at that offset, and returns how many. Any error may come.
     fn write_some(&mut self, offset: u64, from: &[u8]) -> io::Result<usize>
         ensures count { IfOk result (λ n. n ≤ length from.now) }
         ensures written { IfOk result (λ n. IsTrue (honest self.old)
@@ -34,7 +34,7 @@ pub trait PageFile: Drop {
         ensures honesty { honest self.new ≡ honest self.old };
 }
 
-/// No clause can speak of what the system's file gives back, so it is not honest to clauses.
+/// No clause can say what the system's file returns, so for clauses it is not honest.
 impl PageFile for File {
     ghost bytes = { λ _ _. None };
 
@@ -49,7 +49,7 @@ impl PageFile for File {
     }
 }
 
-/// Reads the bytes at that offset of the file, in as many calls as it takes; whether all were read.
+/// Reads the bytes at that offset of the file, in as many calls as needed; returns whether all were read.
 pub(crate) fn read_all<F: PageFile>(file: &mut F, offset: u64, into: &mut [u8]) -> bool
     requires room { offset + length into.old < 2 ^ 64 }
     ensures value { IsTrue result → IsTrue (F.honest file.old) → WereRead (F.bytes file.old) offset into.new }
@@ -70,7 +70,7 @@ pub(crate) fn read_all<F: PageFile>(file: &mut F, offset: u64, into: &mut [u8]) 
     false
 }
 
-/// Writes the page at that offset of the file, in as many calls as it takes; whether it was written whole.
+/// Writes the page at that offset of the file, in as many calls as needed; returns whether all of it was written.
 pub(crate) fn write_page<F: PageFile>(file: &mut F, offset: u64, page: &Page) -> bool
     requires room { offset + PAGE_BYTES < 2 ^ 64 }
     ensures written { IsTrue result → IsTrue (F.honest file.old) → Stand (F.bytes file.new) offset page.now }
@@ -90,7 +90,7 @@ pub(crate) fn write_page<F: PageFile>(file: &mut F, offset: u64, page: &Page) ->
     false
 }
 
-/// How many bytes a call read or wrote: 0 where it was interrupted; None where it failed, or the file ends.
+/// The number of bytes that a call read or wrote: 0 if it was interrupted; None if it failed, or the file ends.
 fn transferred(answer: io::Result<usize>) -> Option<usize>
     ensures { IfSome result (λ n. (n ≡ 0) ⊎ (answer ≡ Ok n)) }
 {

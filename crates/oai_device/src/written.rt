@@ -4,7 +4,7 @@ ghost use Rattle.oai_device.specs.Written.{Pages, with_page};
 
 use std::marker::{Model, PhantomData};
 
-/// What was written to a file, for contracts alone: it takes no memory, and its calls are empty.
+/// What was written to a file, for contracts alone: a ghost value with no size and empty methods.
 #[derive(Drop)]
 pub struct Written {
     marker: PhantomData<u8>,

@@ -1,4 +1,4 @@
-//! What a repository holds, as the deposit lines that make it anew.
+//! What a repository holds, as the deposit lines that rebuild it.
 #![tactic(auto)]
 
 mod lines;

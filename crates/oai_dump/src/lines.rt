@@ -11,8 +11,8 @@ use oai_names::{Identifier, SetSpec};
 use serde_json::{Map, Value, put};
 use std::alloc::{AllocError, Global};
 
-/// The line, without its end, that deposits the item: its identifier, its sets and its records. Read as a deposit line it asks for
-/// just that. The error is out of memory.
+/// The line, without its end, that deposits the item: its identifier, its sets and its records. Parsed as a deposit
+/// line it requests exactly that. The error is out of memory.
 pub fn deposit_line(alloc: Global, item: &Item) -> Result<String, AllocError>
     ensures { IfOk result (λ line. line_of (string_bytes line)
         ≡ asked_change (deposits item.now.identifier item.now.sets item.now.formats)) }
@@ -39,7 +39,7 @@ pub fn deposit_line(alloc: Global, item: &Item) -> Result<String, AllocError>
     line_of_members(alloc, members)
 }
 
-/// The line, without its end, that deletes the item of that identifier. The error is out of memory.
+/// The line, without its end, that deletes the item with that identifier. The error is out of memory.
 #[tactic(auto, using(crate::proofs::LineLemmas::is_deletion))]
 pub fn deletion_line(alloc: Global, identifier: &Identifier) -> Result<String, AllocError>
     ensures { IfOk result (λ line. line_of (string_bytes line) ≡ asked_change (deletes identifier.now)) }
@@ -70,7 +70,7 @@ pub fn set_line(alloc: Global, spec: &SetSpec, name: &str) -> Result<String, All
     line_of_members(alloc, members)
 }
 
-/// The line, without its end, of an object of these members. The error is out of memory.
+/// The line, without its end, of an object with these members. The error is out of memory.
 fn line_of_members(alloc: Global, members: Map<String, Value>) -> Result<String, AllocError>
     ensures { IfOk result (λ line. depth (object (members_view members.entries)) ≤ max_depth
         → line_of (string_bytes line) ≡ change_asked (shape_of (object (members_view members.entries)))) }

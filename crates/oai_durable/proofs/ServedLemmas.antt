@@ -9,6 +9,7 @@ use Rattle.oai_http.specs.declared.exchanges.Call.{Call}
 use Rattle.oai_journal.specs.Records.{Entry}
 use Rattle.oai_journal.specs.Journals.{IsLeft}
 use Rattle.oai_journal.specs.declared.journals.Journal as journal
+use Rattle.oai_serving.specs.Accepted.{Known}
 use Rattle.oai_serving.specs.Rounds.{AreSettled, IsRoundSettled, IsService, World, served_in}
 use Rattle.oai_serving.specs.declared.faults.ServeFault.{ServeFault}
 use Rattle.oai_serving.specs.declared.faults.ServeFault.TheVariants.{Clock, Unsettled, Wait}
@@ -171,7 +172,7 @@ ends_as j performed last Clock is = inl is
 
 pub service_lives : {S H J : Type 0} (h : Replaying H) (j : journal.Ghosts J) (contents remaining : S → Option (List ℕ))
     → ((journal : J) (entries : List Entry) (durable : ℕ) (found : List Entry) → j.holds journal entries durable → j.may_leave journal found → IsLeft durable entries found)
-    → (begun : h.Kept) (found : List Entry) (known later : Option (List S)) (old new : World S (Parts H J)) (result : Result (Unit {0}) ServeFault) (left : List Entry)
+    → (begun : h.Kept) (found : List Entry) (known later : Known S) (old new : World S (Parts H J)) (result : Result (Unit {0}) ServeFault) (left : List Entry)
     → IsService (IsExchange h j) (IsSettled j) contents remaining known later old result new
     → IsHeld h j begun old.handler found (length found)
     → IsTrue (h.is_honest old.handler.handler)
@@ -192,7 +193,8 @@ service_lives h j contents remaining law begun found known later old new (Ok don
     leaves = leaves;
   });
   streams = service.streams;
-  accepts = service.accepts;
+  parted = service.parted;
+  passes = service.passes;
   clients = service.answered;
 }
 service_lives h j contents remaining law begun found known later old new (Err fault) left service begins honest leaves = record {
@@ -210,6 +212,7 @@ service_lives h j contents remaining law begun found known later old new (Err fa
     leaves = leaves;
   });
   streams = service.streams;
-  accepts = service.accepts;
+  parted = service.parted;
+  passes = service.passes;
   clients = service.answered;
 }

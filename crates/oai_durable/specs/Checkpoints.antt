@@ -1,4 +1,5 @@
--- Checkpoints: journals of the parts of what a handler keeps; and lives between which checkpoints stand. This repository's own.
+-- Checkpoints: journals of the parts of a handler's state; and lives with checkpoints between them. This repository's
+-- own.
 use Rattle.std.specs.Prelude.{◌≡◌, ℕ, List, [], ◌∷◌, ◌++◌, length, map, None}
 use Rattle.std.specs.List.{flat_map}
 use Rattle.oai_http.specs.Exchanges.{call_at}
@@ -10,8 +11,9 @@ use Rattle.oai_journal.specs.declared.journals.Journal as journal
 use Rattle.oai_durable.specs.Lives.{Exchanged, IsLife, Life}
 use Rattle.oai_durable.specs.Records.{Leaving, entry_of_part, left_by, redone_all}
 
--- what is said of a handler that can be saved: what calls and parts leave, what a call is answered, the parts of what is kept, what is kept once all
--- lists ended and the number of each next list was raised by so many, and what a handler of the same repositories keeps as it begins
+-- the operations of a handler that can be saved: the state after calls and parts, the answer to a call, the parts of
+-- the state, the state after all lists ended and the number of each next list was raised by that much, and the initial
+-- state of a handler of the same repositories
 pub record Saving (K : Type 0) : Type 0 where
   pub leaving : Leaving K
   pub reply : K → Call → Answer
@@ -27,19 +29,20 @@ records_of parts = map entry_of_part parts
 abbrev pub HasSaved : {J : Type 0} → journal.Ghosts J → J → List PartState → Type 0
 HasSaved j journal' parts = (durable : ℕ) × j.holds journal' (records_of parts) durable
 
--- a checkpoint of what is kept: the records of its parts, once all lists ended; and from what a handler of the same repositories keeps as it begins,
--- they leave just that
+-- a checkpoint of a state: the records of its parts, once all lists ended; restored by a handler of the same
+-- repositories, from its initial state, they give exactly that state
 pub record IsCheckpoint {K : Type 0} (s : Saving K) (kept : K) (raise : ℕ) (records : List Entry) : Type 0 where
   pub is : records ≡ records_of (s.parts (s.ended raise kept))
   pub leaves : redone_all s.leaving (s.emptied kept) records ≡ s.ended raise kept
 
--- the journal holds a checkpoint of what is kept, and all of it is durable
+-- the journal holds a checkpoint of a state, and all of it is durable
 pub record HoldsCheckpoint {K J : Type 0} (s : Saving K) (j : journal.Ghosts J) (kept : K) (raise : ℕ) (journal' : J) : Type 0 where
   pub records : List Entry
   pub is : IsCheckpoint s kept raise records
   pub holds : j.holds journal' records (length records)
 
--- a stage: a life, or a checkpoint of what the records leave that were found, which raises the numbers of the next lists by so many
+-- a stage: a life, or a checkpoint of the state that the records leave that were found, which raises the numbers of the
+-- next lists by that much
 pub data Stage : Type 0 where
   lived : Life → Stage
   saved : ℕ → Stage
@@ -48,12 +51,12 @@ abbrev pub IsStage : {K : Type 0} (s : Saving K) → K → List Entry → Stage 
 IsStage s begun found (lived life) left = IsLife s.leaving s.reply begun found life left
 IsStage s begun found (saved raise) left = IsCheckpoint s (redone_all s.leaving begun found) raise left
 
--- stages, each begun with the records that the one before it left
+-- stages, each of which finds the records that the one before it left
 abbrev pub AreStages : {K : Type 0} (s : Saving K) → K → List Entry → List Stage → List Entry → Type 0
 AreStages s begun found [] left = left ≡ found
 AreStages s begun found (stage ∷ stages) left = (between : List Entry) × IsStage s begun found stage between × AreStages s begun between stages left
 
--- the exchanges of a stage whose answers left
+-- the exchanges of a stage whose answers were sent
 abbrev pub answered_at : Stage → List Exchanged
 answered_at (lived life) = life.answered
 answered_at (saved raise) = []
@@ -63,7 +66,8 @@ abbrev pub raises_at : Stage → List ℕ
 raises_at (lived life) = []
 raises_at (saved raise) = raise ∷ []
 
--- an event of a history: what a record is of was done; or all lists ended, and the number of each next list was raised by so many
+-- an event of a history: a record was performed; or all lists ended, and the number of each next list was raised by
+-- that much
 pub data Event : Type 0 where
   done : Entry → Event
   lists_ended : ℕ → Event
@@ -72,17 +76,19 @@ abbrev pub after : {K : Type 0} (s : Saving K) → K → Event → K
 after s kept (done entry) = left_by s.leaving kept entry
 after s kept (lists_ended raise) = s.ended raise kept
 
--- what a history leaves
+-- the state after a history
 abbrev pub after_all : {K : Type 0} (s : Saving K) → K → List Event → K
 after_all s kept [] = kept
 after_all s kept (event ∷ events) = after_all s (after s kept event) events
 
--- its place is behind these events: an answer without a fault is what they make of what was asked, and with its own record they leave what that leaves
+-- it has its place after these events: an answer without a fault is what they make of the request, and with its own
+-- record they leave the state after it
 pub record HasPlaceBehind {K : Type 0} (s : Saving K) (begun : K) (before : List Event) (e : Exchanged) : Type 0 where
   pub told : e.answer.fault ≡ None → e.answer ≡ s.reply (after_all s begun before) (call_at e.moment e.asked)
   pub left : e.answer.fault ≡ None → after_all s begun (before ++ map done e.own) ≡ s.leaving.redone (after_all s begun before) (call_at e.moment e.asked)
 
--- these exchanges have their places in the history, in order: each behind all that is before it, and its own record follows
+-- these exchanges have their places in the history, in order: each after all that is before it, and its own record
+-- follows
 abbrev pub AreIn : {K : Type 0} (s : Saving K) → K → List Event → List Exchanged → List Event → Type 0
 AreIn s begun before [] history = (others : List Event) × (history ≡ before ++ others)
 AreIn s begun before (e ∷ es) history =
@@ -95,8 +101,8 @@ abbrev pub raises_by : Event → List ℕ
 raises_by (done entry) = []
 raises_by (lists_ended raise) = raise ∷ []
 
--- the stages are one history: it leaves what the records leave that the last of them left, every answer that left has its place in it, in order over
--- all lives, and lists were ended in it by the checkpoints alone
+-- the stages are one history: it has the effect of the records that the last of them left, every answer that was sent
+-- has its place in it, in order over all lives, and only checkpoints ended lists
 pub record IsHistory {K : Type 0} (s : Saving K) (begun : K) (stages : List Stage) (left : List Entry) : Type 0 where
   pub history : List Event
   pub leaves : after_all s begun history ≡ redone_all s.leaving begun left

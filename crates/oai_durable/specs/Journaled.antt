@@ -1,4 +1,4 @@
--- A handler whose exchanges stand in a journal before their answers leave. This repository's own.
+-- A handler whose exchanges are logged in a journal before their answers are sent. This repository's own.
 use Rattle.std.specs.Prelude.{◌≡◌, ◌⊎◌, ℕ, ℤ, ◌≤◌, Bool, IsTrue, List, ◌++◌, length, Option, None, Some, Result, OnErr, OnOk}
 use Rattle.oai_item.specs.declared.faults.Fault.TheVariants.{NoMemory}
 use Rattle.oai_http.specs.Answers.{failed}
@@ -13,8 +13,8 @@ use Rattle.oai_journal.specs.Records.{Entry}
 use Rattle.oai_journal.specs.declared.journals.Journal as journal
 use Rattle.oai_durable.specs.Records.{Leaving, redone_all}
 
--- what is said of a handler whose exchanges can be performed again: what may be answered, what it keeps, whether its device gives back what was
--- written to it, what calls and parts leave, and what a call is answered
+-- the operations of a handler whose exchanges can be replayed: what may be answered, its state, whether its device
+-- returns what was written to it, the state after calls and parts, and the answer to a call
 pub record Replaying (H : Type 0) : Type 1 where
   pub step : H → ℤ → Asked → Answer → H → Type 0
   pub Kept : Type 0
@@ -28,18 +28,19 @@ pub record Parts (H J : Type 0) : Type 0 where
   pub handler : H
   pub journal : J
 
--- these are the records of the journal, so many of them are durable, and to perform them again from that beginning gives what the handler keeps
+-- these are the records of the journal, that many of them are durable, and their replay from that beginning gives the
+-- handler's state
 pub record IsHeld {H J : Type 0} (h : Replaying H) (j : journal.Ghosts J) (begun : h.Kept) (parts : Parts H J) (entries : List Entry) (durable : ℕ) : Type 0 where
   pub records : j.holds parts.journal entries durable
   pub kept : IsTrue (h.is_honest parts.handler) → h.kept parts.handler ≡ redone_all h.leaving begun entries
 
--- of a deposit that was not begun no line was done
+-- for a deposit that was not begun, no line was done
 abbrev pub none_done : Option Endpoint → Option ℕ
 none_done (Some Deposits) = Some 0
 none_done (Some Requests) = None
 none_done None = None
 
--- the answer to a message that was refused before it was performed, since there was no room for its record
+-- the answer to a message that was refused before it was performed, since no space could be reserved for its record
 abbrev pub refused : List ℕ → Answer
 refused target = failed NoMemory (none_done (endpoint_of target))
 
@@ -49,8 +50,9 @@ IsTried h before moment asked answer after =
     h.step before.handler moment asked answer after.handler
     ⊎ ((after.handler ≡ before.handler) × (answer ≡ refused asked.target))
 
--- an exchange behind these records: what was performed stands behind them, at most one record, and nothing more is durable. An answer without a
--- fault is what the records before it make of the exchange, and with its own record they leave what the exchange leaves
+-- an exchange after these records: what was performed is logged after them, at most one record, and nothing more is
+-- durable. An answer without a fault is what the records before it make of the exchange, and with its own record they
+-- leave the state after the exchange
 pub record IsKept {H J : Type 0} (h : Replaying H) (j : journal.Ghosts J) (begun : h.Kept) (entries : List Entry) (durable : ℕ)
     (before : Parts H J) (moment : ℤ) (asked : Asked) (answer : Answer) (after : Parts H J) : Type 0 where
   pub own : List Entry
@@ -60,13 +62,13 @@ pub record IsKept {H J : Type 0} (h : Replaying H) (j : journal.Ghosts J) (begun
   pub left : IsTrue (h.is_honest before.handler) → answer.fault ≡ None
       → redone_all h.leaving begun (entries ++ own) ≡ h.leaving.redone (redone_all h.leaving begun entries) (call_at moment asked)
 
--- what an exchange does, from whatever records it begins
+-- what an exchange does, whatever records precede it
 pub record IsExchange {H J : Type 0} (h : Replaying H) (j : journal.Ghosts J) (before : Parts H J) (moment : ℤ) (asked : Asked) (answer : Answer) (after : Parts H J) : Type 0 where
   pub tried : IsTried h before moment asked answer after
   pub honesty : h.is_honest after.handler ≡ h.is_honest before.handler
   pub kept : (begun : h.Kept) (entries : List Entry) (durable : ℕ) → IsHeld h j begun before entries durable → IsKept h j begun entries durable before moment asked answer after
 
--- to settle makes all records durable, or fails and leaves them as they were; the handler is as it was
+-- settling makes all records durable, or fails and leaves them; the handler is unchanged
 pub record IsSettled {H J : Type 0} (j : journal.Ghosts J) (before : Parts H J) (result : Result (Unit {0}) SettleFault) (after : Parts H J) : Type 0 where
   pub handler : after.handler ≡ before.handler
   pub ok : OnOk result ((entries : List Entry) (durable : ℕ) → j.holds before.journal entries durable → j.holds after.journal entries (length entries))

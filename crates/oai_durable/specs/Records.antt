@@ -1,4 +1,4 @@
--- What was performed, and parts of what is kept, as records of a journal; and what these leave when they are performed again. This repository's own.
+-- What was performed, and parts of a state, as log records; and the state after their replay. This repository's own.
 use Rattle.std.specs.Prelude.{ℕ, ℤ, max, length, List, [], ◌∷◌, Option, None, Some}
 use Rattle.oai_http.specs.Parts.{PartState}
 use Rattle.oai_http.specs.Redone.{own_call}
@@ -19,7 +19,7 @@ kind_of Deposits lines = Deposit
 kind_of Requests [] = Tick
 kind_of Requests (byte ∷ bytes) = Oai
 
--- the most bytes that a record of the exchange may have: those of its target or of its body
+-- the maximum length of a record of the exchange: that of its target or of its body
 abbrev pub most_in : Exchange → ℕ
 most_in exchange = max (length exchange.target.now) (length exchange.body.now)
 
@@ -32,7 +32,7 @@ entry_of moment performed = record {
   body = performed.bytes.now;
 }
 
--- one record of what was performed, or none where nothing was
+-- one record of what was performed, or none if nothing was
 abbrev pub entries_of : ℤ → Option Performed → List Entry
 entries_of moment None = []
 entries_of moment (Some performed) = entry_of moment performed ∷ []
@@ -42,7 +42,7 @@ abbrev pub endpoint_of_kind : Kind → Endpoint
 endpoint_of_kind Deposit = Deposits
 endpoint_of_kind other = Requests
 
--- the call that performs a record again
+-- the call that replays a record
 abbrev pub call_in : Entry → Call
 call_in entry = own_call entry.moment (endpoint_of_kind entry.kind) entry.name entry.body
 
@@ -63,16 +63,16 @@ part_kind Set = Some HasSet
 part_kind Item = Some HasItem
 part_kind other = None
 
--- the part of which this is the record
+-- the part that the record holds
 abbrev pub part_in : PartKind → Entry → PartState
 part_in kind entry = record { kind = kind; moment = entry.moment; name = entry.name; bytes = entry.body }
 
--- what a call leaves that is performed again, and what a part leaves that is restored
+-- the state after a call that is replayed, and after a part that is restored
 pub record Leaving (K : Type 0) : Type 0 where
   pub redone : K → Call → K
   pub restored : K → PartState → K
 
--- what a record leaves: a part is restored, and all else is a call that is performed again
+-- the state after a record: a part is restored, and all else is a call that is replayed
 abbrev pub left_as : {K : Type 0} → Leaving K → K → Entry → Option PartKind → K
 left_as leaving kept entry (Some kind) = leaving.restored kept (part_in kind entry)
 left_as leaving kept entry None = leaving.redone kept (call_in entry)
@@ -80,7 +80,7 @@ left_as leaving kept entry None = leaving.redone kept (call_in entry)
 abbrev pub left_by : {K : Type 0} → Leaving K → K → Entry → K
 left_by leaving kept entry = left_as leaving kept entry (part_kind entry.kind)
 
--- what records leave, one after the other
+-- the state after records, one after the other
 abbrev pub redone_all : {K : Type 0} → Leaving K → K → List Entry → K
 redone_all leaving kept [] = kept
 redone_all leaving kept (entry ∷ entries) = redone_all leaving (left_by leaving kept entry) entries

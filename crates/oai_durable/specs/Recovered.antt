@@ -1,4 +1,4 @@
--- A handler that performs the records of a journal again. This repository's own.
+-- A handler that replays the records of a journal. This repository's own.
 use Rattle.std.specs.Prelude.{◌≡◌, ℕ, Bool, IsTrue, List, length}
 use Rattle.oai_journal.specs.Changes.{IsUndamaged}
 use Rattle.oai_journal.specs.Records.{Entry}
@@ -6,13 +6,13 @@ use Rattle.oai_journal.specs.Recovered.{HasRecovered, disk_of}
 use Rattle.oai_journal.specs.declared.recovery.Recovery.{Recovery}
 use Rattle.oai_durable.specs.Records.{Leaving, redone_all}
 
--- these records were read, and the handler performed them again from that beginning
+-- these records were read, and the handler replayed them from that beginning
 pub record HasRedone {H K D : Type 0} (kept : H → K) (is_honest : H → Bool) (leaving : Leaving K) (seen : D → List ℕ) (may_leave : D → List ℕ → Type 0)
     (begun : K) (handler : H) (recovery : Recovery D) (first : Entry) (entries : List Entry) : Type 0 where
   pub read : HasRecovered seen may_leave recovery first entries
   pub so : IsTrue (is_honest handler) → kept handler ≡ redone_all leaving begun entries
 
--- all records of the journal, so many, were read and performed again
+-- all records of the journal, that many, were read and replayed
 pub record IsRecovered {H K D : Type 0} (kept : H → K) (is_honest : H → Bool) (leaving : Leaving K) (seen : D → List ℕ) (may_leave : D → List ℕ → Type 0)
     (begun : K) (handler : H) (recovery : Recovery D) (first : Entry) (count : ℕ) : Type 0 where
   pub entries : List Entry

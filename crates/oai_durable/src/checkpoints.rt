@@ -1,4 +1,4 @@
-//! What a handler keeps, written into a journal part by part.
+//! Writes a handler's state into a journal part by part: a checkpoint.
 ghost use Rattle.oai_durable.specs.Checkpoints.{HasSaved, HoldsCheckpoint};
 ghost use Rattle.oai_durable.specs.Records.{entry_of_part};
 ghost use Rattle.oai_http.specs.Parts.{PartState, as_part};
@@ -11,16 +11,16 @@ use oai_item::Fault;
 use oai_journal::{Journal, JournalFault};
 use thiserror::Error;
 
-/// After so many bytes of records these are committed, so that they take no more memory.
+/// After that many bytes of records they are committed, which bounds the memory that they take.
 const GROUP_BYTES: usize = 1_048_576;
 
-/// The bytes that are counted for a record beside its body.
+/// The bytes that are counted for a record besides its body.
 const HEAD_BYTES: usize = 128;
 
 /// Why no checkpoint was written.
 #[derive(Clone, Copy, Debug, PartialEq, Eq, Error)]
 pub enum CheckpointFault {
-    /// What the handler keeps could not be read.
+    /// The handler's state could not be read.
     #[error("{0}")]
     Reading(Fault),
     /// A list number would not fit in 64 bits.
@@ -31,11 +31,11 @@ pub enum CheckpointFault {
     Journal(JournalFault),
 }
 
-/// A journal that takes parts as records, and commits them in groups.
+/// A journal that takes parts as log records, and commits them in groups.
 #[derive(Drop)]
 struct JournalSink<J> {
     journal: J,
-    /// The bytes of records that were added since the last commit.
+    /// The bytes of the records that were added since the last commit.
     waiting: usize,
     /// Why no further part was taken.
     fault: JournalFault,
@@ -56,7 +56,7 @@ impl<J: Journal> Sink for JournalSink<J> {
 }
 
 impl<J: Journal> JournalSink<J> {
-    /// Adds the part as a record, behind a commit where enough bytes wait for one.
+    /// Adds the part as a record, after a commit if enough bytes wait for one.
     fn take(&mut self, part: &Part<'_>) -> Result<(), JournalFault>
         ensures { OnOk result ((parts : List PartState) → HasSaved J.Journal self.old.journal parts
             → HasSaved J.Journal self.new.journal (parts ++ as_part part.now ∷ [])) }
@@ -69,7 +69,7 @@ impl<J: Journal> JournalSink<J> {
     }
 }
 
-/// Commits the records where so many bytes of them wait that they are a group; none wait then.
+/// Commits the records if enough bytes of them wait to make a group; none wait then.
 fn commit_group<J: Journal>(journal: &mut J, waiting: &mut usize) -> Result<(), JournalFault>
     ensures { OnOk result ((parts : List PartState) → HasSaved J.Journal journal.old parts
         → HasSaved J.Journal journal.new parts) }
@@ -81,7 +81,7 @@ fn commit_group<J: Journal>(journal: &mut J, waiting: &mut usize) -> Result<(), 
     journal.commit()
 }
 
-/// Adds a part as a record behind the others. NoRoom where memory is refused, or no record can hold the part.
+/// Appends a part as a record. The error is NoRoom, if out of memory, or if no record can hold the part.
 fn add_part<J: Journal>(journal: &mut J, part: &Part<'_>) -> Result<(), JournalFault>
     ensures { OnOk result ((entries : List Entry) (durable : ℕ) → J.holds journal.old entries durable
         → J.holds journal.new (entries ++ entry_of_part (as_part part.now) ∷ []) durable) }
@@ -95,9 +95,10 @@ fn add_part<J: Journal>(journal: &mut J, part: &Part<'_>) -> Result<(), JournalF
     Ok(())
 }
 
-/// Writes a checkpoint: the records of all parts of what the handler keeps, with the number of each next list raised by so many,
-/// into a journal that has no record yet. All of them are durable then, and to a handler of the same repositories they give what this one
-/// keeps, but for the open lists, which have ended. The handler keeps what it kept, also after an error; the journal is dropped then.
+/// Writes a checkpoint: the records of all parts of the handler's state, with the number of each next list raised by
+/// that much, into a journal that has no record yet. All of them are durable then; restored by a handler of the same
+/// repositories they give this one's state, except that all lists have ended. The handler's state is unchanged, also
+/// after an error; the journal is dropped then.
 pub fn checkpoint<H: Replayed, J: Journal>(
     handler: &mut H,
     raise: u32,

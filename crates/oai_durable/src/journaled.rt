@@ -12,8 +12,8 @@ use oai_journal::{Journal, JournalFault, MAX_BODY};
 use std::alloc::Global;
 use std::marker::Model;
 
-/// A handler whose exchanges stand in a journal: what it performs is added behind what it performed before, and answers may
-/// leave once it has settled.
+/// A handler whose exchanges are logged in a journal: what it performs is appended, and answers may be sent once it has
+/// settled (group commit).
 #[derive(Drop)]
 pub struct Journaled<H, J> {
     alloc: Global,
@@ -30,7 +30,7 @@ impl<H, J> Model for Journaled<H, J> {
 }
 
 impl<H: Replayed, J: Journal> Journaled<H, J> {
-    /// The handler, of which the journal has what it performed.
+    /// The handler; the journal has what it performed.
     pub fn new(alloc: Global, handler: H, journal: J) -> Journaled<H, J>
         ensures handler { result.handler ≡ handler }
         ensures journal { result.journal ≡ journal }
@@ -78,7 +78,8 @@ impl<H: Replayed, J: Journal> Handler for Journaled<H, J> {
     }
 }
 
-/// The answer to a message that was not performed, since there was no room for its record; of a deposit, with no line done.
+/// The answer to a message that was not performed, since no space could be reserved for its record; for a deposit, with
+/// no line done.
 fn refused(alloc: Global, target: &[u8]) -> Answer
     ensures { result ≡ spec.refused target.now }
 {
@@ -90,8 +91,8 @@ fn refused(alloc: Global, target: &[u8]) -> Answer
     Answer::of_fault(alloc, Fault::NoMemory, done)
 }
 
-/// Makes room for a record of what the message may ask for. NoRoom where memory is refused, or a record cannot be so
-/// long.
+/// Reserves space for the record that the message may need. The error is NoRoom, if out of memory or if a record cannot
+/// be so long.
 fn make_room<J: Journal>(journal: &mut J, exchange: &Exchange<'_>) -> Result<(), JournalFault>
     ensures room { OnOk result (J.has_room journal.new (most_in exchange.now)) }
     ensures size { OnOk result (most_in exchange.now ≤ MAX_BODY) }

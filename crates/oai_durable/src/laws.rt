@@ -1,30 +1,31 @@
-//! What is so of every list of lives: theorems, each on a function with an empty body.
+//! What holds of every list of lives; a life is one run of a server. Theorems, each an empty function.
 ghost use Rattle.oai_durable.specs.Checkpoints.{AreStages, IsHistory, Stage};
 ghost use Rattle.oai_durable.specs.Lives.{AreAmong, AreLives, Life, answered_in};
 ghost use Rattle.oai_durable.specs.Journaled.{IsExchange, IsHeld, IsSettled, Parts};
 ghost use Rattle.oai_durable.specs.Served.{IsLived, IsRemembered, LivesAs};
 ghost use Rattle.oai_front.specs.Runs.{Served};
 ghost use Rattle.oai_journal.specs.Records.{Entry};
+ghost use Rattle.oai_serving.specs.Accepted.{Known};
 ghost use Rattle.oai_serving.specs.Rounds.{IsService, World, served_in};
 ghost use Rattle.oai_serving.specs.declared.faults.ServeFault.{ServeFault as Fault};
-ghost use Rattle.std.specs.Prelude.{◌≡◌, [], IsTrue, List, Option, Result, length};
+ghost use Rattle.std.specs.Prelude.{◌≡◌, [], IsTrue, List, Result, length};
 
 use oai_http::Replayed;
 use oai_journal::Journal;
 use oai_serving::Stream;
 
-/// What the last of any number of lives of a handler left is one list of records, in which every answer that left has its place,
-/// in order over all lives: without a fault it is what the records before it make of what was asked, and its own record
-/// follows. All else in the list was performed, and its answer held back.
+/// What the last of any number of lives of a handler left is one list of log records, in which every answer that was
+/// sent has its place, in order over all lives: an answer without a fault is what the records before it make of the
+/// request, and its own record follows. All else in the list was performed, and its answer held back.
 pub fn restart_law<H: Replayed>()
     ensures { (begun : H.Kept) (lives : List Life) (left : List Entry)
         → AreLives (record { redone = H.redone; restored = H.restored }) H.reply begun [] lives left
         → AreAmong (record { redone = H.redone; restored = H.restored }) H.reply begun [] (answered_in lives) left }
 {}
 
-/// A server's life is such a life: rounds in which messages were served and the handler settled, whose answers left; and then
-/// messages whose answers were held back, since it ended. What a crash leaves of its journal is what that life leaves, wherever
-/// it comes, within a call of the journal too.
+/// A server's life is such a life: rounds in which messages were served and the handler settled, whose answers were
+/// sent; and then messages whose answers were held back, since it ended. What a crash leaves of its journal, whenever
+/// it comes, within a call of the journal too, is what that life leaves.
 pub fn life_law<H: Replayed, J: Journal>()
     ensures { (begun : H.Kept) (found : List Entry) (first : Parts H J) (rounds : List (List Served)) (held : List Served)
         (left : List Entry)
@@ -39,10 +40,11 @@ pub fn life_law<H: Replayed, J: Journal>()
         → LivesAs (record { redone = H.redone; restored = H.restored }) H.reply begun found (served_in rounds) held left }
 {}
 
-/// A service, as `Server::serve` promises it, is such a life, for its clients too: each has the front of the answers to its own messages among
-/// those whose answers left, and each of these has its place among the records that a crash then leaves.
+/// A service, as `Server::serve` promises it, is such a life, for its clients too: each that was accepted, connected or
+/// not, received a prefix of the answers to its own messages among those that were sent, and each of these has its place
+/// among the records that a crash then leaves.
 pub fn service_law<S: Stream, H: Replayed, J: Journal>()
-    ensures { (begun : H.Kept) (found : List Entry) (known later : Option (List S)) (old new : World S (Parts H J))
+    ensures { (begun : H.Kept) (found : List Entry) (known later : Known S) (old new : World S (Parts H J))
         (result : Result Unit Fault) (left : List Entry)
         → IsService (IsExchange (record {
           step = H.step;
@@ -66,10 +68,11 @@ pub fn service_law<S: Stream, H: Replayed, J: Journal>()
         → IsRemembered S.contents S.remaining (record { redone = H.redone; restored = H.restored }) H.reply begun found known later old new left }
 {}
 
-/// Lives, with checkpoints between them: all of them are one history, which leaves what the records leave that the last stage left. Every
-/// answer that left has its place in it, in order over all lives: without a fault it is what the history before it makes of what was asked, and
-/// its own record follows. All else in it was performed, and its answer held back; or it is a checkpoint, at which all lists ended and the number
-/// of each next list was raised. So a token is answered as before or refused, and no list number is given twice.
+/// Lives, with checkpoints between them: all of them are one history, with the effect of the records that the last
+/// stage left. Every answer that was sent has its place in it, in order over all lives: an answer without a fault is
+/// what the history before it makes of the request, and its own record follows. All else in it was performed, and its
+/// answer held back; or it is a checkpoint, at which all lists ended and the number of each next list was raised. So a
+/// token is answered as before or refused, and no list number is given twice.
 pub fn stages_law<H: Replayed>()
     ensures { (begun : H.Kept) (stages : List Stage) (left : List Entry)
         → H.emptied begun ≡ begun

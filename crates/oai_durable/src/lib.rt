@@ -1,5 +1,5 @@
-//! A handler that outlives its process: what it performs stands in a journal before an answer leaves, and is performed again
-//! from there.
+//! A handler that outlives its process: what it performs is logged in a journal before an answer is sent, and replayed
+//! after a crash.
 #![tactic(auto)]
 
 mod checkpoints;

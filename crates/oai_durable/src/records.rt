@@ -1,4 +1,4 @@
-//! What was performed, and parts of what is kept, as records of a journal.
+//! What was performed, and parts of a handler's state, as log records.
 ghost use Rattle.oai_durable.specs.Records as spec;
 ghost use Rattle.oai_journal.specs.Records.{as_entry};
 ghost use Rattle.oai_http.specs.Parts.{as_part};
@@ -11,7 +11,7 @@ ghost use Rattle.std.specs.Prelude.{◌≡◌, ◌≤◌, ◌++◌, ◌∷◌, [
 use oai_http::{Endpoint, Part, PartKind, Performed};
 use oai_journal::{Journal, Kind, Record};
 
-/// What was performed at the moment, as a record: a deposit or a request, and a request without arguments as a tick.
+/// What was performed at the moment, as a log record: a deposit or a request; a request without arguments is a tick.
 pub(crate) fn record_of<'a>(moment: i64, performed: &Performed<'a>) -> Record<'a>
     ensures { as_entry result ≡ spec.entry_of moment performed.now }
 {
@@ -23,7 +23,7 @@ pub(crate) fn record_of<'a>(moment: i64, performed: &Performed<'a>) -> Record<'a
     }
 }
 
-/// Adds what was performed at the moment behind the other records, into room that is there.
+/// Appends what was performed at the moment, into reserved space.
 #[tactic(auto, unfolding(oai_journal::specs::Records::is_within))]
 pub(crate) fn add<J: Journal>(journal: &mut J, moment: i64, performed: &Performed<'_>)
     requires name { IsTrue (is_short_name performed.now.name.now) }
@@ -51,7 +51,7 @@ fn kind_of(endpoint: Endpoint, bytes: &[u8]) -> Kind
     }
 }
 
-/// What is to be performed again for a record; `None` for a kind that is no exchange.
+/// What has to be replayed for a record; `None` for a kind that is no exchange.
 pub(crate) fn performed_in<'a>(entry: &Record<'a>) -> Option<Performed<'a>>
     ensures { IfSome result (λ p. call_again entry.now.moment p ≡ spec.call_in (as_entry entry.now)) }
 {
@@ -88,7 +88,7 @@ pub(crate) fn record_of_part<'a>(part: &Part<'a>) -> Record<'a>
     }
 }
 
-/// The part of which this is the record; `None` where it is of no part.
+/// The part that the record holds; `None` if it holds none.
 pub(crate) fn part_in<'a>(entry: &Record<'a>) -> Option<Part<'a>>
     ensures part { IfSome result (λ p. (spec.part_kind entry.now.kind ≡ Some p.kind)
         × (as_part p ≡ spec.part_in p.kind (as_entry entry.now))) }

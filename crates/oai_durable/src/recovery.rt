@@ -1,4 +1,4 @@
-//! The records of a journal, performed again.
+//! Replays the records of a journal: crash recovery.
 ghost use Rattle.oai_durable.specs.Journaled.{IsHeld};
 ghost use Rattle.oai_durable.specs.Records.{left_by};
 ghost use Rattle.oai_durable.specs.Recovered.{HasRedone, IsRecovered};
@@ -16,13 +16,13 @@ use sqlite_disk::Disk;
 use std::alloc::Global;
 use thiserror::Error;
 
-/// Why the records of a journal were not all performed again. A number is that of a record: 1 is the one behind the first.
+/// Why the records of a journal were not all replayed. A number is that of a record: 1 is the one after the first.
 #[derive(Clone, Copy, Debug, PartialEq, Eq, Error)]
 pub enum RecoverFault {
     /// The journal could not be read on.
     #[error("{0}")]
     Journal(RecoveryFault),
-    /// The record is of a kind that is neither an exchange nor a part.
+    /// The record has a kind that is neither an exchange nor a part.
     #[error("record {0}: it is neither an exchange nor a part")]
     Kind(u64),
     /// A fault ended it.
@@ -30,15 +30,15 @@ pub enum RecoverFault {
     Performing(u64, Fault),
 }
 
-/// To what it is reported how far a recovery is.
+/// Receives the progress of a recovery.
 pub trait Progress {
-    /// So many bytes of `len` were read, and so many records were performed.
+    /// That many bytes of `len` were read, and that many records were performed.
     fn note(&mut self, position: usize, len: usize, records: u64);
 }
 
-/// Performs the records of the journal behind its first one again, one by one, those of parts by restoring these, and answers how many they
-/// were. The recovery has begun. The journal is as it was, also after an error: one of the journal's own, or with the number of the record
-/// that could not be performed.
+/// Replays the records of the journal after its first one, one by one, and restores those that are parts; returns how
+/// many there were. The recovery has begun. The journal is unchanged, also after an error: one of the journal's own, or
+/// one with the number of the record that could not be performed.
 pub fn recover<H: Replayed, D: Disk + Drop, P: Progress>(
     handler: &mut H,
     recovery: &mut Recovery<D>,
@@ -63,7 +63,7 @@ pub fn recover<H: Replayed, D: Disk + Drop, P: Progress>(
     Err(RecoverFault::Kind(u64::MAX))
 }
 
-/// The handler with the journal whose records it performed again; `None` before all of them were read.
+/// The handler with the journal whose records it replayed; `None` before all of them were read.
 pub fn resume<H: Replayed + Drop, D: Disk + Drop>(
     alloc: Global,
     handler: H,
@@ -86,7 +86,7 @@ pub fn resume<H: Replayed + Drop, D: Disk + Drop>(
     }
 }
 
-/// Reads the next record and performs it, or restores its part; false where there is none.
+/// Reads the next record and performs it, or restores its part; returns false if there is none.
 fn redo_next<H: Replayed, D: Disk + Drop>(
     handler: &mut H,
     recovery: &mut Recovery<D>,

@@ -11,8 +11,9 @@ use Rattle.oai_front.specs.Fields.{any_close, values_named}
 abbrev pub response_fields : ResponseHead → List (List ℕ × List ℕ)
 response_fields head = map name_and_value head.fields
 
--- the bytes begin with an answer that has that status and that body, and then come others: a head, in which stand the number of the status,
--- one length, in decimal digits, which is the body's, and no coding in place of it; and `close` where the connection is closed behind it
+-- the bytes begin with an answer that has that status and that body, and others follow: a head, which has the number of
+-- the status, one length, in decimal digits, which is the body's, and no transfer coding; and `close` if the connection
+-- is closed after it
 pub record IsReadBack (bytes : List ℕ) (status : Status) (last : Bool) (body others : List ℕ) : Type 0 where
   pub head : ResponseHead
   pub reads : ReadsResponse bytes head (body ++ others)

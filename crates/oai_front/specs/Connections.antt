@@ -1,4 +1,4 @@
--- Connections, and what the calls on them do. This repository's own; what the messages are is said in `Messages`.
+-- Connections, and what the calls on them do. This repository's own; `Messages` defines what the messages are.
 use Rattle.std.specs.Prelude.{◌≡◌, ℕ, ℤ, ◌⊎◌, if◌then◌else◌, List, [], ◌++◌, Result, Ok, Err}
 use Rattle.oai_front.specs.Messages.{End, HasWhole, IsUnfinished, closes, faults, waits}
 use Rattle.oai_front.specs.Performing.{Completes, Performs, Steps}
@@ -8,19 +8,19 @@ use Rattle.oai_front.specs.declared.stages.Stage.TheVariants.{Reading, Closed}
 use Rattle.oai_front.specs.declared.faults.PieceFault.{PieceFault}
 use Rattle.oai_front.specs.declared.faults.PieceFault.TheVariants.{NoSuchConnection, NoMemory, Unfinished}
 
--- a connection: its number, the bytes that came and belong to no message that was performed, the bytes that were answered and not taken,
--- and whether it reads on
+-- a connection: its number, the bytes received that belong to no message that was performed, the bytes that were
+-- answered and not taken, and whether it still reads
 pub record Connection : Type 0 where
   pub number : ℕ
   pub rest : List ℕ
   pub output : List ℕ
   pub stage : Stage
 
--- one that was opened just now
+-- one that was just opened
 abbrev pub fresh : ℕ → Connection
 fresh number = record { number = number; rest = []; output = []; stage = Reading }
 
--- the bytes are the front of these, and there are none only where these are none
+-- the bytes are a prefix of these, empty only if these are
 pub record IsFrontOf (bytes all : List ℕ) : Type 0 where
   pub later : List ℕ
   pub front : all ≡ bytes ++ later
@@ -28,7 +28,7 @@ pub record IsFrontOf (bytes all : List ℕ) : Type 0 where
 
 -- ---- a piece
 
--- the bytes that wait, and behind them the piece, which is dropped where the connection is closing
+-- the bytes that wait, followed by the piece, which is dropped if the connection is closing
 abbrev pub bytes_with : Connection → List ℕ → List ℕ
 bytes_with c piece = if is_closing c.stage then c.rest else c.rest ++ piece
 
@@ -46,8 +46,8 @@ stage_at stage (faults status) = Closed
 abbrev pub connection_at : Connection → End → List ℕ → Connection
 connection_at c end written = record c { rest = rest_at end; output = c.output ++ written; stage = stage_at c.stage end }
 
--- what comes of the bytes of a connection, and of the handler, where its messages are performed: all that are whole, or the first of them,
--- and something whole is left
+-- the effect on the bytes of a connection, and on the handler, of performing its messages: all that are complete, or
+-- the first of them, and something complete is left
 abbrev pub IsGoneOver : {H : Type 0} → Steps H → ℤ → Connection → H → Result Unit PieceFault → Connection → H → Type 0
 IsGoneOver step moment c old (Ok done) d new =
     (end : End) × (written : List ℕ) × Completes step moment old new c.rest end written × (d ≡ connection_at c end written)
@@ -57,15 +57,16 @@ IsGoneOver step moment c old (Err Unfinished) d new =
 IsGoneOver step moment c old (Err NoMemory) d new = ⊥
 IsGoneOver step moment c old (Err NoSuchConnection) d new = ⊥
 
--- what a piece does to a connection and to the handler. All messages that are whole are performed at that moment, and answered behind the
--- output; or the piece was not taken; or it was taken, and only the first messages were performed
+-- what a piece does to a connection and to the handler. All complete messages are performed at that moment, and their
+-- answers appended to the output; or the piece was not taken; or it was taken, and only the first messages were
+-- performed
 abbrev pub IsTakenIn : {H : Type 0} → Steps H → ℤ → List ℕ → Connection → H → Result Unit PieceFault → Connection → H → Type 0
 IsTakenIn step moment piece c old (Err NoMemory) d new = (d ≡ c) × (new ≡ old)
 IsTakenIn step moment piece c old result d new = IsGoneOver step moment (record c { rest = bytes_with c piece }) old result d new
 
 -- ---- the end
 
--- what the end of a connection does to it: what has come of a message that is not whole is dropped, and messages that wait stay
+-- what the end of a connection does to it: an incomplete message is dropped, and messages that wait stay
 pub record IsEnded (c d : Connection) : Type 0 where
   pub rest : (IsUnfinished c.rest × (d.rest ≡ [])) ⊎ (HasWhole c.rest × (d.rest ≡ c.rest))
   pub others : d ≡ record c { rest = d.rest; stage = stage_ended c.stage }

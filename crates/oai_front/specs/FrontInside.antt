@@ -1,4 +1,4 @@
--- What contracts see of the fields of a `Front`, and what is true of them.
+-- What contracts see of the fields of a `Front`, and its invariant.
 use Rattle.oai_front.specs.Fronts.{IsTable, State}
 use Rattle.oai_front.specs.declared.fronts.Front.TheInside.{Inside}
 

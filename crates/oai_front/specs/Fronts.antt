@@ -13,7 +13,7 @@ use Rattle.oai_front.specs.declared.faults.PieceFault.TheVariants.{NoSuchConnect
 use Rattle.oai_front.specs.declared.numbers.ConnId.{ConnId}
 use Rattle.oai_front.specs.declared.numbers.TheConstants.{LAST_NUMBER}
 
--- what performs the messages, how many connections may be open, the number that was given last, and the connections that are open
+-- the handler, how many connections may be open, the number that was given last, and the open connections
 pub record State (H : Type 0) : Type 0 where
   pub handler : H
   pub limit : ℕ
@@ -28,22 +28,22 @@ nothing_open handler limit = record { handler = handler; limit = limit; last = 0
 abbrev pub is_numbered : ℕ → Connection → Bool
 is_numbered number c = c.number == number
 
--- the open connection of that number
+-- the open connection with that number
 unfoldable pub connection_numbered : ℕ → List Connection → Option Connection
 connection_numbered number connections = find (is_numbered number) connections
 
--- the connections, this one in place of the one of its number
+-- the connections, this one in place of the one with its number
 abbrev pub replaced : Connection → Connection → Connection
 replaced d c = if is_numbered d.number c then d else c
 
 unfoldable pub with_connection : Connection → List Connection → List Connection
 with_connection d connections = map (replaced d) connections
 
--- the connections but that of the number
+-- the connections without that of the number
 unfoldable pub without_connection : ℕ → List Connection → List Connection
 without_connection number connections = filter (λ c. not (is_numbered number c)) connections
 
--- ---- what is true of each front
+-- ---- the invariant of a front
 
 -- the number of a connection
 abbrev pub connection_number : Connection → ℕ
@@ -53,7 +53,7 @@ connection_number c = c.number
 abbrev pub are_numbered : List Connection → Bool
 are_numbered connections = numbers_rise connection_number connections
 
--- no number stands twice, and none above the one that was given last
+-- numbers are distinct, and none is above the one that was given last
 pub record IsTable (connections : List Connection) (last : ℕ) : Type 0 where
   pub numbered : are_numbered connections ≡ true
   pub given : list_all (λ c. nat_le c.number last) connections ≡ true
@@ -61,8 +61,8 @@ pub record IsTable (connections : List Connection) (last : ℕ) : Type 0 where
 
 -- ---- the calls
 
--- opening: the connection gets the number after the one that was given last, and nothing has come on it; or the first cause that applies is
--- returned, out of memory, where it is refused, ahead of the last
+-- opening: the connection gets the number after the one that was given last, and has received nothing; or the first
+-- cause that applies is returned, with out of memory before the last
 abbrev pub IsOpening : {H : Type 0} → State H → Result ConnId OpenFault → State H → Type 0
 IsOpening old (Ok conn) new =
     (length old.connections < old.limit) × (conn.number ≡ old.last + 1) × (conn.number < LAST_NUMBER)
@@ -71,7 +71,7 @@ IsOpening old (Err refusal.Full) new = (old.limit ≤ length old.connections) ×
 IsOpening old (Err refusal.NoMemory) new = (length old.connections < old.limit) × (new ≡ old)
 IsOpening old (Err refusal.NumbersSpent) new = (length old.connections < old.limit) × (old.last + 1 ≡ LAST_NUMBER) × (new ≡ old)
 
--- a change of the connection of that number, of no other, and of the handler
+-- a change of the connection with that number, of no other, and of the handler
 pub record IsChange {H : Type 0} (number : ℕ) (old new : State H) (change : Connection → Connection → Type 0) : Type 0 where
   pub before : Connection
   pub after : Connection
@@ -91,13 +91,13 @@ abbrev pub IsEnding : {H : Type 0} → ℕ → State H → Result Unit Absent �
 IsEnding number old (Ok done) new = IsChange number old new IsEnded × (new.handler ≡ old.handler)
 IsEnding number old (Err absent) new = (connection_numbered number old.connections ≡ None) × (new ≡ old)
 
--- the connection is taken away
+-- the connection is dropped
 abbrev pub IsForgetting : {H : Type 0} → ℕ → State H → Result Unit Absent → State H → Type 0
 IsForgetting number old (Ok done) new =
     IsSome (connection_numbered number old.connections) × (new ≡ record old { connections = without_connection number old.connections })
 IsForgetting number old (Err absent) new = (connection_numbered number old.connections ≡ None) × (new ≡ old)
 
--- what is to be written next on the connection
+-- what to write next on the connection
 abbrev pub IsOutput : ℕ → List Connection → Option (List ℕ) → Type 0
 IsOutput number connections None = connection_numbered number connections ≡ None
 IsOutput number connections (Some bytes) =
@@ -107,10 +107,10 @@ IsOutput number connections (Some bytes) =
 abbrev pub IsSettling : {H : Type 0} → (H → Result Unit SettleFault → H → Type 0) → State H → Result Unit SettleFault → State H → Type 0
 IsSettling settled old result new = settled old.handler result new.handler × (new ≡ record old { handler = new.handler })
 
--- so many bytes are to be written on the connection
+-- that many bytes are to be written on the connection
 abbrev pub HasOutput : ℕ → ℕ → List Connection → Type 0
 HasOutput number count connections = MatchOption (connection_numbered number connections) ⊥ (λ c. count ≤ length c.output)
 
--- so many of them are taken
+-- that many of them are taken
 abbrev pub IsTaking : ℕ → Connection → Connection → Type 0
 IsTaking count c d = d ≡ record c { output = drop count c.output }

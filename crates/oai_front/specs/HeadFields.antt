@@ -1,4 +1,4 @@
--- What one walk over the fields of a head keeps of them: RFC 9110, section 5.2. No definition of a message rests on it.
+-- What one pass over the fields of a head keeps of them: RFC 9110, section 5.2. No definition of a message rests on it.
 use Rattle.std.specs.Prelude.{◌≡◌, ℕ, nat_lt, List, length, codes, IfSome}
 use Rattle.std.specs.Option.{option_map}
 use Rattle.httparse.specs.Spans.{IsWithin, span_bytes}
@@ -6,7 +6,8 @@ use Rattle.oai_front.specs.Fields.{any_close, first_value, values_named}
 use Rattle.oai_front.specs.declared.fields.FieldLines.{FieldLines}
 use Rattle.oai_front.specs.declared.fields.HeadFields.{HeadFields}
 
--- of field lines with these values it is kept where the first value stands in the bytes, and whether there are more
+-- what is kept of field lines with these values: the position of the first value in the bytes, and whether there are
+-- more
 pub record AreLines (bytes : List ℕ) (values : List (List ℕ)) (lines : FieldLines) : Type 0 where
   pub first : option_map (span_bytes bytes) lines.first ≡ first_value values
   pub within : IfSome lines.first (IsWithin (length bytes))

@@ -1,4 +1,4 @@
--- What contracts see of the fields of a `Connection`, and what is true of them.
+-- What contracts see of the fields of a `Connection`, and its invariant.
 use Rattle.std.specs.Prelude.{IfSome, drop}
 use Rattle.std.specs.List.{concat}
 use Rattle.oai_front.specs.Connections.{Connection}
@@ -9,7 +9,7 @@ use Rattle.oai_front.specs.declared.connections.Connection.TheInside.{Inside}
 abbrev pub connection_in : Inside → Connection
 connection_in c = record { number = c.number; rest = c.bytes.items; output = drop c.taken (concat c.queue.items); stage = c.stage }
 
--- what is kept of a head is that of the bytes; each buffer holds something, and of the first some is left
+-- what is kept of a head is that of the bytes; no buffer is empty, and some of the first is left
 pub record IsConnection (c : Inside) : Type 0 where
   pub head : IfSome c.head (IsHead c.bytes.items)
   pub filled : AreFilled c.queue.items

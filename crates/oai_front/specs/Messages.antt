@@ -1,5 +1,5 @@
--- The messages of a connection: RFC 9112, sections 2, 3, 6 and 9. The bytes that come are one message behind the other, and then what
--- belongs to none. A head is one of the grammar of `httparse`.
+-- The messages of a connection: RFC 9112, sections 2, 3, 6 and 9. The received bytes are one message after the other,
+-- and then what belongs to none. A head is one of the grammar of `httparse`.
 use Rattle.std.specs.Prelude.{◌≡◌, ℕ, ◌<◌, ◌≤◌, ◌⊎◌, Bool, true, false, List, [], ◌∷◌, ◌++◌, length, map, codes, ⊤}
 use Rattle.httparse.specs.Grammar.{MayBecomeRequest, NeverHasRequest, ReadsRequest, RequestHead, print_request}
 use Rattle.httparse.specs.Spans.{RequestExceeds, name_and_value}
@@ -20,11 +20,11 @@ pub record Message : Type 0 where
 abbrev pub head_fields : RequestHead → List (List ℕ × List ℕ)
 head_fields head = map name_and_value head.fields
 
--- the framing of the body behind a head: RFC 9112, section 6
+-- the framing of the body after a head: RFC 9112, section 6
 unfoldable pub framing_in : RequestHead → Framing
 framing_in head = framing_of head.minor head.target (head_fields head)
 
--- the bytes are a head of at most so many bytes and fields, and then `behind`
+-- the bytes are a head of at most that many bytes and fields, and then `behind`
 pub record Begins (bytes : List ℕ) (head : RequestHead) (behind : List ℕ) : Type 0 where
   pub reads : ReadsRequest bytes head behind
   pub short : length (print_request head) ≤ MAX_HEAD_BYTES
@@ -34,7 +34,7 @@ pub record Begins (bytes : List ℕ) (head : RequestHead) (behind : List ℕ) : 
 abbrev pub HasNoHead : List ℕ → Type 0
 HasNoHead bytes = (head : RequestHead) (behind : List ℕ) → ¬ (Begins bytes head behind)
 
--- no such head begins the bytes, whatever bytes follow
+-- the bytes do not begin with such a head, whatever bytes follow
 abbrev pub NeverHasHead : List ℕ → Type 0
 NeverHasHead bytes = (more : List ℕ) → HasNoHead (bytes ++ more)
 
@@ -54,35 +54,36 @@ pub record IsRefused (bytes : List ℕ) (status : Status) : Type 0 where
   pub begins : Begins bytes head behind
   pub framing : framing_in head ≡ Refused status
 
--- no head stands at their front, whatever bytes follow, and it is time to say so: no head of the grammar ever will, of whatever size, or
--- there are as many bytes as a head may have
+-- the bytes do not begin with a head, whatever bytes follow, and it is time to say so: no head of the grammar ever will
+-- come, of whatever size, or there are as many bytes as a head may have
 abbrev pub IsHopeless : List ℕ → Type 0
 IsHopeless bytes = NeverHasHead bytes × (NeverHasRequest bytes ⊎ (MAX_HEAD_BYTES ≤ length bytes))
 
--- in bytes without a head one may still begin: they can become a head of the grammar, or they have the lines of one with too many fields,
--- of which nothing is said before there are as many bytes as a head may have
+-- in bytes without a head one may still begin: they can become a head of the grammar, or they have the lines of one
+-- with too many fields, which is not refused before there are as many bytes as a head may have
 abbrev pub MayBegin : List ℕ → Type 0
 MayBegin bytes = MayBecomeRequest bytes ⊎ RequestExceeds MAX_HEAD_FIELDS bytes
 
--- no message can come of the bytes: no head ever stands at their front, or the one that does is refused
+-- no message can come of the bytes: they never begin with a head, or the head that they begin with is refused
 abbrev pub IsFault : List ℕ → Status → Type 0
 IsFault bytes status = (IsHopeless bytes × (status ≡ BadRequest)) ⊎ IsRefused bytes status
 
--- nothing whole stands at the front of the bytes: no message and no head that is refused; and a head that is not whole has fewer bytes than
--- a head may have, and may still come
+-- the bytes begin with nothing complete: no message and no head that is refused; and an incomplete head has fewer bytes
+-- than a head may have, and may still be completed
 pub record IsUnfinished (bytes : List ℕ) : Type 0 where
   pub message : (message : Message) (after : List ℕ) → ¬ (ReadsMessages bytes message after)
   pub fault : (status : Status) → ¬ (IsRefused bytes status)
   pub short : HasNoHead bytes → length bytes < MAX_HEAD_BYTES
   pub begins : HasNoHead bytes → MayBegin bytes
 
--- a message or a fault stands at the front of the bytes
+-- the bytes begin with a message or a fault
 abbrev pub HasWhole : List ℕ → Type 0
 HasWhole bytes = ((message : Message) × (after : List ℕ) × ReadsMessages bytes message after) ⊎ ((status : Status) × IsFault bytes status)
 
 -- ---- the whole stream
 
--- how a stream ends: with bytes that wait for others, with a message after which the connection is closed, or with a fault
+-- how a stream ends: with bytes that wait for others, with a message after which the connection is closed, or with a
+-- fault
 pub data End : Type 0 where
   waits : (rest : List ℕ) → End
   closes : End
@@ -108,8 +109,8 @@ Stream bytes messages closes =
     (front : List Message) × (rest : List ℕ) × (message : Message) × (after : List ℕ)
     × Splits bytes front rest × ReadsMessages rest message after × (message.last ≡ true) × (messages ≡ front ++ message ∷ [])
 
--- two ends are alike: they are equal, but that the 400 for bytes in which a head never comes may wait for more of them where a line behind
--- more than 64 fields is none of a head, or where the target is not in UTF-8
+-- two ends are alike: they are equal, except that the 400 for bytes in which a head never comes may wait for more of
+-- them if a line after more than 64 fields is none of a head, or if the target is not in UTF-8
 abbrev pub AreAlike : End → End → Type 0
 AreAlike (waits rest) (waits other) = rest ≡ other
 AreAlike (faults status) (faults other) = status ≡ other

@@ -1,5 +1,5 @@
--- What comes of the bytes of a connection: its messages are performed in order, and their answers are written behind each other. This
--- repository's own.
+-- The effect of the bytes of a connection: its messages are performed in order, and their answers are written one after
+-- the other. This repository's own.
 use Rattle.std.specs.Prelude.{◌≡◌, ℕ, ℤ, List, [], ◌∷◌, ◌++◌, map}
 use Rattle.std.specs.List.{flat_map}
 use Rattle.oai_http.specs.declared.exchanges.Answer.{Answer}
@@ -7,7 +7,8 @@ use Rattle.oai_front.specs.Heads.{answer_bytes, fault_bytes}
 use Rattle.oai_http.specs.Exchanges.{Asked}
 use Rattle.oai_front.specs.Messages.{End, Message, Splits, Stream, waits, closes, faults}
 
--- what a handler does: from what it was, at a moment, it may give that answer to what is asked, and go on as what it then is
+-- the steps of a handler: in that state, at a moment, it may give that answer to what is asked, and get to that next
+-- state
 abbrev pub Steps : Type 0 → Type 1
 Steps H = H → ℤ → Asked → Answer → H → Type 0
 
@@ -35,20 +36,20 @@ Chain {A} {S} Step (x ∷ xs) old new = (mid : S) × Step x old mid × Chain Ste
 abbrev pub Run : {H : Type 0} → Steps H → ℤ → H → List Done → H → Type 0
 Run step moment old done new = Chain (λ d before after. step before moment d.message.asked d.answer after) done old new
 
--- what is answered at the end of the messages: nothing, or the connection fault
+-- the answer at the end of the messages: none, or that to the connection fault
 abbrev pub end_bytes : End → List ℕ
 end_bytes (waits rest) = []
 end_bytes closes = []
 end_bytes (faults status) = fault_bytes status
 
--- messages at the front of the bytes were performed, up to the rest, and that was written
+-- messages at the start of the bytes were performed, up to the rest, and that was written
 pub record Performs {H : Type 0} (step : Steps H) (moment : ℤ) (old new : H) (bytes rest written : List ℕ) : Type 0 where
   pub done : List Done
   pub splits : Splits bytes (messages_of done) rest
   pub run : Run step moment old done new
   pub told : written ≡ answers_of done
 
--- all messages of the bytes were performed, and that was written: their answers, and behind them the answer to a fault
+-- all messages of the bytes were performed, and that was written: their answers, followed by the answer to a fault
 pub record Completes {H : Type 0} (step : Steps H) (moment : ℤ) (old new : H) (bytes : List ℕ) (end : End) (written : List ℕ) : Type 0 where
   pub done : List Done
   pub stream : Stream bytes (messages_of done) end

@@ -1,4 +1,4 @@
--- Messages that come one behind the other, and are performed in order (RFC 9112, section 9.3.2): what stands next, and what is left. No
+-- Pipelined messages, which are performed in order (RFC 9112, section 9.3.2): what comes next, and what is left. No
 -- definition of a message rests on it.
 use Rattle.std.specs.Prelude.{◌≡◌, ℕ, ℤ, ◌-◌, ◌≤◌, List, ◌++◌, length, take, drop, IfSome, Option}
 use Rattle.std.specs.Option.{option_map}
@@ -15,13 +15,13 @@ use Rattle.oai_front.specs.RequestHeads.{IsHead}
 
 -- ---- what is to be done next
 
--- at the front of the bytes stands nothing whole, and that is kept of the head; a fault; a message with that head
+-- the bytes begin with nothing complete, and that is kept of the head; with a fault; or with a message with that head
 abbrev pub IsNext : List ℕ → Next → Type 0
 IsNext bytes (Unfinished kept) = IsUnfinished bytes × IfSome kept (IsHead bytes)
 IsNext bytes (Faulty status) = IsFault bytes status
 IsNext bytes (Message head) = IsHead bytes head × (head.size ≤ length (drop head.start bytes))
 
--- the message of that head, and what comes behind it
+-- the message with that head, and what follows it
 abbrev pub body_behind : List ℕ → Head → List ℕ
 body_behind bytes head = take head.size (drop head.start bytes)
 
@@ -36,14 +36,14 @@ message_behind bytes head = record {
   body = body_behind bytes head;
 }
 
--- ---- what comes of all bytes
+-- ---- the effect of all bytes
 
--- what is written, behind what was to be written before
+-- what is written, after what was to be written before
 abbrev pub WritesBehind : List ℕ → List ℕ → (List ℕ → Type 0) → Type 0
 WritesBehind before after P = (written : List ℕ) × (after ≡ before ++ written) × P written
 
--- what is left of the bytes, after the messages that were performed: so many bytes were theirs, and the others wait for more; nothing,
--- since the connection is closed; so many bytes were theirs, and it ended where memory ran out
+-- what is left of the bytes, after the messages that were performed: that many bytes were theirs, and the others wait
+-- for more; nothing, since the connection is closed; or that many bytes were theirs, and memory ran out there
 abbrev pub IsRemainder : {H : Type 0} → Steps H → ℤ → H → H → List ℕ → List ℕ → List ℕ → Left → Type 0
 IsRemainder step moment old new bytes before after (Waiting begun kept) =
     WritesBehind before after (Completes step moment old new bytes (waits (drop begun bytes))) × (begun ≤ length bytes)

@@ -1,4 +1,4 @@
--- Where a connection stands among those that are open. No definition rests on it.
+-- The position of a connection among the open ones. No definition rests on it.
 use Rattle.std.specs.Prelude.{ℕ, List, Option}
 use Rattle.oai_names.specs.Numbered.{IsPlaceOf, none_has}
 use Rattle.oai_front.specs.Connections.{Connection}
@@ -8,6 +8,6 @@ use Rattle.oai_front.specs.Fronts.{connection_number}
 abbrev pub none_numbered : ℕ → List Connection → Type 0
 none_numbered number connections = none_has connection_number number connections
 
--- where the connection of that number is: there, and nowhere else
+-- the position of the connection with that number: there, and nowhere else
 abbrev pub IsPlaced : ℕ → List Connection → Option ℕ → Type 0
 IsPlaced number connections place = IsPlaceOf connection_number number connections place

@@ -1,4 +1,4 @@
--- What is kept of a request's head while its message comes. No definition of a message rests on it.
+-- What is kept of a request's head until its message is complete. No definition of a message rests on it.
 use Rattle.std.specs.Prelude.{◌≡◌, ℕ, ◌<◌, nat_lt, if◌then◌else◌, List, length, codes, IfSome}
 use Rattle.std.specs.Option.{option_map}
 use Rattle.httparse.specs.Grammar.{RequestHead, print_request}
@@ -29,17 +29,17 @@ pub record IsHead (bytes : List ℕ) (kept : Head) : Type 0 where
   pub content_type : option_map (span_bytes bytes) kept.content_type
       ≡ first_value (values_named (codes "Content-Type") (head_fields head))
 
--- what stands at the front of the bytes: no head yet, fewer bytes than one may have, and one may still begin; a fault; a head
+-- what the bytes begin with: no head yet, fewer bytes than one may have, and one may still begin; a fault; a head
 abbrev pub IsHeadParse : List ℕ → HeadParse → Type 0
 IsHeadParse bytes Unknown = HasNoHead bytes × (length bytes < MAX_HEAD_BYTES) × MayBegin bytes
 IsHeadParse bytes (Fault status) = IsFault bytes status
 IsHeadParse bytes (Whole head) = IsHead bytes head
 
--- what is said of bytes in which no head was found
+-- the result for bytes in which no head was found
 abbrev pub parse_unless_full : ℕ → List ℕ → HeadParse
 parse_unless_full most bytes = if nat_lt (length bytes) most then Unknown else Fault BadRequest
 
--- what is said of a head that was found
+-- the result for a head that was found
 abbrev pub IsKept : List ℕ → HeadParse → Type 0
 IsKept bytes Unknown = ⊥
 IsKept bytes (Fault status) = IsRefused bytes status

@@ -1,4 +1,5 @@
--- What comes of the calls of a front, on any number of connections, in the order in which they come. This repository's own.
+-- The effect of the calls of a front, on any number of connections, in the order in which they come. This repository's
+-- own.
 use Rattle.std.specs.Prelude.{◌≡◌, ◌⊎◌, ◌<◌, ◌≤◌, ℕ, ℤ, Bool, true, false, ◌==◌, if◌then◌else◌, List, [], ◌++◌, drop, filter, find, map, reverse, take, Option, None, Some, Result, Ok, Err}
 use Rattle.std.specs.List.{before_first, flat_map, list_any, sum_by}
 use Rattle.oai_front.specs.Connections.{Connection, fresh, rest_at, stage_at}
@@ -13,15 +14,16 @@ use Rattle.oai_front.specs.declared.stages.Stage.TheVariants as phase
 
 -- ---- the calls
 
--- a piece that comes on a connection at a moment, and whether all messages that are whole with it were performed, or the first of them
+-- a piece that comes on a connection at a moment, and whether all messages that it completes were performed, or only
+-- the first of them
 pub record Piece : Type 0 where
   pub number : ℕ
   pub moment : ℤ
   pub bytes : List ℕ
   pub whole : Bool
 
--- a call that changes a front: a piece comes on a connection; so many bytes that are to be written on it are taken; no more come on it; it
--- is forgotten; one is opened. A call that is refused changes nothing, and is none of them
+-- a call that changes a front: a piece comes on a connection; that many bytes of its output are taken; no more come on
+-- it; it is dropped; one is opened. A call that is refused changes nothing, and is none of them
 pub data FrontCall : Type 0 where
   Came : (piece : Piece) → FrontCall
   Taken : (number count : ℕ) → FrontCall
@@ -57,7 +59,7 @@ pub record Served : Type 0 where
 abbrev pub Serves : {H : Type 0} → Steps H → H → List Served → H → Type 0
 Serves step old served new = Chain (λ s before after. step before s.moment s.done.message.asked s.done.answer after) served old new
 
--- what came of a call: the messages that were performed with it
+-- the effect of a call: the messages that were performed with it
 pub record CallOutcome : Type 0 where
   pub call : FrontCall
   pub done : List Done
@@ -85,7 +87,7 @@ served_on number s = s.number == number
 unfoldable pub done_on : ℕ → List Served → List Done
 done_on number served = map (λ s. s.done) (filter (served_on number) served)
 
--- the bytes that came on it before no more did
+-- the bytes that came on it before its end
 abbrev pub is_over : ℕ → FrontCall → Bool
 is_over number (Over other) = other == number
 is_over number call = false
@@ -102,12 +104,12 @@ abbrev pub taken_count : ℕ → FrontCall → ℕ
 taken_count number (Taken other count) = if other == number then count else 0
 taken_count number call = 0
 
--- it was forgotten
+-- it was dropped
 abbrev pub is_forgotten : ℕ → FrontCall → Bool
 is_forgotten number (Forgotten other) = other == number
 is_forgotten number call = false
 
--- all that was whole with the last piece that came on it was performed, or none came
+-- all that the last piece on it completed was performed, or none came
 abbrev pub comes_on : ℕ → FrontCall → Bool
 comes_on number (Came p) = p.number == number
 comes_on number call = false
@@ -116,7 +118,7 @@ abbrev pub is_whole : Option FrontCall → Bool
 is_whole (Some (Came p)) = p.whole
 is_whole call = true
 
--- what some calls were to a connection
+-- what some calls did to a connection
 pub record Seen : Type 0 where
   pub bytes : List ℕ
   pub done : List Done
@@ -135,30 +137,31 @@ seen number outcomes = record {
   forgotten = list_any (is_forgotten number) (calls_of outcomes);
 }
 
--- the messages of the bytes, up to that end: all of them; or the first of them, and something whole waits
+-- the messages of the bytes, up to that end: all of them; or the first of them, and something complete waits
 abbrev pub ArePerformed : Bool → List ℕ → List Message → End → Type 0
 ArePerformed true bytes messages end = Stream bytes messages end
 ArePerformed false bytes messages (waits rest) = Splits bytes messages rest × HasWhole rest
 ArePerformed false bytes messages end = ⊥
 
--- on the connection just the messages of the bytes that came on it were performed, in order
+-- on the connection exactly the messages of the bytes that came on it were performed, in order
 pub record AreMessages (c : Connection) (s : Seen) : Type 0 where
   pub end : End
   pub performed : ArePerformed s.whole (c.rest ++ s.bytes) (messages_of s.done) end
 
--- how far it has come where no more bytes may have come
+-- its stage if no more bytes may have come
 abbrev pub stage_where : Bool → Stage
 stage_where true = phase.Ended
 stage_where false = phase.Reading
 
--- what is left of the connection: what was to be written, the answers, and that to a fault are to be written, without what was taken
+-- what is left of the connection: what was to be written, the answers, and that to a fault, without what was taken
 pub record IsWhatIsLeft (c : Connection) (s : Seen) (end : End) (d : Connection) : Type 0 where
   pub same : d.number ≡ c.number
   pub output : d.output ≡ drop s.taken (c.output ++ (answers_of s.done ++ end_bytes end))
   pub stage : d.stage ≡ stage_at (stage_where s.over) end
   pub rest : s.over ≡ false → d.rest ≡ rest_at end
 
--- what comes of it: just its own messages are performed, and where it is not forgotten just their answers are put behind its output
+-- the effect on it: exactly its own messages are performed, and if it is not dropped exactly their answers are appended
+-- to its output
 pub record IsOwn (c : Connection) (s : Seen) (now : Option Connection) : Type 0 where
   pub messages : AreMessages c s
   pub forgotten : s.forgotten ≡ true → now ≡ None
@@ -166,23 +169,23 @@ pub record IsOwn (c : Connection) (s : Seen) (now : Option Connection) : Type 0 
 
 -- ---- all connections
 
--- a connection that reads, and on which nothing whole waits
+-- a connection that reads, and on which nothing complete waits
 pub record IsReadingConnection {H : Type 0} (number : ℕ) (state : State H) (c : Connection) : Type 0 where
   pub stands : connection_numbered number state.connections ≡ Some c
   pub reads : c.stage ≡ phase.Reading
   pub waits : IsUnfinished c.rest
   pub given : number ≤ state.last
 
--- a connection that is opened later, as it then is
+-- a connection that is opened later, in its state then
 pub record IsToCome {H : Type 0} (number : ℕ) (old new : State H) (c : Connection) : Type 0 where
   pub none : connection_numbered number old.connections ≡ None
   pub later : old.last < number
   pub given : number ≤ new.last
   pub opened : c ≡ fresh number
 
--- all that was performed, call by call, and what of it belongs to each connection, one that is opened among the calls as well. `prompt`:
--- this holds after each of the calls, so a message is performed with the piece that brings its last byte, or, where memory was refused,
--- with a later one
+-- all that was performed, call by call, and what of it belongs to each connection, also one that is opened among the
+-- calls. `prompt`: this holds after each of the calls, so a message is performed with the piece that brings its last
+-- byte, or, if memory ran out, with a later one
 pub record AreServed {H : Type 0} (step : Steps H) (old new : State H) (calls : List FrontCall) : Type 0 where
   pub each : List CallOutcome
   pub calls_are : calls_of each ≡ calls

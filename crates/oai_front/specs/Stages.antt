@@ -1,9 +1,9 @@
--- How far a connection has come: this repository's own.
+-- The stage of a connection: this repository's own.
 use Rattle.std.specs.Prelude.{Bool, true, false}
 use Rattle.oai_front.specs.declared.stages.Stage.{Stage}
 use Rattle.oai_front.specs.declared.stages.Stage.TheVariants.{Reading, Ended, Closed}
 
--- nothing that comes is read any more: its end came, or it is closed
+-- the connection reads no more input: its end came, or it is closed
 abbrev pub is_closing : Stage → Bool
 is_closing Reading = false
 is_closing Ended = true

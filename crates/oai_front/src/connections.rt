@@ -13,8 +13,8 @@ use std::alloc::{AllocError, Global};
 use std::collections::VecDeque;
 use std::marker::Model;
 
-/// A connection: the bytes that came and belong to no message that was performed, what is known of the
-/// head at their front, and the buffers that wait to be written, of the first of which `taken` bytes are.
+/// A connection: the bytes received that belong to no message that was performed, what is known of the head at their
+/// start, and the buffers that wait to be written, with `taken` bytes of the first already written.
 #[derive(Drop)]
 pub struct Connection {
     number: u64,
@@ -38,7 +38,7 @@ impl Model for Connection {
 }
 
 impl Connection {
-    /// A connection that was opened just now. It takes no memory.
+    /// A connection that was just opened. Allocates nothing.
     pub fn new(alloc: Global, number: u64) -> Connection
         ensures { result ≡ fresh number }
     {
@@ -59,22 +59,22 @@ impl Connection {
         self.number
     }
 
-    /// Whether nothing that comes is read any more.
+    /// Whether the connection reads no more input.
     pub fn is_closing(&self) -> bool
         ensures { result ≡ is_closing self.now.stage }
     {
         self.stage.is_closing()
     }
 
-    /// Whether bytes came that belong to no message that was performed.
+    /// Whether bytes were received that belong to no message that was performed.
     pub fn has_rest(&self) -> bool
         ensures { result ≡ nat_lt 0 (length self.now.rest) }
     {
         self.bytes.len() > 0
     }
 
-    /// How many bytes it keeps: those that came and belong to no message that was performed, and those that
-    /// wait to be written, with what is taken of the first of their buffers; `usize::MAX` where they are more.
+    /// How many bytes it holds: those received that belong to no message that was performed, and those in the buffers
+    /// that wait to be written, including what is taken of the first; saturates at `usize::MAX`.
     pub fn size(&self) -> usize {
         let mut size = self.bytes.len();
         for buffer in self.queue.iter() {
@@ -83,14 +83,14 @@ impl Connection {
         size
     }
 
-    /// What is to be written next: the first of the bytes that wait, none only where none do.
+    /// What to write next: the start of the waiting bytes, empty only if none wait.
     pub fn output(&self) -> &[u8]
         ensures { IsFrontOf result.now self.now.output }
     {
         left_of(&self.queue, self.taken)
     }
 
-    /// Drops the first bytes of what is to be written; so many must be there.
+    /// Drops the first `count` bytes of what waits to be written; at least as many must wait.
     pub fn take(&mut self, count: usize)
         requires { count ≤ length self.old.output }
         ensures { self.new ≡ record self.old { output = drop count self.old.output } }
@@ -98,7 +98,7 @@ impl Connection {
         self.taken = drop_taken(&mut self.queue, self.taken, count);
     }
 
-    /// Takes note that no more bytes come. What has come of a message that is not whole is dropped.
+    /// Notes that no more bytes come. An incomplete message is dropped.
     pub(crate) fn end(&mut self, alloc: Global)
         ensures { IsEnded self.old self.new }
     {
@@ -113,8 +113,8 @@ impl Connection {
         }
     }
 
-    /// Takes a piece, and performs at the moment all messages that are whole. The errors are those of
-    /// `PieceFault`, the first apart.
+    /// Takes a piece, and performs at the moment all complete messages. The errors are those of `PieceFault`, except
+    /// the first.
     pub fn piece<H: Handler>(
         &mut self,
         alloc: Global,
@@ -130,8 +130,7 @@ impl Connection {
         }
     }
 
-    /// Puts a piece behind the bytes, where it is still read. The error is out of memory; nothing changes
-    /// then.
+    /// Appends a piece to the bytes, if the connection still reads. The error is out of memory; nothing changes then.
     fn read(&mut self, piece: &[u8]) -> Result<(), AllocError>
         ensures ok { OnOk result (self.new ≡ record self.old { rest = bytes_with self.old piece.now }) }
         ensures err { OnErr result (self.new ≡ self.old) }
@@ -143,7 +142,7 @@ impl Connection {
         }
     }
 
-    /// Performs at the moment all messages that are whole.
+    /// Performs at the moment all complete messages.
     fn perform<H: Handler>(
         &mut self,
         alloc: Global,

@@ -8,16 +8,16 @@ use crate::framings::MAX_LENGTH_DIGITS;
 use httparse::spans::{HeaderSpan, Span};
 use oai_http::trim;
 
-/// The field lines of one name (RFC 9110, section 5.2).
+/// The field lines with one name (RFC 9110, section 5.2).
 #[derive(Clone, Copy)]
 pub(crate) struct FieldLines {
-    /// Where the value of the first stands, if there is one.
+    /// The position of the value of the first, if there is one.
     pub(crate) first: Option<Span>,
     /// Whether there is more than one.
     pub(crate) is_repeated: bool,
 }
 
-/// What the fields of a head say of its message.
+/// What the fields of a head say about its message.
 #[derive(Clone, Copy)]
 pub(crate) struct HeadFields {
     /// The field lines Host.
@@ -32,7 +32,7 @@ pub(crate) struct HeadFields {
     pub(crate) is_close: bool,
 }
 
-/// What the fields of a head say, by one walk over them.
+/// What the fields of a head say, in one pass over them.
 pub(crate) fn read_fields(bytes: &[u8], headers: &[HeaderSpan]) -> HeadFields
     requires { All (IsHeaderWithin (length bytes.now)) headers.now }
     ensures { AreRead bytes.now (map (header_bytes bytes.now) headers.now) result }
@@ -45,7 +45,7 @@ pub(crate) fn read_fields(bytes: &[u8], headers: &[HeaderSpan]) -> HeadFields
 }
 
 impl HeadFields {
-    /// What no fields say.
+    /// What an empty list of fields says.
     #[tactic(auto, unfolding(crate::specs::Fields::values_named, crate::specs::Fields::any_close))]
     fn new() -> HeadFields
         ensures { (bytes : List ℕ) → AreRead bytes [] result }
@@ -63,7 +63,7 @@ impl HeadFields {
         }
     }
 
-    /// Takes one more field.
+    /// Adds one more field.
     fn add(&mut self, bytes: &[u8], header: &HeaderSpan)
         requires { IsHeaderWithin (length bytes.now) header.now }
         ensures { (fields : List (List ℕ × List ℕ)) → AreRead bytes.now fields self.old
@@ -79,7 +79,7 @@ impl HeadFields {
 }
 
 impl FieldLines {
-    /// Takes one more field, if it has that name.
+    /// Adds one more field, if it has that name.
     fn add(&mut self, bytes: &[u8], header: &HeaderSpan, name: &[u8])
         requires { IsHeaderWithin (length bytes.now) header.now }
         ensures { (fields : List (List ℕ × List ℕ))
@@ -102,7 +102,7 @@ fn closes(bytes: &[u8], header: &HeaderSpan) -> bool
     is_named(bytes, header, b"Connection") && lists_close(header.value.of(bytes))
 }
 
-/// Whether the field has that name, without regard to case (RFC 9110, section 5.1).
+/// Whether the field has that name, ignoring case (RFC 9110, section 5.1).
 fn is_named(bytes: &[u8], header: &HeaderSpan, name: &[u8]) -> bool
     requires { IsHeaderWithin (length bytes.now) header.now }
     ensures { result ≡ spec.is_field_named name.now (header_bytes bytes.now header.now) }
@@ -110,7 +110,7 @@ fn is_named(bytes: &[u8], header: &HeaderSpan, name: &[u8]) -> bool
     is_alike(header.name.of(bytes), name)
 }
 
-/// Whether two texts differ at most in the case of ASCII letters.
+/// Whether two texts are equal up to the case of ASCII letters.
 #[tactic(auto, unfolding(crate::specs::Fields::is_alike))]
 fn is_alike(a: &[u8], b: &[u8]) -> bool
     ensures { result ≡ spec.is_alike a.now b.now }
@@ -118,8 +118,7 @@ fn is_alike(a: &[u8], b: &[u8]) -> bool
     a.eq_ignore_ascii_case(b)
 }
 
-/// The length of the body that the field lines Content-Length give, or None where they give none (RFC
-/// 9112, section 6.3).
+/// The length of the body by the field lines Content-Length, or None if they are invalid (RFC 9112, section 6.3).
 pub(crate) fn length_given(bytes: &[u8], lines: &FieldLines) -> Option<usize>
     requires { IfSome lines.now.first (IsWithin (length bytes.now)) }
     ensures { (values : List (List ℕ)) → AreLines bytes.now values lines.now
@@ -134,7 +133,7 @@ pub(crate) fn length_given(bytes: &[u8], lines: &FieldLines) -> Option<usize>
     }
 }
 
-/// The number that a Content-Length writes, of 1 to 19 digits (RFC 9110, section 8.6).
+/// The number that a Content-Length of 1 to 19 digits writes (RFC 9110, section 8.6).
 #[tactic(auto, unfolding(crate::specs::Fields::length_written))]
 fn length_written(value: &[u8]) -> Option<usize>
     ensures { result ≡ spec.length_written value.now }
@@ -173,7 +172,7 @@ fn lists_close(value: &[u8]) -> bool
     value.split(|b| *b == b',').any(is_close)
 }
 
-/// Whether the element is `close`, with white space around it or not.
+/// Whether the element is `close`, ignoring white space around it.
 fn is_close(element: &[u8]) -> bool
     ensures { result ≡ spec.is_close element.now }
 {

@@ -7,26 +7,26 @@ ghost use Rattle.oai_front.specs.Fields as spec;
 use crate::fields::{FieldLines, HeadFields, length_given};
 use oai_http::{Endpoint, Status};
 
-/// The longest body of a message, in bytes, where the path of its target does not begin with `/deposit/`.
+/// The maximum length of a message body, in bytes, if the path of its target does not begin with `/deposit/`.
 pub const MAX_BODY_BYTES: usize = 1_048_576;
 
-/// The longest body of a message, in bytes, where the path of its target begins with `/deposit/`.
+/// The maximum length of a message body, in bytes, if the path of its target begins with `/deposit/`.
 pub const MAX_DEPOSIT_BYTES: usize = 2_097_152;
 
-/// The most digits of a Content-Length.
+/// The maximum number of digits of a Content-Length.
 pub const MAX_LENGTH_DIGITS: usize = 19;
 
-/// How the body behind a head is framed (RFC 9112, section 6).
+/// How the body after a head is framed (RFC 9112, section 6).
 #[derive(Clone, Copy, PartialEq, Eq)]
 pub enum Framing {
-    /// Nothing that is read: the message is answered with that status.
+    /// No body is read: the message is answered with that status.
     Refused(Status),
     /// A body of that many bytes, and whether the connection is closed after the message.
     Body(usize, bool),
 }
 
-/// The framing behind a head of HTTP/1.`minor` with these fields, whose values stand in `bytes`, and a target
-/// that is for this (RFC 9112, sections 3.2, 6.1 and 6.3).
+/// The framing after a head of HTTP/1.`minor` with these fields, whose values are in `bytes`, and with that endpoint
+/// (RFC 9112, sections 3.2, 6.1 and 6.3).
 #[tactic(auto, unfolding(crate::specs::Fields::framing_of))]
 pub(crate) fn framing_of(
     bytes: &[u8],
@@ -51,15 +51,15 @@ pub(crate) fn framing_of(
     }
 }
 
-/// Whether the connection is closed after a message of HTTP/1.`minor`, where a field Connection lists
-/// `close` or none does (RFC 9112, section 9.3).
+/// Whether the connection is closed after a message of HTTP/1.`minor`, if a field Connection lists `close` or if none
+/// does (RFC 9112, section 9.3).
 fn is_last(minor: u8, is_close: bool) -> bool
     ensures { result ≡ (minor == 0 || is_close) }
 {
     minor == 0 || is_close
 }
 
-/// The longest body of a message, in bytes, by what its target is for, whatever its method.
+/// The maximum length of a message body, in bytes, by the endpoint of its target, whatever its method.
 fn max_body_at(endpoint: Option<Endpoint>) -> usize
     ensures { result ≡ spec.max_body_at endpoint }
 {
@@ -70,7 +70,7 @@ fn max_body_at(endpoint: Option<Endpoint>) -> usize
     }
 }
 
-/// The framing where a body of `size` bytes is announced, and may have `most` bytes.
+/// The framing if a body of `size` bytes is announced, and may have `most` bytes.
 fn framing_by(most: usize, size: usize, last: bool) -> Framing
     ensures { result ≡ spec.framing_sized most size last }
 {
@@ -81,7 +81,7 @@ fn framing_by(most: usize, size: usize, last: bool) -> Framing
     }
 }
 
-/// Whether so many field lines Host may stand in a head of HTTP/1.`minor` (RFC 9112, section 3.2).
+/// Whether a head of HTTP/1.`minor` may have that many field lines Host (RFC 9112, section 3.2).
 fn is_host_count(minor: u8, host: &FieldLines) -> bool
     ensures { (bytes : List ℕ) (values : List (List ℕ)) → AreLines bytes values host.now
         → result ≡ spec.is_host_count minor (length values) }

@@ -12,8 +12,8 @@ use oai_http::{Handler, SettleFault, Settled};
 use std::alloc::Global;
 use std::marker::Model;
 
-/// Connections, and the handler that performs their messages, one after the other. Bytes come in pieces, on
-/// any connection, and what is answered waits there to be written.
+/// Connections, and the handler that performs their messages, one after the other. Bytes arrive in pieces, on any
+/// connection, and answers wait there to be written.
 #[derive(Drop)]
 pub struct Front<H> {
     handler: H,
@@ -36,7 +36,7 @@ impl<H> Model for Front<H> {
 }
 
 impl<H> Front<H> {
-    /// A front on which no connection is open. As many as `limit` may be open at once. It takes no memory.
+    /// A front with no open connection. At most `limit` may be open at once. Allocates nothing.
     pub fn new(alloc: Global, handler: H, limit: usize) -> Front<H>
         ensures { result ≡ nothing_open handler limit }
     {
@@ -69,10 +69,9 @@ impl<H> Front<H> {
         Ok(ConnId { number })
     }
 
-    /// Takes note that no more bytes come on the connection. What has come of a message that is not whole
-    /// is dropped; messages that wait to be performed, and a fault that waits to be answered, stay for the
-    /// next piece, an empty one too. The error comes where the connection is not open; nothing changes then.
-    /// It takes no memory.
+    /// Notes that no more bytes come on the connection. An incomplete message is dropped; messages that wait to be
+    /// performed, and a fault that waits to be answered, stay for the next piece, even an empty one. The error is that
+    /// the connection is not open; nothing changes then. Allocates nothing.
     pub fn end(&mut self, conn: ConnId) -> Result<(), NoSuchConnection>
         ensures { IsEnding conn.number self.old result self.new }
     {
@@ -86,8 +85,8 @@ impl<H> Front<H> {
         }
     }
 
-    /// Takes the connection away, with all that waits on it. The error comes where it is not open; nothing
-    /// changes then. It takes no memory.
+    /// Drops the connection, with all that waits on it. The error is that it is not open; nothing changes then.
+    /// Allocates nothing.
     pub fn forget(&mut self, conn: ConnId) -> Result<(), NoSuchConnection>
         ensures { IsForgetting conn.number self.old result self.new }
     {
@@ -100,8 +99,8 @@ impl<H> Front<H> {
         }
     }
 
-    /// What is to be written next on the connection: the first bytes of those that were not taken, empty
-    /// only where there are none; None where the connection is not open. It takes no memory.
+    /// What to write next on the connection: the start of the bytes that were not taken, empty only if there are none;
+    /// None if the connection is not open. Allocates nothing.
     pub fn output(&self, conn: ConnId) -> Option<&[u8]>
         ensures { IsOutput conn.number self.now.connections (option_copied result) }
     {
@@ -114,8 +113,8 @@ impl<H> Front<H> {
         }
     }
 
-    /// Takes note that so many bytes of those to be written on the connection were. The connection must be
-    /// open, and so many must be there. It takes no memory.
+    /// Notes that the first `count` bytes of the output of the connection were written. The connection must be open,
+    /// with at least as many bytes to write. Allocates nothing.
     pub fn taken(&mut self, conn: ConnId, count: usize)
         requires { HasOutput conn.number count self.old.connections }
         ensures change { IsChange conn.number self.old self.new (IsTaking count) }
@@ -130,8 +129,8 @@ impl<H> Front<H> {
         }
     }
 
-    /// Whether nothing that comes on the connection is read any more: its end came, or the last message,
-    /// or a fault, was answered. None where the connection is not open. It takes no memory.
+    /// Whether the connection reads no more input: its end came, or the last message, or a fault, was answered. None if
+    /// the connection is not open. Allocates nothing.
     pub fn closing(&self, conn: ConnId) -> Option<bool>
         ensures { result ≡ option_map (λ c. is_closing c.stage)
             (connection_numbered conn.number self.now.connections) }
@@ -147,13 +146,13 @@ impl<H> Front<H> {
 }
 
 impl<H: Handler> Front<H> {
-    /// Takes a piece of what comes on the connection, and performs the messages that are whole with it, in
-    /// order, at the moment, in seconds from 1970 on; their answers, and then the answer to a connection
-    /// fault, stand behind the bytes to be written. No other connection changes. The errors are those of
-    /// `PieceFault`. On a connection that is closing the piece is dropped.
+    /// Takes a piece of the input of the connection, and performs the messages that it completes, in order, at the
+    /// moment, in seconds from 1970 on; their answers, and then the answer to a connection fault, are appended to the
+    /// output. No other connection changes. The errors are those of `PieceFault`. On a connection that is closing the
+    /// piece is dropped.
     ///
-    /// It costs what the piece brings: of a body each byte is copied once, and of an answer only the head is
-    /// written. A head that is not whole is read again with each piece, at most 16,384 bytes of it.
+    /// The cost is that of the piece: each byte of a body is copied once, and of an answer only the head is written. An
+    /// incomplete head is parsed again with each piece, at most 16,384 bytes of it.
     pub fn piece(&mut self, conn: ConnId, moment: i64, piece: &[u8]) -> Result<(), PieceFault>
         ensures { IsPiece H.step conn.number moment piece.now self.old result self.new }
     {
@@ -168,8 +167,8 @@ impl<H: Handler> Front<H> {
 }
 
 impl<H: Settled> Front<H> {
-    /// Makes all that was performed durable; no connection changes. The error is the handler's, and the
-    /// answers that were written since the last settling that was Ok may then not leave.
+    /// Makes all that was performed durable; no connection changes. The error is the handler's, and the answers since
+    /// the last settling that was Ok may then not be sent.
     pub fn settle(&mut self) -> Result<(), SettleFault>
         ensures { IsSettling H.settled self.old result self.new }
     {
@@ -177,7 +176,7 @@ impl<H: Settled> Front<H> {
     }
 }
 
-/// The place of the connection of that number, among connections whose numbers rise.
+/// The position of the connection with that number, among connections whose numbers rise.
 fn place_of(connections: &[Connection], number: u64) -> Option<usize>
     requires { are_numbered connections.now ≡ true }
     ensures { IsPlaced number connections.now result }
@@ -188,7 +187,7 @@ fn place_of(connections: &[Connection], number: u64) -> Option<usize>
     }
 }
 
-/// Drops the connection at that place.
+/// Drops the connection at that position.
 fn drop_at(connections: &mut Vec<Connection>, at: usize)
     requires { at < vec_len connections.old }
     ensures { connections.new.items ≡ remove connections.old.items at }
@@ -196,7 +195,7 @@ fn drop_at(connections: &mut Vec<Connection>, at: usize)
     connections.remove(at);
 }
 
-/// Puts a connection behind the others, where there is room.
+/// Appends a connection; the capacity is reserved.
 fn push(connection: Connection, connections: &mut Vec<Connection>)
     requires { vec_len connections.old < vec_capacity connections.old }
     ensures { connections.new.items ≡ connections.old.items ++ connection ∷ [] }

@@ -5,31 +5,30 @@ ghost use Rattle.oai_front.specs.Heads as spec;
 use itoa::Buffer;
 use oai_http::{Endpoint, Status, put};
 
-/// What stands in the head of an answer.
+/// The contents of the head of an answer.
 #[derive(Clone, Copy)]
 pub struct AnswerHead {
-    /// What the target is for that was asked.
+    /// The endpoint of the request's target.
     pub endpoint: Option<Endpoint>,
     /// The status.
     pub status: Status,
-    /// After how many seconds to ask again, in a 503.
+    /// The seconds after which to retry, in a 503.
     pub seconds: Option<i64>,
-    /// How many lines of a deposit were done, in a 500 or a 503.
+    /// The number of lines of a deposit that were done, in a 500 or a 503.
     pub done: Option<u64>,
     /// Whether the connection is closed after the answer.
     pub last: bool,
-    /// How many bytes the body has.
+    /// The length of the body in bytes.
     pub size: usize,
 }
 
-/// Room enough for the head of any answer, in bytes.
+/// A capacity that is enough for the head of any answer, in bytes.
 pub const HEAD_ROOM: usize = 512;
 
-/// Room enough for a line of a head, in bytes.
+/// A capacity that is enough for a line of a head, in bytes.
 pub const LINE_ROOM: usize = 64;
 
-/// Writes the head of an answer, with the empty line behind it, into room that is there (RFC 9112,
-/// sections 4 and 5).
+/// Writes the head of an answer, with the empty line after it, into reserved space (RFC 9112, sections 4 and 5).
 #[tactic(auto, unfolding(crate::specs::Heads::answer_head))]
 pub(crate) fn write_head(head: &AnswerHead, out: &mut Vec<u8>)
     requires empty { out.old.items ≡ [] }
@@ -43,7 +42,7 @@ pub(crate) fn write_head(head: &AnswerHead, out: &mut Vec<u8>)
     put(b"\r\n", out);
 }
 
-/// Writes the line of the status (RFC 9112, section 4).
+/// Writes the status line (RFC 9112, section 4).
 #[tactic(auto, unfolding(crate::specs::Heads::plain, crate::specs::Heads::status_line))]
 fn write_status(status: Status, out: &mut Vec<u8>)
     requires { vec_len out.old + LINE_ROOM ≤ vec_capacity out.old }
@@ -59,7 +58,7 @@ fn write_status(status: Status, out: &mut Vec<u8>)
     put(b"\r\n", out);
 }
 
-/// Writes the fields that the status asks for.
+/// Writes the fields that the status requires.
 #[tactic(auto, unfolding(crate::specs::Heads::status_fields))]
 fn write_fields(head: &AnswerHead, out: &mut Vec<u8>)
     requires { vec_len out.old + 2 * LINE_ROOM ≤ vec_capacity out.old }
@@ -79,7 +78,7 @@ fn write_fields(head: &AnswerHead, out: &mut Vec<u8>)
     }
 }
 
-/// Writes the type of what a 200 has (RFC 9110, section 8.3).
+/// Writes the Content-Type of a 200 (RFC 9110, section 8.3).
 #[tactic(auto, unfolding(crate::specs::Heads::plain, crate::specs::Heads::type_field))]
 fn write_type(endpoint: Option<Endpoint>, out: &mut Vec<u8>)
     requires { vec_len out.old + LINE_ROOM ≤ vec_capacity out.old }
@@ -94,7 +93,7 @@ fn write_type(endpoint: Option<Endpoint>, out: &mut Vec<u8>)
     }
 }
 
-/// Writes which methods may be used, where another was (RFC 9110, section 10.2.1).
+/// Writes the allowed methods, in a 405 (RFC 9110, section 10.2.1).
 #[tactic(auto, unfolding(crate::specs::Heads::plain, crate::specs::Heads::allow_field))]
 fn write_allow(endpoint: Option<Endpoint>, out: &mut Vec<u8>)
     requires { vec_len out.old + LINE_ROOM ≤ vec_capacity out.old }
@@ -109,7 +108,7 @@ fn write_allow(endpoint: Option<Endpoint>, out: &mut Vec<u8>)
     }
 }
 
-/// Writes after how many seconds to ask again (RFC 9110, section 10.2.3).
+/// Writes the seconds after which to retry (RFC 9110, section 10.2.3).
 #[tactic(auto, unfolding(crate::specs::Heads::retry_field))]
 fn write_retry(seconds: Option<i64>, out: &mut Vec<u8>)
     requires { vec_len out.old + LINE_ROOM ≤ vec_capacity out.old }
@@ -126,7 +125,7 @@ fn write_retry(seconds: Option<i64>, out: &mut Vec<u8>)
     }
 }
 
-/// Writes how many lines of a deposit were done before it failed, where the answer has it.
+/// Writes how many lines of a deposit were done before it failed, if the answer says so.
 #[tactic(auto, unfolding(crate::specs::Heads::done_field))]
 fn write_done(endpoint: Option<Endpoint>, done: Option<u64>, out: &mut Vec<u8>)
     requires { vec_len out.old + LINE_ROOM ≤ vec_capacity out.old }
@@ -143,7 +142,7 @@ fn write_done(endpoint: Option<Endpoint>, done: Option<u64>, out: &mut Vec<u8>)
     }
 }
 
-/// Writes that the connection is closed after the answer, where it is (RFC 9110, section 7.6.1).
+/// Writes that the connection is closed after the answer, if it is (RFC 9110, section 7.6.1).
 #[tactic(auto, unfolding(crate::specs::Heads::plain, crate::specs::Heads::close_field))]
 fn write_close(last: bool, out: &mut Vec<u8>)
     requires { vec_len out.old + LINE_ROOM ≤ vec_capacity out.old }

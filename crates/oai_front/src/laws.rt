@@ -12,18 +12,17 @@ use crate::numbers::LAST_NUMBER;
 use crate::request_heads::{MAX_HEAD_BYTES, MAX_HEAD_FIELDS};
 use oai_http::Handler;
 
-/// The messages of bytes are these and no others, however many there are, and all that is known of their end
-/// is alike. A theorem, proved by an empty function.
+/// Bytes have one list of messages and no other, of any length, and all that is known of their end is alike. A theorem,
+/// proved by an empty function.
 pub fn split_law()
     ensures alike { (bytes : List ℕ) (messages others : List Message) (end other : End)
         → Stream bytes messages end → Stream bytes others other
         → (messages ≡ others) × AreAlike end other }
 {}
 
-/// It does not matter how bytes are cut into pieces: the messages that a piece completes, and those that
-/// the next one completes with what was left, are those of both together; once a connection is closed,
-/// nothing comes of what follows. What was performed before memory was refused is the beginning of what
-/// was completed. A theorem, proved by an empty function.
+/// It does not matter how bytes are cut into pieces: the messages that a piece completes, and those that the next one
+/// completes with what was left, are those of both together; once a connection is closed, what follows has no effect.
+/// What was performed before memory ran out is a prefix of what was completed. A theorem, proved by an empty function.
 pub fn cut_law()
     ensures joined { (first second rest : List ℕ) (messages others : List Message) (end : End)
         → Stream first messages (waits rest) → Stream (rest ++ second) others end
@@ -35,22 +34,21 @@ pub fn cut_law()
         → Stream bytes (messages ++ others) end }
 {}
 
-/// The calls of a front come one after the other, on any number of connections, mixed in any way; those that
-/// are refused change nothing, and are left out. The handler performs one message after the other; those of
-/// each connection are the messages of the bytes that came on it before its end, in order, each performed
-/// with the piece that brings its last byte, or, where memory was refused, with a later one; their answers,
-/// and the answer to a fault, are what is put behind its output, and what is taken is taken from the front.
-/// It holds of each connection that reads and on which nothing whole waits, and of each that is opened
-/// among the calls. A theorem, proved by an empty function.
+/// The calls of a front come one after the other, on any number of connections, interleaved in any way; those that are
+/// refused change nothing, and are left out. The handler performs one message after the other; those of each connection
+/// are the messages of the bytes that came on it before its end, in order, each performed with the piece that brings
+/// its last byte, or, if memory ran out, with a later one; their answers, and the answer to a fault, are appended to
+/// its output, and what is taken is taken from the start. It holds of each connection that reads and on which nothing
+/// complete waits, and of each that is opened among the calls. A theorem, proved by an empty function.
 pub fn run_law<H: Handler>()
     ensures served { (old new : State H) (calls : List FrontCall)
         → Comes H.step old calls new → AreServed H.step old new calls }
     ensures begun { IsUnfinished [] }
 {}
 
-/// What a client reads of an answer, by the grammar of `httparse` and whatever comes behind it: the status,
-/// one length, which is the body's, and whether the connection is closed. So it knows where the next answer
-/// begins. A theorem, proved by an empty function.
+/// A client reads of an answer, by the grammar of `httparse` and whatever follows, the status, one length, which is the
+/// body's, and whether the connection is closed. So it knows where the next answer begins. A theorem, proved by an
+/// empty function.
 pub fn head_law()
     ensures answers { (target : List ℕ) (last : Bool) (answer : Given) (others : List ℕ)
         → IsReadBack (answer_bytes target last answer ++ others) answer.status last answer.body others }

@@ -1,5 +1,5 @@
-//! Connections of HTTP/1.x (RFC 9112): bytes come in pieces, whole messages are performed in order, and
-//! their answers wait to be written.
+//! Connections of HTTP/1.x (RFC 9112): bytes arrive in pieces, complete messages are performed in order, and their
+//! answers wait to be written.
 #![tactic(auto)]
 
 mod connections;

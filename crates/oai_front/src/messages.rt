@@ -16,12 +16,12 @@ use oai_names::Sequence;
 use std::alloc::Global;
 use std::collections::VecDeque;
 
-/// What stands at the front of bytes that came.
+/// What the received bytes begin with.
 #[derive(Clone, Copy)]
 pub enum Next {
-    /// Nothing whole, apart from the head where it is there.
+    /// Nothing complete, except possibly the head.
     Unfinished(Option<Head>),
-    /// What is answered with that status, since no message can come of it.
+    /// A fault, which is answered with that status, since no message can follow.
     Faulty(Status),
     /// A message with that head.
     Message(Head),
@@ -30,19 +30,17 @@ pub enum Next {
 /// What is left of bytes after the messages that were performed.
 #[derive(Clone, Copy)]
 pub enum Left {
-    /// Behind so many bytes those of a message that is not whole, with its head where that is.
+    /// An incomplete message, after that many bytes, with its head if that is complete.
     Waiting(usize, Option<Head>),
     /// Nothing: the connection is closed.
     Nothing,
-    /// Behind so many bytes what could not be answered where memory runs out, with its head where that is
-    /// whole.
+    /// After that many bytes, what could not be answered for lack of memory, with its head if that is complete.
     Refused(usize, Option<Head>),
 }
 
-/// Performs the messages that stand at the front of the bytes, in order, up to the first after which the
-/// connection is closed, and puts their answers behind what waits to be written; then the answer to a
-/// connection fault. `head` is what is known of the first head. Each byte of a body is passed over, and
-/// each head read once.
+/// Performs the messages with which the bytes begin, in order, up to the first after which the connection is closed,
+/// and appends their answers to the output; then the answer to a connection fault. `head` is what is known of the first
+/// head. Each byte of a body is skipped, and each head parsed, once.
 pub(crate) fn perform_all<H: Handler>(
     alloc: Global,
     handler: &mut H,
@@ -85,7 +83,7 @@ pub(crate) fn perform_all<H: Handler>(
     }
 }
 
-/// What stands at the front of the bytes, of whose first head that is known.
+/// What the bytes begin with, if this is known of their first head.
 pub(crate) fn next_in(bytes: &[u8], known: Option<Head>) -> Next
     requires { IfSome known (IsHead bytes.now) }
     ensures { IsNext bytes.now result }
@@ -100,7 +98,7 @@ pub(crate) fn next_in(bytes: &[u8], known: Option<Head>) -> Next
     }
 }
 
-/// The message of that head, once its body is there.
+/// The message with that head, if its body is complete.
 fn if_whole(bytes: &[u8], head: Head) -> Next
     requires { IsHead bytes.now head }
     ensures { IsNext bytes.now result }
@@ -112,7 +110,7 @@ fn if_whole(bytes: &[u8], head: Head) -> Next
     }
 }
 
-/// What comes behind a head.
+/// The bytes after a head.
 fn behind_head<'b>(bytes: &'b [u8], head: &Head) -> &'b [u8]
     requires { IsHead bytes.now head.now }
     ensures { result.now ≡ drop head.now.start bytes.now }
@@ -120,7 +118,7 @@ fn behind_head<'b>(bytes: &'b [u8], head: &Head) -> &'b [u8]
     &bytes[head.start..]
 }
 
-/// What comes behind a message.
+/// The bytes after a message.
 fn after<'b>(bytes: &'b [u8], head: &Head) -> &'b [u8]
     requires head { IsHead bytes.now head.now }
     requires whole { head.now.size ≤ length (drop head.now.start bytes.now) }
@@ -144,7 +142,7 @@ fn exchange_of<'b>(bytes: &'b [u8], head: &Head) -> Exchange<'b>
     }
 }
 
-/// The bytes of a part of a head, where it is there.
+/// The bytes of a part of a head, if it is there.
 fn part_of(bytes: &[u8], span: Option<Span>) -> Option<&[u8]>
     requires { IfSome span (IsWithin (length bytes.now)) }
     ensures { option_copied result ≡ option_map (span_bytes bytes.now) span }

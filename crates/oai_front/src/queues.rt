@@ -16,9 +16,9 @@ use oai_names::Sequence;
 use std::alloc::{AllocError, Global};
 use std::collections::VecDeque;
 
-/// Performs a message with that head and puts its answer behind what waits to be written. Room for the answer's head, and
-/// for its places in the queue, is taken before the message is performed; the body is moved in as it is. The
-/// error is out of memory; nothing was performed then.
+/// Performs a message with that head and appends its answer to the output. Space for the answer's head, and in the
+/// queue, is reserved before the message is performed; the body is moved, not copied. The error is out of memory;
+/// nothing was performed then.
 pub(crate) fn perform<H: Handler>(
     alloc: Global,
     handler: &mut H,
@@ -42,8 +42,7 @@ pub(crate) fn perform<H: Handler>(
     Ok(())
 }
 
-/// Puts the answer to a connection fault behind what waits to be written. The error is out of memory;
-/// nothing was put then.
+/// Appends the answer to a connection fault to the output. The error is out of memory; nothing was appended then.
 #[tactic(auto, unfolding(crate::specs::Heads::fault_bytes))]
 pub(crate) fn put_fault(
     alloc: Global,
@@ -71,8 +70,8 @@ pub(crate) fn put_fault(
     Ok(())
 }
 
-/// Puts the answer to a message with that head, the answer's own head written into that buffer, behind what
-/// waits to be written, where there is room.
+/// Appends the answer to a message with that head to the output, which has the capacity; the answer's own head is
+/// written into that buffer.
 #[tactic(auto, unfolding(crate::specs::Heads::answer_bytes))]
 fn put_answer(head: &Head, answer: Answer, mut bytes: Vec<u8>, queue: &mut VecDeque<Sequence<u8>>)
     requires empty { bytes.items ≡ [] }
@@ -97,7 +96,7 @@ fn put_answer(head: &Head, answer: Answer, mut bytes: Vec<u8>, queue: &mut VecDe
     put(answer.body, queue);
 }
 
-/// Puts bytes behind what waits to be written, where there is room; nothing where there are none.
+/// Appends bytes to the output, which has the capacity; nothing if there are none.
 #[tactic(auto, using(crate::proofs::QueueLemmas::concat_push, crate::proofs::QueueLemmas::taken_push))]
 fn put(bytes: Sequence<u8>, queue: &mut VecDeque<Sequence<u8>>)
     requires places { deque_len queue.old + 1 ≤ deque_capacity queue.old }
@@ -114,7 +113,7 @@ fn put(bytes: Sequence<u8>, queue: &mut VecDeque<Sequence<u8>>)
     queue.push_back(bytes).unwrap();
 }
 
-/// What is left of the first buffer, of which so many bytes are taken.
+/// What is left of the first buffer after `taken` bytes.
 pub(crate) fn left_of(queue: &VecDeque<Sequence<u8>>, taken: usize) -> &[u8]
     requires filled { AreFilled queue.now.items }
     requires taken { IsTaken taken queue.now.items }
@@ -126,8 +125,7 @@ pub(crate) fn left_of(queue: &VecDeque<Sequence<u8>>, taken: usize) -> &[u8]
     }
 }
 
-/// Drops the first bytes of what waits to be written, and answers how many of the first buffer are taken
-/// then.
+/// Drops the first bytes of the output, and returns how many of the first buffer are taken then.
 pub(crate) fn drop_taken(queue: &mut VecDeque<Sequence<u8>>, taken: usize, count: usize) -> usize
     requires filled { AreFilled queue.old.items }
     requires taken { IsTaken taken queue.old.items }
@@ -152,7 +150,7 @@ pub(crate) fn drop_taken(queue: &mut VecDeque<Sequence<u8>>, taken: usize, count
     taken
 }
 
-/// How many bytes the first buffer has.
+/// The length of the first buffer.
 fn first_len(queue: &VecDeque<Sequence<u8>>) -> usize
     ensures { result ≡ spec.first_len queue.now.items }
 {

@@ -8,52 +8,51 @@ use httparse::spans::{EMPTY_HEADER_SPAN, HeaderSpan, RequestSpans, Span, parse_r
 use httparse::{Error, Status as Parsed};
 use oai_http::{Endpoint, Status, endpoint_of};
 
-/// The longest head, in bytes. Empty lines before it count.
+/// The maximum length of a head, in bytes. Empty lines before it count.
 pub const MAX_HEAD_BYTES: usize = 16_384;
 
-/// The most fields of a head.
+/// The maximum number of fields of a head.
 pub const MAX_HEAD_FIELDS: usize = 64;
 
-/// A head that is whole: where its parts are among the bytes that begin with it, and what comes behind
-/// it.
+/// A complete head: the positions of its parts, and the framing of what follows it.
 #[derive(Clone, Copy)]
 pub struct Head {
     /// The method.
     pub method: Span,
     /// The target.
     pub target: Span,
-    /// What the target is for.
+    /// The endpoint of the target.
     pub endpoint: Option<Endpoint>,
-    /// The value of the first field Content-Type, where there is one.
+    /// The value of the first field Content-Type, if there is one.
     pub content_type: Option<Span>,
-    /// How many bytes the head has; the body begins behind them.
+    /// The length of the head in bytes; the body begins after it.
     pub start: usize,
-    /// How many bytes the body has.
+    /// The length of the body in bytes.
     pub size: usize,
     /// Whether the connection is closed after the message.
     pub last: bool,
 }
 
-/// What stands at the front of bytes that came.
+/// What the received bytes begin with.
 #[derive(Clone, Copy)]
 pub enum HeadParse {
-    /// No head that is whole; one may come.
+    /// No complete head; one may come.
     Unknown,
-    /// What is answered with that status, since no message can come of it.
+    /// A fault, which is answered with that status, since no message can follow.
     Fault(Status),
     /// A head.
     Whole(Head),
 }
 
-/// What stands at the front of the bytes (RFC 9112, sections 2 and 3). Of a head that is not whole at most
-/// the first 16,384 bytes are read.
+/// What the bytes begin with (RFC 9112, sections 2 and 3). Of an incomplete head at most the first 16,384 bytes are
+/// read.
 pub(crate) fn read_head(bytes: &[u8]) -> HeadParse
     ensures { IsHeadParse bytes.now result }
 {
     read_within(bytes, MAX_HEAD_BYTES)
 }
 
-/// What stands at the front of the bytes, where the longest head has `most` bytes.
+/// What the bytes begin with, if a head has at most `most` bytes.
 fn read_within(bytes: &[u8], most: usize) -> HeadParse
     requires { most ≡ MAX_HEAD_BYTES }
     ensures { IsHeadParse bytes.now result }
@@ -70,7 +69,7 @@ fn read_within(bytes: &[u8], most: usize) -> HeadParse
     }
 }
 
-/// The first `most` bytes, or all where there are fewer.
+/// The first `most` bytes, or all if there are fewer.
 fn front_of(bytes: &[u8], most: usize) -> &[u8]
     ensures { result.now ≡ take most bytes.now }
 {
@@ -80,7 +79,7 @@ fn front_of(bytes: &[u8], most: usize) -> &[u8]
     &bytes[..most]
 }
 
-/// What bytes come to that do not begin with a head: a fault, once they are as many as one may have.
+/// The result for bytes that do not begin with a head: a fault, once they are as many as a head may have.
 fn unless_full(bytes: &[u8], most: usize) -> HeadParse
     ensures { result ≡ parse_unless_full most bytes.now }
 {
@@ -91,7 +90,7 @@ fn unless_full(bytes: &[u8], most: usize) -> HeadParse
     }
 }
 
-/// What is kept of a head that was read, or why it is refused.
+/// What is kept of a head that was parsed, or why it is refused.
 fn kept_of(bytes: &[u8], spans: &RequestSpans, headers: &[HeaderSpan]) -> HeadParse
     requires short { length bytes.now ≤ MAX_HEAD_BYTES }
     requires few { length headers.now ≤ MAX_HEAD_FIELDS }

@@ -1,19 +1,19 @@
 ghost use Rattle.std.specs.Prelude.{◌≡◌};
 ghost use Rattle.oai_front.specs.Stages as spec;
 
-/// How far a connection has come.
+/// The stage of a connection.
 #[derive(Clone, Copy, PartialEq, Eq)]
 pub enum Stage {
     /// It reads.
     Reading,
-    /// Its end came; what came before may wait to be performed.
+    /// Its end came; earlier messages may wait to be performed.
     Ended,
     /// The last message, or a fault, was answered.
     Closed,
 }
 
 impl Stage {
-    /// Whether nothing that comes is read any more.
+    /// Whether the connection reads no more input.
     pub(crate) fn is_closing(self) -> bool
         ensures { result ≡ spec.is_closing self }
     {
@@ -24,7 +24,7 @@ impl Stage {
         }
     }
 
-    /// How far it is once no more bytes come.
+    /// The stage once no more bytes come.
     pub(crate) fn ended(self) -> Stage
         ensures { result ≡ spec.stage_ended self }
     {

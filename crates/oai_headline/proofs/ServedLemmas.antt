@@ -8,7 +8,7 @@ use Rattle.oai_host.specs.Hosts.{AreAloneUnlessFailed, AreExchanged, HostState, 
 use Rattle.oai_http.specs.declared.exchanges.Answer.{Answer}
 use Rattle.oai_http.specs.declared.exchanges.Call.{Call}
 use Rattle.oai_headline.specs.Served.{AreServedOnPages}
-use Rattle.oai_cli.specs.Begun.{IsBegunOn}
+use Rattle.oai_startup.specs.Begun.{IsBegunOn}
 
 -- that is true is true
 is_so : (b : Bool) → IsTrue b → b ≡ true

@@ -1,4 +1,5 @@
--- A list that is followed by exchanges, from answer to answer, by the tokens that these print. OAI-PMH 2.0, sections 3.1.2.2 and 3.5.
+-- A list that is followed by exchanges, from answer to answer, by the tokens that these print. OAI-PMH 2.0, sections
+-- 3.1.2.2 and 3.5.
 use Rattle.std.specs.Prelude.{◌≡◌, ◌<◌, ℕ, int_lt, true, List, [], ◌∷◌, length, None, Some}
 use Rattle.std.specs.List.{AllZip}
 use Rattle.oai_names.specs.declared.list_verbs.ListVerb.{ListVerb}
@@ -33,9 +34,9 @@ pub record IsRequest (granularity : Granularity) (call : Call) (request : AskOrE
   pub asked : task_of call ≡ asking arguments
   pub read : request_of granularity (decoded_pairs arguments) ≡ request
 
--- the answer prints the token: its body is the bytes of a document in which a part of a list offers it, with its expirationDate
--- (section 3.5). Whatever the document is, the bytes show no other token; so the document need only be one of which they show what it
--- answers, and the date one of the years 0000 to 9999
+-- the answer prints the token: its body is the bytes of a document in which a part of a list offers it, with its
+-- expirationDate (section 3.5). Whatever the document is, the bytes show no other token; so the document need only be
+-- one whose bytes show what it answers, and the date one of the years 0000 to 9999
 pub record IsPrinted (answer : Answer) (offer : TokenOffer) : Type 0 where
   pub its : Document
   pub page : Page
@@ -47,20 +48,20 @@ pub record IsPrinted (answer : Answer) (offer : TokenOffer) : Type 0 where
 
 -- ---- a chain
 
--- the second visit asks, by the verb, with the token that the answer to the first prints, and before its expirationDate
+-- the second visit comes, by the verb, with the token that the answer to the first prints, before its expirationDate
 pub record IsNextVisit (config : Config) (verb : ListVerb) (before after : Visit) : Type 0 where
   pub offer : TokenOffer
   pub printed : IsPrinted before.answer offer
   pub asked : IsRequest config.granularity after.call (asks (ask.Resume verb offer.token))
   pub unexpired : int_lt (found_by after).clock offer.expires ≡ true
 
--- each asks with the token of the one before it
+-- each comes with the token of the one before it
 abbrev pub AreNextVisits : Config → ListVerb → Visit → List Visit → Type 0
 AreNextVisits config verb before [] = Unit {0}
 AreNextVisits config verb before (next ∷ others) = IsNextVisit config verb before next × AreNextVisits config verb next others
 
--- a chain among visits: the first asks for a list which is too long for one answer, and is not told to come again later (section 3.1.2.2);
--- and the others follow it by the tokens, whatever else comes between
+-- a chain among visits: the first requests a list that is too long for one answer, and is not answered with a time to
+-- wait (section 3.1.2.2); and the others follow it by the tokens, whatever else comes between
 pub record IsFollowing (config : Config) (all : List Visit) (list_request : ListRequest) (first : Visit) (others : List Visit) : Type 0 where
   pub among : IsPart (first ∷ others) all
   pub verb : is_of_records list_request.verb ≡ true
@@ -70,9 +71,9 @@ pub record IsFollowing (config : Config) (all : List Visit) (list_request : List
   pub answered : first.answer.seconds ≡ None
   pub next : AreNextVisits config list_request.verb first others
 
--- ---- what it comes to
+-- ---- what follows
 
--- the visit is a request, is one step of the machine, and is answered its outcome, written
+-- the visit is a request, is one step of the machine, and is answered with its outcome, written
 pub record IsStepOf (config : Config) (visit : Visit) (step : Exchange) : Type 0 where
   pub arguments : List ℕ
   pub asked : task_of visit.call ≡ asking arguments
@@ -80,14 +81,14 @@ pub record IsStepOf (config : Config) (visit : Visit) (step : Exchange) : Type 0
   pub found : step.found ≡ found_by visit
   pub written : visit.answer ≡ answer_of (outcome_output config.granularity step.outcome)
 
--- the answer is a document that tells the page, by the verb and in the format
+-- the answer is a document of the page, by the verb and in the format
 pub record IsPageOf (verb : ListVerb) (format : Format) (visit : Visit) (page : Page) : Type 0 where
   pub its : Document
   pub written : visit.answer ≡ answered_with (document its)
   pub told : its.answer ≡ answer_by_verb verb format page
 
--- each visit is a step of the machine; each is answered a page; and the pages, joined, begin the selection at the first of them, and are all of
--- it once a page has the empty token, each record once, in order
+-- each visit is a step of the machine; each is answered with a page; and the pages, joined, are a prefix of the
+-- selection at the first of them, and all of it once a page has the empty token, each record once, in order
 pub record AreReached (config : Config) (list_request : ListRequest) (first : Visit) (others : List Visit) : Type 0 where
   pub steps : List Exchange
   pub each : AllZip (IsStepOf config) (first ∷ others) steps

@@ -1,5 +1,5 @@
--- Harvests in a client's words: what it asks, what it sees of the answers, and what it keeps of the records that it sees. OAI-PMH 2.0,
--- sections 2.5, 2.7.1, 3.2, 3.5 and 4.5.
+-- Harvests, as a client sees them: what it asks, what it sees in the answers, and what it keeps of the records that it
+-- sees. OAI-PMH 2.0, sections 2.5, 2.7.1, 3.2, 3.5 and 4.5.
 use Rattle.std.specs.Prelude.{◌≡◌, ◌↔◌, ℕ, ℤ, int_lt, Bool, true, false, if◌then◌else◌, List, [], ◌∷◌, map, take, Option, None, Some}
 use Rattle.std.specs.List.{AllByRecursion, Contains, flat_map, list_any}
 use Rattle.std.specs.Str.{bytes_eq}
@@ -28,8 +28,8 @@ use Rattle.oai_headline.specs.Visits.{Visit}
 
 -- ---- what a client sees
 
--- the client sees that in the answer: its body is the bytes of a document that shows it. Whatever the document is, the bytes show nothing
--- else; so it need only be one of which they show what it answers
+-- the client sees that in the answer: its body is the bytes of a document that shows it. Whatever the document is, the
+-- bytes show nothing else; so it need only be one whose bytes show what it answers
 pub record IsSeen (answer : Answer) (seen : SeenDocument) : Type 0 where
   pub its : Document
   pub written : answer ≡ answered_with (document its)
@@ -44,7 +44,7 @@ pub record SeenVisit : Type 0 where
 abbrev pub IsSeenVisit : SeenVisit → Type 0
 IsSeenVisit visited = IsSeen visited.visit.answer visited.seen
 
--- the records that are seen, of an answer that lists some
+-- the records that are seen in an answer, if it lists some
 abbrev pub records_seen : SeenAnswer → List SeenRecord
 records_seen (seen_error code) = []
 records_seen (seen_identity identity) = []
@@ -54,7 +54,7 @@ records_seen (seen_record its) = []
 records_seen (seen_headers headers token) = []
 records_seen (seen_records records token) = records
 
--- nothing remains of the list (section 3.5): it has no token, or the empty one
+-- no record of the list remains (section 3.5): it has no token, or the empty one
 abbrev pub is_list_end : SeenToken → Bool
 is_list_end no_token = true
 is_list_end (seen_token token expires size cursor) = false
@@ -71,7 +71,7 @@ is_none_matching NoRecordsMatch = true
 is_none_matching NoMetadataFormats = false
 is_none_matching NoSetHierarchy = false
 
--- nothing more is to be asked for: no record matches, or records are listed of which nothing remains
+-- the harvest is over: no record matches, or records are listed and none remains
 abbrev pub is_harvest_end : SeenAnswer → Bool
 is_harvest_end (seen_error code) = is_none_matching code
 is_harvest_end (seen_identity identity) = false
@@ -83,7 +83,7 @@ is_harvest_end (seen_records records token) = is_list_end token
 
 -- ---- a harvest
 
--- a request for records, and those that ask with the tokens of its list
+-- a request for records, and those that follow with the tokens of its list
 pub record ClientHarvest : Type 0 where
   pub first : SeenVisit
   pub others : List SeenVisit
@@ -96,8 +96,8 @@ abbrev pub last_visit : SeenVisit → List SeenVisit → SeenVisit
 last_visit visited [] = visited
 last_visit visited (next ∷ others) = last_visit next others
 
--- the second visit asks with the token that is seen in the answer to the first; and its own answer has a responseDate before the
--- expirationDate that is seen there. Both are dates of the years 0000 to 9999
+-- the second visit comes with the token that is seen in the answer to the first; and its own answer has a responseDate
+-- before the expirationDate that is seen there. Both are dates of the years 0000 to 9999
 pub record IsNextSeen (config : Config) (before after : SeenVisit) : Type 0 where
   pub records : List SeenRecord
   pub token : List ℕ
@@ -111,13 +111,13 @@ pub record IsNextSeen (config : Config) (before after : SeenVisit) : Type 0 wher
   pub unexpired : int_lt date expires ≡ true
   pub writable : IsWritable date × IsWritable expires
 
--- each asks with the token of the one before it
+-- each comes with the token of the one before it
 abbrev pub AreNextSeen : Config → SeenVisit → List SeenVisit → Type 0
 AreNextSeen config before [] = Unit {0}
 AreNextSeen config before (next ∷ others) = IsNextSeen config before next × AreNextSeen config next others
 
--- a harvest among visits, whatever else comes between: the first asks for all records in the metadataPrefix, from that date on where one is
--- given; the others follow its list by the tokens; and after the last answer nothing more is to be asked for
+-- a harvest among visits, whatever else comes between: the first requests all records in the metadataPrefix, from that
+-- date on if one is given; the others follow its list by the tokens; and with the last answer the harvest is over
 pub record IsClientHarvest (config : Config) (all : List Visit) (prefix : List ℕ) (from : Option (List ℕ)) (harvest : ClientHarvest) : Type 0 where
   pub among : IsPart (map (λ (visited : SeenVisit). visited.visit) (visits_of harvest)) all
   pub seen : AllByRecursion IsSeenVisit (visits_of harvest)
@@ -130,23 +130,23 @@ abbrev pub IsSomeClientHarvest : Config → List Visit → List ℕ → Option (
 IsSomeClientHarvest config all prefix from some =
     (harvest : ClientHarvest) × (map (λ (visited : SeenVisit). visited.visit) (visits_of harvest) ≡ some) × IsClientHarvest config all prefix from harvest
 
--- ---- harvests, one after the other
+-- ---- successive harvests
 
 -- the date as the repository writes datestamps (section 3.3): its first ten bytes, which are the day, or all of it
 abbrev pub datestamp_in : Granularity → List ℕ → List ℕ
 datestamp_in Day date = take 10 date
 datestamp_in Second date = date
 
--- the first of the harvests begins with the records of `from`, and each other one with those of the responseDate that is seen in the first
--- answer of the one before it
+-- the first of the harvests begins with the records of `from`, and each other one with those of the responseDate that
+-- is seen in the first answer of the one before it
 abbrev pub AreClientHarvests : Config → List Visit → List ℕ → Option (List ℕ) → List ClientHarvest → Type 0
 AreClientHarvests config all prefix from [] = Unit {0}
 AreClientHarvests config all prefix from (harvest ∷ harvests) =
     IsClientHarvest config all prefix from harvest
     × AreClientHarvests config all prefix (Some (datestamp_in config.granularity harvest.first.seen.date)) harvests
 
--- a harvest of all records in the metadataPrefix, and others after it, each of which begins later than the one before it and harvests from the
--- responseDate of that one's first answer on
+-- a harvest of all records in the metadataPrefix, and others after it, each of which begins later than the one before
+-- it and harvests from the responseDate of that one's first answer on
 pub record AreSuccessiveByClient (config : Config) (all : List Visit) (prefix : List ℕ) (first : ClientHarvest) (others : List ClientHarvest) : Type 0 where
   pub begun : IsPart (map (λ (harvest : ClientHarvest). harvest.first.visit) (first ∷ others)) all
   pub harvests : AreClientHarvests config all prefix None (first ∷ others)
@@ -165,7 +165,7 @@ records_of harvest = flat_map (λ (visited : SeenVisit). records_seen visited.se
 abbrev pub is_record_of : List ℕ → SeenRecord → Bool
 is_record_of identifier seen = bytes_eq seen.header.identifier identifier
 
--- of records that came one after the other, the last of each identifier
+-- of records, one after the other, the last of each identifier
 abbrev pub last_of_each : List SeenRecord → List SeenRecord
 last_of_each [] = []
 last_of_each (seen ∷ records) =
@@ -182,7 +182,7 @@ pub record IsRecordIn (granularity : Granularity) (format : Format) (prefix : Li
   pub disseminated : has_record prefix item.formats ≡ true
   pub shown : record_seen granularity format item ≡ seen
 
--- the copy has just the records that the repository has in the metadataPrefix in that state
+-- the copy has exactly the records that the repository has in the metadataPrefix in that state
 pub record IsWholeClientCopy (config : Config) (prefix : List ℕ) (state : RepoState) (copy : List SeenRecord) : Type 0 where
   pub format : Format
   pub known : format_named prefix config.formats ≡ Some format

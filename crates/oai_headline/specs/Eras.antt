@@ -1,5 +1,5 @@
--- The exchanges with a repository whose open lists are all ended now and then, as a checkpoint ends them. OAI-PMH 2.0, sections 2.7.1 and 3.5; that
--- lists are ended before they expire is this repository's own.
+-- The exchanges with a repository all of whose open lists are ended from time to time, as a checkpoint ends them.
+-- OAI-PMH 2.0, sections 2.7.1 and 3.5; that lists are ended before they expire is this repository's own.
 use Rattle.std.specs.Prelude.{◌≡◌, ◌≤◌, ℕ, List, [], ◌∷◌}
 use Rattle.std.specs.List.{flat_map}
 use Rattle.oai_lists.specs.declared.lists.TheConstants.{LAST_NUMBER}
@@ -13,13 +13,14 @@ use Rattle.oai_http.specs.declared.exchanges.Call.{Call}
 use Rattle.oai_headline.specs.Throughout.{AreTrueFrom, FollowLists, calls_done, left_by, visits_given, whole_visits}
 use Rattle.oai_headline.specs.Visits.{Visit, steps_of}
 
--- an era begins as all open lists end, and the number of the next one is raised by so many; what is asked in it, and what is answered
+-- an era, what lies between two checkpoints: it begins when all open lists end, and the number of the next one is
+-- raised by that much; then what is asked in it, and the answers
 pub record VisitedEra : Type 0 where
   pub raise : ℕ
   pub calls : List Call
   pub answers : List Answer
 
--- the state in which it begins, behind that one
+-- the state in which it begins, after that one
 abbrev pub era_begins : RepoState → VisitedEra → RepoState
 era_begins state era = ended era.raise state
 
@@ -32,7 +33,7 @@ abbrev pub eras_leave : Config → RepoState → List VisitedEra → RepoState
 eras_leave config state [] = state
 eras_leave config state (era ∷ eras) = eras_leave config (era_leaves config state era) eras
 
--- the steps of the machine that come of the visits without a fault, for each era
+-- the steps of the machine that the visits without a fault make, for each era
 abbrev pub era_steps : Config → RepoState → VisitedEra → List Exchange
 era_steps config state era = flat_map (steps_of config) (whole_visits (visits_given config (era_begins state era) era.calls era.answers))
 
@@ -47,7 +48,7 @@ HaveNumbersIn config state (era ∷ eras) = ((era_begins state era).open_lists.n
 
 -- ---- the theorem
 
--- in each era the answers are true, from the state on that the one before it left, once all lists ended
+-- in each era the answers are true, from the state on that the one before it left, after all lists ended
 abbrev pub AreTrueEach : Config → RepoState → List VisitedEra → Type 0
 AreTrueEach config state [] = Unit {0}
 AreTrueEach config state (era ∷ eras) =
@@ -70,6 +71,6 @@ pub record FollowListsOver (config : Config) (eras : List VisitedEra) : Type 0 w
   pub each : FollowListsEach config (empty_state config) eras
   pub refused : AreEnded (steps_within config (empty_state config) eras)
 
--- harvests, of which each is made within an era, miss nothing
+-- harvests, each of which is made within an era, miss nothing
 abbrev pub MissNothingOver : Config → List VisitedEra → Type 0
 MissNothingOver config eras = MissNothingWithin config (steps_within config (empty_state config) eras)

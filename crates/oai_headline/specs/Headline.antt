@@ -1,5 +1,5 @@
--- What the laws of a host ask for, and what is true of harvests of its repositories. OAI-PMH 2.0, sections 2.7 and 3.5; that many repositories are
--- behind one door is this repository's own.
+-- What the laws of a host require, and what holds of harvests of its repositories. OAI-PMH 2.0, sections 2.7 and 3.5;
+-- many repositories behind one interface are this repository's own.
 use Rattle.std.specs.Prelude.{◌≡◌, ℕ, Bool, List, [], ◌∷◌, map}
 use Rattle.std.specs.List.{All, flat_map}
 use Rattle.oai_item.specs.declared.deleted_record.DeletedRecord.TheVariants.{Persistent}
@@ -17,7 +17,7 @@ use Rattle.oai_headline.specs.Visits.{Visit, steps_of, visits}
 
 -- ---- the premises
 
--- each repository is configured by the rules
+-- each repository's configuration satisfies the rules
 pub record HasRules (entry : NamedConfig) : Type 0 where
   pub rules : IsConfig entry.config
   pub formats : AreRepositoryFormats entry.config.formats
@@ -25,25 +25,27 @@ pub record HasRules (entry : NamedConfig) : Type 0 where
 abbrev pub HaveRules : HostConfig → Type 0
 HaveRules config = All HasRules config.repositories
 
--- a host as it is made of the configuration over a store, which is that honest: each of its repositories is as it begins
+-- a host as it is made of the configuration over a store, which is that honest: each of its repositories is in its
+-- initial state
 pub record IsMadeOf (config : HostConfig) (honest : Bool) (host : HostState) : Type 0 where
   pub begun : host.repositories ≡ map begun config.repositories
   pub honesty : host.honest ≡ honest
 
--- ---- the exchanges with a repository, as they are if there is nothing but it
+-- ---- the exchanges with a repository, as if it were alone
 
 abbrev pub own_visits : NamedConfig → List Call → List Visit
 own_visits entry calls = visits entry.config (empty_state entry.config) (own_calls entry.name calls)
 
--- the steps that come of them
+-- the steps that they make
 abbrev pub own_steps : NamedConfig → List Call → List Exchange
 own_steps entry calls = flat_map (steps_of entry.config) (own_visits entry calls)
 
 -- ---- harvests
 
--- harvests by these steps of a repository miss nothing, where it keeps deleted records (sections 2.5.1 and 2.7.1): a new copy that caught up with
--- harvests of it, the first of all records in a metadataPrefix, and each other one from the datestamp on at which the one before it began, holds
--- just the items that had a record in that metadataPrefix when the last one began
+-- harvests by these steps of a repository miss nothing, if it keeps deleted records (sections 2.5.1 and 2.7.1): a new
+-- copy, updated with harvests of it, the first of all records in a metadataPrefix, and each other one from the
+-- datestamp on at which the one before it began, holds exactly the items that had a record in that metadataPrefix when
+-- the last one began
 abbrev pub MissNothing : Config → List Exchange → Type 0
 MissNothing config steps =
     (prefix : List ℕ) (first : Harvest) (others : List Harvest)

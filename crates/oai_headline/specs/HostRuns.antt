@@ -1,4 +1,5 @@
--- What comes of the calls of a front, on any number of connections, where a host performs the messages. This repository's own.
+-- The effect of the calls of a front, on any number of connections, if a host performs the messages. This repository's
+-- own.
 use Rattle.std.specs.Prelude.{◌≡◌, ◌≤◌, List, map}
 use Rattle.oai_host.specs.Answers.{AreCounted, AreHonest}
 use Rattle.oai_host.specs.Exchanged.{IsHandled}
@@ -19,9 +20,9 @@ calls_in served = map call_in served
 abbrev pub answers_in : List Served → List Answer
 answers_in served = map (λ s. s.done.answer) served
 
--- calls came, and messages were performed as `AreServed` says. At each repository what is answered is a run of its own exchanges, whatever came
--- between them, on the same connection or on others; where none of its own failed, it is what that repository alone answers. A fault is reported only where it
--- has its cause
+-- calls came, and messages were performed as `AreServed` says. At each repository the answers are a run of its own
+-- exchanges, whatever came between them, on the same connection or on others; if none of its own failed, they are what
+-- that repository alone answers. A fault is reported only if it has its cause
 pub record AreServedByHost (old new : State HostState) (calls : List FrontCall) : Type 0 where
   pub served : AreServed IsHandled old new calls
   pub answered : AreAnswered (calls_in (all_served served.each)) (answers_in (all_served served.each)) old.handler new.handler

@@ -1,5 +1,5 @@
--- The exchanges with a repository that stands alone, and the steps of its machine that come of them. OAI-PMH 2.0, section 3.1; deposits are this
--- repository's own.
+-- The exchanges with a repository alone, and the steps of its machine that they make. OAI-PMH 2.0, section 3.1;
+-- deposits are this repository's own.
 use Rattle.std.specs.Prelude.{◌≡◌, ℕ, ℤ, List, [], ◌∷◌, map}
 use Rattle.std.specs.List.{flat_map}
 use Rattle.oai_time.specs.declared.granularity.Granularity.{Granularity}
@@ -17,11 +17,11 @@ use Rattle.oai_host.specs.Tasks.{Task, asking, depositing, refusing, task_of}
 
 -- ---- the commands that exchanges carry
 
--- what is handed in is a command, at that moment
+-- an input is a command, at that moment
 abbrev pub timed_input : Granularity → ℤ → RepoInput → Timed
 timed_input granularity moment input = record { moment = moment; command = command_of granularity input }
 
--- none where nothing is asked; one for a request; one for each line of a deposit
+-- none if nothing is asked; one for a request; one for each line of a deposit
 abbrev pub commands_of : Granularity → ℤ → Task → List Timed
 commands_of granularity moment (refusing status) = []
 commands_of granularity moment (asking arguments) = timed_input granularity moment (query arguments) ∷ []
@@ -37,7 +37,7 @@ commands_in granularity calls = flat_map (commands_by granularity) calls
 
 -- ---- visits
 
--- an exchange with the repository: what is asked, the state that it comes upon, and what is answered
+-- an exchange with the repository: what is asked, the state before it, and the answer
 pub record Visit : Type 0 where
   pub call : Call
   pub before : RepoState
@@ -66,8 +66,8 @@ visits config state (call ∷ calls) = visit_in config state call ∷ visits con
 abbrev pub lines_written : Granularity → List Exchange → List ℕ
 lines_written granularity steps = flat_map (λ (step : Exchange). with_end (outcome_output granularity step.outcome)) steps
 
--- what is answered is what came of the steps: a status where nothing is asked; of a request, which is one step, a document or that it is to
--- come again later; of a deposit, which is a step for each line, a line for each
+-- the answer is what the steps made: a status if nothing is asked; for a request, which is one step, a document or a
+-- time to wait; for a deposit, which is a step for each line, a line for each
 abbrev pub IsWritten : Granularity → Task → List Exchange → Answer → Type 0
 IsWritten granularity (refusing status) steps answer = (steps ≡ []) × (answer ≡ answered status)
 IsWritten granularity (asking arguments) steps answer =
@@ -79,6 +79,6 @@ IsWritten granularity (depositing lines) steps answer =
     (map (λ (step : Exchange). step.command) steps ≡ map (λ (text : List ℕ). command_of granularity (line (line_of text))) lines)
     × (answer ≡ answered_with (lines_written granularity steps))
 
--- so it is of the visit
+-- the same, of the visit
 abbrev pub IsWrittenVisit : Config → Visit → Type 0
 IsWrittenVisit config visit = IsWritten config.granularity (task_of visit.call) (steps_of config visit) visit.answer

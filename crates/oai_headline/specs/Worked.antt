@@ -1,5 +1,5 @@
--- A worked run of a host of two repositories, as exchanges. It shows that what the theorem of a host asks for can be met. OAI-PMH 2.0,
--- sections 2.7.1, 3.1.2.2 and 3.5; deposits are this repository's own.
+-- A worked run of a host of two repositories, as exchanges. It shows that the premises of the theorem of a host can be
+-- met. OAI-PMH 2.0, sections 2.7.1, 3.1.2.2 and 3.5; deposits are this repository's own.
 use Rattle.std.specs.Prelude.{◌≡◌, ◌+◌, ℕ, pos, true, false, List, [], ◌∷◌, ◌++◌, length, codes, None, Some}
 use Rattle.std.specs.List.{AllZip}
 use Rattle.oai_names.specs.declared.list_verbs.ListVerb.TheVariants as list
@@ -33,7 +33,7 @@ worked_host = record { cache = 64; repositories = first_entry ∷ second_entry �
 
 -- ---- the exchanges
 
--- so many seconds after 2024-01-01T00:00:00Z
+-- that many seconds after 2024-01-01T00:00:00Z
 abbrev pub get : ℕ → List ℕ → Call
 get seconds target = record { moment = pos (1_704_067_200 + seconds); method = codes "GET"; target = target; content_type = None; body = [] }
 
@@ -47,12 +47,13 @@ deposit_line identifier = codes "{\"deposit\":\"" ++ identifier ++ codes "\",\"s
 abbrev pub delete_line : List ℕ → List ℕ
 delete_line identifier = codes "{\"delete\":\"" ++ identifier ++ codes "\"}\n"
 
--- what is deposited in both repositories and asked of them, by turns. The first gets five items. A list of its headers is opened and never
--- followed; it ends a minute later, and at that second the list of its records is opened that is followed over three pages. Before the
--- second page an item is deposited and one is deleted, and a list of headers is asked for at an earlier moment, while the table is full;
--- tokens are asked for that have expired, or by the wrong verb; before the last page an item is deposited anew. The second repository, whose
--- moments are earlier ones, gets three items, and three harvests are made of it: one over two pages, between which an item is deleted; one
--- of what has been deleted and deposited since that began; and one of nothing
+-- what is deposited in both repositories and asked of them, by turns. The first gets five items. A list of its headers
+-- is opened and never followed; it ends a minute later, and at that second the list of its records is opened that is
+-- followed over three pages. Before the second page an item is deposited and one is deleted, and a list of headers is
+-- requested at an earlier moment, while the table is full; tokens come that have expired, or with the wrong verb;
+-- before the last page an item is deposited anew. The second repository, whose moments are earlier ones, gets three
+-- items, and three harvests are made of it: one over two pages, between which an item is deleted; one of what has been
+-- deleted and deposited since that began; and one of nothing
 abbrev pub worked_calls : List Call
 worked_calls =
     post 0 (codes "/deposit/a") (deposit_line (codes "oai:a:1") ++ deposit_line (codes "oai:a:2"))
@@ -80,15 +81,16 @@ worked_calls =
 
 -- ---- the first repository
 
--- the answer is a document that tells the page
+-- the answer is a document of the page
 pub record IsTold (visit : Visit) (page : Page) : Type 0 where
   pub its : Document
   pub written : visit.answer ≡ answered_with (document its)
   pub told : page_in its.answer ≡ Some page
 
--- a list is followed over three pages by the tokens that they print, and these give the five records that there were at its first request,
--- in order. Between the first and the second another list is asked for, while as many are open as may be, and the client is to come again
--- later (section 3.1.2.2), once one has ended. By then an item was deposited and one deleted
+-- a list is followed over three pages by the tokens that they print, and these give the five records that there were at
+-- its first request, in order. Between the first and the second another list is requested, while as many are open as
+-- may be, and the client has to wait (section 3.1.2.2) until one has ended. By then an item was deposited and one
+-- deleted
 pub record IsWorkedList (first waiting second last : Visit) : Type 0 where
   pub following : IsFollowing worked_config (own_visits first_entry worked_calls) all_records first (second ∷ last ∷ [])
   pub pages : List Page
@@ -106,7 +108,7 @@ pub record IsWorkedList (first waiting second last : Visit) : Type 0 where
 
 -- ---- the second repository
 
--- the three harvests of its steps, the items that each got, and what a copy holds that caught up with them
+-- the three harvests of its steps, the items that each got, and the copy that they update
 pub record AreMadeBeside (first second third : Harvest) : Type 0 where
   pub successive : AreSuccessive archive_b (own_steps second_entry worked_calls) prefix first (second ∷ third ∷ [])
   pub by_pages : told (harvested first) ≡ (codes "oai:b:1", true) ∷ (codes "oai:b:2", true) ∷ (codes "oai:b:3", true) ∷ []

@@ -1,5 +1,5 @@
--- A worked run of a repository in which a page and a deposit fail. It shows that what the theorem of a host says of failures speaks of something.
--- OAI-PMH 2.0, sections 3.1.2.2 and 3.5; deposits are this repository's own.
+-- A worked run of a repository in which a page and a deposit fail. It shows that what the theorem of a host says about
+-- failures is not vacuous. OAI-PMH 2.0, sections 3.1.2.2 and 3.5; deposits are this repository's own.
 use Rattle.std.specs.Prelude.{◌≡◌, ◌++◌, List, [], ◌∷◌, length, filter, is_some, codes, Option, None, Some}
 use Rattle.std.specs.List.{AllByRecursion}
 use Rattle.oai_item.specs.declared.faults.Fault.TheVariants.{Device, NoMemory}
@@ -15,7 +15,7 @@ use Rattle.oai_headline.specs.Throughout.{IsTrueVisit, left_by, calls_done, call
 use Rattle.oai_headline.specs.Visits.{Visit}
 use Rattle.oai_headline.specs.Worked.{delete_line, deposit_line, get, post, worked_calls}
 
--- what an exchange is answered: what fails, as it is said; and else the machine's answer
+-- the answer to an exchange: the given one if it fails, otherwise the machine's
 abbrev pub answer_to : Config → RepoState → Call → Option Answer → Answer
 answer_to config state call None = (exchanged_alone config state call).0
 answer_to config state call (Some answer) = answer
@@ -28,8 +28,9 @@ answers_with config state (call ∷ calls) (failure ∷ failures) =
     let answer = answer_to config state call failure in
     answer ∷ answers_with config (left_by config state (calls_done_by call answer)) calls failures
 
--- the exchanges of the first repository of the worked run, with two failures among them. Of a deposit of two lines the first one is done, and then
--- a device fails; and the second page of the list is refused for want of memory, and asked for again a second later
+-- the exchanges of the first repository of the worked run, with two failures among them. Of a deposit of two lines the
+-- first one is done, and then a device fails; and the second page of the list runs out of memory, and is requested
+-- again a second later
 abbrev pub failing_calls : List Call
 failing_calls =
     post 0 (codes "/deposit/a") (deposit_line (codes "oai:a:1") ++ deposit_line (codes "oai:a:2"))
@@ -72,8 +73,8 @@ failing_answers = answers_with worked_config (empty_state worked_config) failing
 abbrev pub failing_visits : List Visit
 failing_visits = visits_given worked_config (empty_state worked_config) failing_calls failing_answers
 
--- each exchange is given what the theorem says; two have failed; what was performed is what the worked run without failures performs; and a list is
--- followed over three pages by the visits that did not fail
+-- each exchange is given what the theorem says; two have failed; what was performed is what the worked run without
+-- failures performs; and a list is followed over three pages by the visits that did not fail
 pub record IsWorkedWithFailures (first second last : Visit) : Type 0 where
   pub given : AllByRecursion (IsTrueVisit worked_config) failing_visits
   pub two : length (filter (λ (failure : Option Answer). is_some failure) failures) ≡ 2

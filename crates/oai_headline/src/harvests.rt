@@ -1,4 +1,4 @@
-//! Harvests in a client's words.
+//! Harvests, as a client sees them.
 ghost use Rattle.std.specs.Prelude.{◌≡◌, ◌∷◌, ℕ, List, Option};
 ghost use Rattle.std.specs.List.{AllZip};
 ghost use Rattle.oai_item.specs.Formats.{AreRepositoryFormats};
@@ -18,17 +18,17 @@ ghost use Rattle.oai_headline.specs.Headline.{HasRules};
 ghost use Rattle.oai_headline.specs.Throughout.{AreTrueFrom, own_given, whole_visits};
 ghost use Rattle.oai_headline.specs.Visits.{Visit, commands_in, found_by, visits};
 
-/// Harvests miss nothing, in a client's words (OAI-PMH 2.0, sections 2.5.1, 2.7.1 and 3.5). At a repository whose
-/// answers are true ([`throughout_law`](crate::throughout_law)) and which keeps its deleted records, a client asks for
-/// all records in a metadataPrefix, follows the list by the tokens that it sees in the answers, each before its
-/// expirationDate, and does so again any number of times, each time from the day or the second of the responseDate on
-/// that it saw in the first answer of the time before. Whatever else is asked and deposited between and amid its
-/// requests, and whatever failed, let it keep, of all records that it saw, the last of each identifier. Then it has
-/// just the records, live and deleted, of the items that had one in that metadataPrefix when the last harvest began.
+/// Harvests miss nothing, as a client sees them (OAI-PMH 2.0, sections 2.5.1, 2.7.1 and 3.5). At a repository whose
+/// answers are true ([`throughout_law`](crate::throughout_law)) and which keeps its deleted records, a client requests
+/// all records in a metadataPrefix and follows the list by the tokens that it sees in the answers, each before its
+/// expirationDate. It repeats this any number of times, each time from the day or the second of the responseDate in the
+/// first answer of the previous harvest. Anything else may be asked and deposited between and during its requests, and
+/// anything may fail. Of all records that it saw, it keeps the last of each identifier. Then it has exactly the
+/// records, live and deleted, of the items that had one in that metadataPrefix when the last harvest began.
 ///
-/// What it sees is determined by the bytes of the answer: of two documents that could be seen in it, both show the
-/// same. And visits whose steps are a harvest of the machine are such a harvest of a client: what is asked of the
-/// answers is true of each that the machine gives. It does nothing.
+/// The bytes of an answer determine what the client sees: two documents that could be seen in it show the same. And
+/// visits whose steps are a harvest of the machine are such a harvest of a client: the machine's answers satisfy what
+/// is required of the answers. The function is empty.
 pub fn client_harvests_law()
     ensures copied { (calls : List Call) (answers : List Answer) (entry : NamedConfig) (left : RepoState)
         (prefix : List ℕ) (first : ClientHarvest) (others : List ClientHarvest) → HasRules entry

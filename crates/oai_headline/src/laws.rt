@@ -12,7 +12,7 @@ ghost use Rattle.oai_config.specs.Configs.{HostConfig, IsHostConfig};
 ghost use Rattle.oai_http.specs.declared.exchanges.Answer.{Answer};
 ghost use Rattle.oai_host.specs.Hosts.{AreAnswered, AreExchanged, HostState};
 ghost use Rattle.oai_host.specs.Tasks.{asking, task_of};
-ghost use Rattle.oai_cli.specs.Begun.{IsBegunOn};
+ghost use Rattle.oai_startup.specs.Begun.{IsBegunOn};
 ghost use Rattle.oai_headline.specs.Chains.{AreReached, IsFollowing, IsStepOf};
 ghost use Rattle.oai_headline.specs.Headline.{HaveRules, IsMadeOf};
 ghost use Rattle.oai_headline.specs.Throughout.{IsTrueVisit, IsThroughout, left_by, calls_done, visits_given};
@@ -23,11 +23,11 @@ ghost use Rattle.oai_headline.specs.WorkedFaults.{IsWorkedWithFailures};
 use oai_catalogue::Versions;
 use oai_device::PageDevice;
 
-/// What a repository that stands alone answers to exchanges is what its machine does, written. The steps that
-/// come of the exchanges are the run of the commands that they carry: a request is one, a deposit one for each
-/// line. A request is answered the document of its step, or that it is to come again later, and a deposit a
-/// line for each step; an exchange that is refused by its path, method or type is answered its status, and is no step. So what the laws
-/// of runs say is true of the exchanges. It does nothing.
+/// What a repository alone answers to exchanges is what its machine does, written. The steps that the exchanges make
+/// are the run of the commands that they carry: a request is one, a deposit one for each line. A request is answered
+/// with the document of its step, or with a time to wait, and a deposit with a line for each step; an exchange that is
+/// refused by its path, method or type is answered with its status, and is no step. So what the laws of runs say holds
+/// of the exchanges. The function is empty.
 pub fn carried_law()
     ensures answers { (config : Config) (state : RepoState) (calls : List Call)
         → map (λ (visit : Visit). visit.answer) (visits config state calls) ≡ answers_alone config state calls }
@@ -38,12 +38,13 @@ pub fn carried_law()
         → AllByRecursion (IsWrittenVisit config) (visits config state calls) }
 {}
 
-/// A list that is followed by exchanges (OAI-PMH 2.0, section 3.5). Among the exchanges with a repository that stands alone, from its
-/// beginning on, one asks for a list that is too long for one answer and is not answered 503; and others, each after the
-/// one before it, ask with the token that the answer before prints, and before its expirationDate. Then each of them is a step of the
-/// machine and is answered its page, written; and the pages, joined, are what was selected at the first of them, as
-/// `following_law` of `oai_laws` says. And exchanges whose steps are a chain of the machine are such a chain: what is asked of a token that
-/// is printed is true of each that the machine answers. It does nothing.
+/// A list that is followed by exchanges is what was selected at its first request (OAI-PMH 2.0, section 3.5). Among the
+/// exchanges with a repository alone, from its beginning on, one requests a list that is too long for one answer and is
+/// not answered 503; and others, each after the one before it, come with the token that the previous answer prints,
+/// before its expirationDate. Then each of them is a step of the machine and is answered with its page, written; and
+/// the pages, joined, are what was selected at the first of them, as `following_law` of `oai_laws` says. And exchanges
+/// whose steps are a chain of the machine are such a chain: the machine's answers satisfy what is required of a printed
+/// token. The function is empty.
 pub fn visits_law()
     ensures reached { (config : Config) (calls : List Call) (list_request : ListRequest) (first : Visit)
         (others : List Visit) → IsConfig config → AreRepositoryFormats config.formats
@@ -59,16 +60,17 @@ pub fn visits_law()
         → IsFollowing config (visits config (empty_state config) calls) list_request first others }
 {}
 
-/// **The theorem.** Exchanges come to a host, one after the other, as `Host::run` and `Host::exchange` say, each with its
-/// moment: deposits, deletions and requests. Whatever memory was refused in them, and whichever device calls failed, at each
-/// repository each answer without a fault is the machine's to that exchange after what was performed before it; the pages
-/// reached by following a list's unexpired tokens, also by repeating what failed, are, joined, exactly the records selected
-/// at its first request, each once, in order; harvests miss nothing, where deleted records are kept; and where no answer
-/// of a repository has a fault, they are those of the one-repository machine given that repository's commands alone.
+/// **The theorem.** Exchanges come to a host, one after the other, as `Host::run` and `Host::exchange` say, each with
+/// its moment: deposits, deletions and requests. Whatever memory was refused in them, and whichever device calls
+/// failed, at each repository each answer without a fault is the machine's to that exchange after what was performed
+/// before it; the pages reached by following a list's unexpired tokens, also by repeating what failed, are, joined,
+/// exactly the records selected at its first request, each once, in order; harvests miss nothing, where deleted records
+/// are kept; and if no answer of a repository has a fault, they are those of the one-repository machine given that
+/// repository's commands alone.
 ///
-/// The configuration is one that keeps its rules, as each does that was accepted ([`rules_law`]). The host is made of it, as
-/// `Host::new` says, over a store that does what a store of versions does and gives back what was written to it. It does
-/// nothing.
+/// The configuration is one that satisfies its rules, as each accepted one does ([`rules_law`]). The host is made of it
+/// by `Host::new`, over a store that satisfies the contract of a store of versions and returns what was written to it.
+/// The function is empty.
 pub fn throughout_law<V: Versions>()
     ensures { (config : HostConfig) (store : V) (first last : HostState) (calls : List Call)
         (answers : List Answer) → HaveRules config → IsMadeOf config (V.honest store) first
@@ -76,8 +78,8 @@ pub fn throughout_law<V: Versions>()
         → IsThroughout config calls answers last.repositories }
 {}
 
-/// The same of the host that the program runs: its store is the one of pages, over a device that gives back what was written to it, made
-/// as `host_on` of `oai_cli` says. It does nothing.
+/// The same of the host that the program runs: its store is the one of pages, over a device that returns what was
+/// written to it, made as `host_on` of `oai_cli` says. The function is empty.
 pub fn throughout_on_pages_law<D: PageDevice>()
     ensures { (config : HostConfig) (device : D) (first last : HostState) (calls : List Call)
         (answers : List Answer) → HaveRules config
@@ -85,17 +87,17 @@ pub fn throughout_on_pages_law<D: PageDevice>()
         → AreExchanged calls answers first last → IsThroughout config calls answers last.repositories }
 {}
 
-/// The same wherever the answers at each repository are those of a run of its own exchanges, from its beginning on: so the clause
-/// `answered` of [`host_law`] says of the bytes of connections. It does nothing.
+/// The same wherever the answers at each repository are those of a run of its own exchanges, from its beginning on: so
+/// the clause `answered` of [`host_law`] says of the bytes of connections. The function is empty.
 pub fn throughout_runs_law()
     ensures { (config : HostConfig) (honest : Bool) (first last : HostState) (calls : List Call)
         (answers : List Answer) → HaveRules config → IsMadeOf config honest first → IsTrue honest
         → AreAnswered calls answers first last → IsThroughout config calls answers last.repositories }
 {}
 
-/// What the field `given` of the theorem says at one place: an answer without a fault is the machine's to its exchange, in the
-/// state that what was performed before it has left; and a request that failed is, for all that comes later, as if it had not
-/// been made. It does nothing.
+/// What the field `given` of the theorem says at one place: an answer without a fault is the machine's to its exchange,
+/// in the state that what was performed before it has left; and a request that failed has, for all that comes later, no
+/// effect. The function is empty.
 pub fn place_law()
     ensures given { (config : Config) (state : RepoState) (front : List Call) (call : Call) (back : List Call)
         (given : List Answer) (answer : Answer) (more : List Answer) → length front ≡ length given
@@ -110,13 +112,14 @@ pub fn place_law()
         ≡ calls_done (front ++ back) (given ++ more) }
 {}
 
-/// What the theorem and the laws beside it ask for can be met: a run of a host of two repositories, computed from the bytes of its
-/// messages on, at the machine of each. The configuration keeps its rules. At the first repository a list is followed over three
-/// pages, by the tokens that they print, and their records are the five that there were at its first request. Amid the pages an item
-/// is deposited and one is deleted; and another list is asked for while as many are open as may be, and is answered by a time to wait.
-/// At the second repository, beside it, three harvests are made, the first over two pages, while an item is deleted and one deposited;
-/// and a copy that catches up with them holds what there is. The answers are those of documents that show the pages; the bytes of
-/// these documents are not written out. It does nothing.
+/// The premises of the theorem and of the laws beside it can be met: a run of a host of two repositories, computed from
+/// the bytes of its messages, at the machine of each. The configuration satisfies its rules. At the first repository a
+/// list is followed over three pages, by the tokens that they print, and their records are the five that there were at
+/// its first request. Between the pages an item is deposited and one is deleted; and another list is requested while as
+/// many are open as may be, and is answered with a time to wait. At the second repository, interleaved with it, three
+/// harvests are made, the first over two pages, while an item is deleted and one deposited; and a copy that they update
+/// holds what there is. The answers are those of documents that show the pages; the bytes of these documents are not
+/// written out. The function is empty.
 pub fn worked_headline_law()
     ensures accepted { IsHostConfig worked_host }
     ensures rules { HaveRules worked_host }
@@ -126,9 +129,10 @@ pub fn worked_headline_law()
         × AreMadeBeside first second third }
 {}
 
-/// What the theorem says of failures speaks of something: a run of one repository of the worked host, computed from the bytes of
-/// its messages on, in which a deposit fails in its second line, and a page of a list is refused memory and asked for again. What was
-/// performed of it is what the run without failures performs, and the list is followed over its three pages. It does nothing.
+/// What the theorem says about failures is not vacuous: a run of one repository of the worked host, computed from the
+/// bytes of its messages, in which a deposit fails in its second line, and a page of a list runs out of memory and is
+/// requested again. What was performed of it is what the run without failures performs, and the list is followed over
+/// its three pages. The function is empty.
 pub fn worked_faults_law()
     ensures { (first : Visit) × (second : Visit) × (last : Visit)
         × IsWorkedWithFailures first second last }

@@ -1,4 +1,4 @@
-//! The theorem of a host, in one place: its repositories are as if each stood alone, and a list that is followed is
+//! The theorem of a host, in one place: its repositories behave as if each were alone, and a list that is followed is
 //! what was selected, whatever memory was refused and whichever device calls failed.
 #![tactic(auto)]
 

@@ -1,11 +1,11 @@
-//! What each configuration keeps that was accepted.
+//! The rules that every accepted configuration satisfies.
 ghost use Rattle.std.specs.List.{All};
 ghost use Rattle.oai_headline.specs.Headline.{HasRules, HaveRules};
 
 use oai_config::{Config, NamedConfig};
 
-/// A configuration keeps the rules that the theorem asks for. It walks through the repositories, since what the
-/// type of each of their configurations keeps is known where that is looked at, and returns nothing.
+/// A configuration satisfies the rules that the theorem requires. It iterates over the repositories, since the
+/// invariant of the type of each one's configuration is known where that is read, and returns nothing.
 pub fn rules_law(config: Config)
     ensures { HaveRules config }
 {

@@ -9,10 +9,9 @@ use oai_catalogue::Versions;
 use oai_host::Host;
 use oai_http::Handler;
 
-/// The calls of a front come one after the other, as `run_law` of `oai_front` says, and a host performs the
-/// messages over a store that gives back what was written to it. At each of its repositories the answers are a
-/// run of its own exchanges, and where none of these failed, those that it alone gives. It is a theorem: the function
-/// is empty.
+/// The calls of a front come one after the other, as `run_law` of `oai_front` says, and a host performs the messages
+/// over a store that returns what was written to it. At each of its repositories the answers are a run of its own
+/// exchanges, and if none of these failed, those that it alone gives. A theorem, proved by an empty function.
 pub fn host_law<V: Versions + Drop>()
     ensures hosted { (old new : State HostState) (calls : List FrontCall)
         → Comes ⟦<Host<V> as Handler>⟧.step old calls new → IsTrue old.handler.honest

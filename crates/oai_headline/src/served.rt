@@ -5,16 +5,16 @@ ghost use Rattle.oai_host.specs.Hosts.{AreExchanged, HostState};
 ghost use Rattle.oai_http.specs.declared.exchanges.Answer.{Answer};
 ghost use Rattle.oai_http.specs.declared.exchanges.Call.{Call};
 ghost use Rattle.oai_headline.specs.Served.{AreServedOnPages};
-ghost use Rattle.oai_cli.specs.Begun.{IsBegunOn};
+ghost use Rattle.oai_startup.specs.Begun.{IsBegunOn};
 
 use oai_device::PageDevice;
 
-/// Repositories on the pages of one device do not disturb one another. A host is made of a configuration, over a device
-/// that gives back what was written to it, and performs exchanges, one after the other, as `Host::run` and
+/// Repositories on the pages of one device are isolated from each other. A host is made of a configuration, over a
+/// device that returns what was written to it, and performs exchanges, one after the other, as `Host::run` and
 /// `Host::exchange` say. The answers at each repository are those of a run of its own exchanges alone, from its empty
-/// state. Where none of these failed, they are the answers that the repository gives alone: they show nothing of the other
-/// repositories, of the cache that all share, or of where the pages are. An answer says that the device failed only
-/// where it did since the host was made, and that something is damaged never. It is a theorem: the function is empty.
+/// state. If none of these failed, they are the answers that the repository gives alone: they show nothing of the other
+/// repositories, of the shared cache, or of where the pages are. An answer reports a failed device only if it failed
+/// since the host was made, and never reports damage. A theorem, proved by an empty function.
 pub fn pages_law<D: PageDevice>()
     ensures served { (config : HostConfig) (device : D) (first last : HostState) (calls : List Call)
         (answers : List Answer) → IsBegunOn config (D.honest device) (D.failures device) first

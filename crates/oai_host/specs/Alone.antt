@@ -1,4 +1,5 @@
--- One repository alone: what it is answered to its own exchanges, one after the other. This repository's own, over the machine of OAI-PMH 2.0.
+-- One repository alone: its answers to its own exchanges, one after the other. This repository's own, over the machine
+-- of OAI-PMH 2.0.
 use Rattle.std.specs.Prelude.{ℕ, ℤ, List, [], ◌∷◌, ◌++◌, filter, map, Result}
 use Rattle.std.specs.List.{zip}
 use Rattle.oai_deposit.specs.Lines.{line_of}
@@ -16,12 +17,12 @@ use Rattle.oai_http.specs.declared.exchanges.Call.{Call}
 
 -- ---- the machine alone
 
--- the answer to a line of a deposit, with the end of a line behind it; no line is answered by a time to wait
+-- the answer to a line of a deposit, with a line end; no line is answered by a time to wait
 abbrev pub with_end : Output → List ℕ
 with_end (bytes text) = text ++ 10 ∷ []
 with_end (wait seconds) = []
 
--- one line as it was read, at that moment: what it is answered, and the state that it leaves
+-- one line, as it was parsed, at that moment: its answer, and the state afterwards
 abbrev pub after_read : Config → ℤ → RepoState → Result Change LineRefusal → List ℕ × RepoState
 after_read config moment state read = let done = step config state moment (line read) in (with_end done.0, done.1)
 
@@ -36,13 +37,13 @@ after_lines config moment state (text ∷ lines) =
     let others = after_lines config moment first.1 lines in
     (first.0 ++ others.0, others.1)
 
--- what is asked of the repository is done: a request is one step, a deposit is its lines
+-- what is asked of the repository is performed: a request is one step, a deposit is its lines
 abbrev pub done_alone : Config → RepoState → ℤ → Task → Answer × RepoState
 done_alone config state moment (refusing status) = (answered status, state)
 done_alone config state moment (asking arguments) = let done = step config state moment (query arguments) in (answer_of done.0, done.1)
 done_alone config state moment (depositing lines) = let done = after_lines config moment state lines in (answered_with done.0, done.1)
 
--- an exchange: its answer, and the state that it leaves
+-- an exchange: its answer, and the state afterwards
 abbrev pub exchanged_alone : Config → RepoState → Call → Answer × RepoState
 exchanged_alone config state call = done_alone config state call.moment (task_of call)
 

@@ -1,8 +1,8 @@
--- The lines of a deposit as they are taken one after the other: words that no definition needs.
+-- The lines of a deposit as the iterator returns them: words that no definition needs.
 use Rattle.std.specs.Prelude.{◌≡◌, ℕ, suc, List, [], ◌∷◌, length, take, Option, None, Some, if◌then◌else◌}
 use Rattle.oai_host.specs.Bodies.{is_blank, lines_in}
 
--- the lines of what stands behind the last line end that was met; none where none was met at the last
+-- the lines after the last line end; none if there was none at the end
 abbrev pub lines_left : Option (List ℕ) → List (List ℕ)
 lines_left None = []
 lines_left (Some rest) = lines_in rest
@@ -16,6 +16,6 @@ abbrev pub bytes_left : Option (List ℕ) → ℕ
 bytes_left None = 0
 bytes_left (Some rest) = suc (length rest)
 
--- so many bytes of the body have its first lines, so many
+-- that many bytes of the body have its first lines, that many
 abbrev pub AreTaken : List ℕ → ℕ → ℕ → Type 0
 AreTaken body size count = lines_in (take size body) ≡ take count (lines_in body)

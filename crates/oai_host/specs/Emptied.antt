@@ -1,4 +1,5 @@
--- No definition: calls, and parts that are restored, leave which repositories there are. By this a host is shown to be `Replayed`.
+-- No definition: calls, and parts that are restored, leave which repositories there are. This shows that a host is
+-- `Replayed`.
 use Rattle.std.proofs.Common.{◌≡◌, Bool, true, false, cond, List, [], ◌∷◌, ap₂, refl}
 use Rattle.std.specs.Str.{bytes_eq}
 use Rattle.oai_repo.specs.State.{RepoState}
@@ -10,7 +11,7 @@ use Rattle.oai_host.specs.Hosts.{Repository}
 use Rattle.oai_host.specs.Redone.{redone_all}
 use Rattle.oai_host.specs.Saved.{emptied_at, emptied_in, part_in, restored_in, with_read}
 
--- whether or not it has another state, a repository begins as it does
+-- whatever its state, a repository begins in the same state
 either_begins : (b : Bool) (repository : Repository) (state : RepoState) → emptied_at (cond b (record repository { state = state }) repository) ≡ emptied_at repository
 either_begins true repository state = refl
 either_begins false repository state = refl

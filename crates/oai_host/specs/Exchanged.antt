@@ -1,4 +1,4 @@
--- How a front has its messages performed by a host, and what that does to what the host keeps in a store. This repository's own.
+-- How a front passes its messages to a host, and what that does to what the host stores. This repository's own.
 use Rattle.std.specs.Prelude.{◌≡◌, ◌++◌, ℕ, ℤ, List, Result, OnErr, OnOk}
 use Rattle.oai_catalogue.specs.Store.{Spends}
 use Rattle.oai_catalogue.specs.declared.versions.Versions.{Ghosts}
@@ -14,34 +14,34 @@ use Rattle.oai_host.specs.Performed.{IsLinePerformed, IsPerformed, StoreState}
 use Rattle.oai_host.specs.Room.{room_for_line}
 use Rattle.oai_host.specs.Tasks.{Task}
 
--- what is asked at a moment was exchanged, as a front has its messages performed
+-- what is asked at a moment was exchanged, as a front passes its messages
 abbrev pub IsHandled : HostState → ℤ → Asked → Answer → HostState → Type 0
 IsHandled before moment asked answer after = IsExchanged (call_at moment asked) answer before after
 
 -- ---- over a store
 
--- what is said of it
+-- the state of a store that clauses speak of
 abbrev pub store_state : {V : Type 0} → Ghosts V → V → StoreState
 store_state g store = record { honest = g.honest store; failures = g.failures store; room = g.room store }
 
--- a repository in a store performs what is asked, and keeps what it has to keep
+-- a repository in a store performs what is asked, and keeps its invariants
 pub record PerformsIn {V : Type 0} (g : Ghosts V) (moment : ℤ) (task : Task) (answer : Answer) (old : RepoFields) (before : V) (new : RepoFields) (after : V) : Type 0 where
   pub performed : IsPerformed old.config moment task answer (state_of old (g.lists before)) (store_state g before) (state_of new (g.lists after)) (store_state g after)
   pub kept : Keeps (g.honest before) old (g.lists before) new (g.lists after)
 
--- and its answer is dropped but for its fault
+-- and its answer is dropped except for its fault
 abbrev pub RedoesIn : {V : Type 0} → Ghosts V → ℤ → Task → Result (Unit {0}) Fault → RepoFields → V → RepoFields → V → Type 0
 RedoesIn g moment task result old before new after = (answer : Answer) × (result ≡ failure_in answer) × PerformsIn g moment task answer old before new after
 
 -- ---- a line of a deposit
 
--- a line was performed, as it was read, and the line for it stands behind the others
+-- a line was performed, as it was parsed, and its answer follows the others
 pub record IsLineAdded {V : Type 0} (g : Ghosts V) (moment : ℤ) (read : Result Change LineRefusal) (old : RepoFields) (before : V) (was : List ℕ) (new : RepoFields) (after : V) (is : List ℕ) : Type 0 where
   pub text : List ℕ
   pub told : is ≡ was ++ text
   pub line : IsLinePerformed (g.honest before) old.config moment read (state_of old (g.lists before)) text (state_of new (g.lists after))
 
--- a repository in a store performs a line, as it was read; a fault leaves the repository and all lists as they were
+-- a repository in a store performs a line, as it was parsed; a fault leaves the repository and all lists unchanged
 pub record PerformsLine {V : Type 0} (g : Ghosts V) (moment : ℤ) (read : Result Change LineRefusal) (result : Result (Unit {0}) Fault) (old : RepoFields) (before : V) (was : List ℕ) (new : RepoFields) (after : V) (is : List ℕ) : Type 0 where
   pub ok : OnOk result (IsLineAdded g moment read old before was new after is)
   pub err : OnErr result ((new ≡ old) × (g.lists after ≡ g.lists before))

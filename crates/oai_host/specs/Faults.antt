@@ -1,4 +1,4 @@
--- Why a call may fail that takes a store for good: this repository's own.
+-- Why a call that consumes a store may fail: this repository's own.
 use Rattle.std.specs.Prelude.{ℕ, Bool, Result}
 use Rattle.oai_catalogue.specs.Store.{IsHonest}
 use Rattle.oai_device.specs.Device.{CountsFailures}

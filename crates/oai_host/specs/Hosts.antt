@@ -23,26 +23,26 @@ pub record Repository : Type 0 where
   pub config : Config
   pub state : RepoState
 
--- as it begins
+-- in its initial state
 abbrev pub begun : NamedConfig → Repository
 begun entry = record { name = entry.name; config = entry.config; state = empty_state entry.config }
 
--- a host: its repositories, whether the device of its store gives back what was written to it, how often that has failed, and how many
--- calls of the store are sure to find room
+-- a host: its repositories, whether the device of its store returns what was written to it, how often that has failed,
+-- and how many calls of the store are sure to find room
 pub record HostState : Type 0 where
   pub repositories : List Repository
   pub honest : Bool
   pub failures : ℕ
   pub room : ℕ
 
--- what is said of its store
+-- the state of its store
 abbrev pub store_of : HostState → StoreState
 store_of host = record { honest = host.honest; failures = host.failures; room = host.room }
 
 -- ---- one exchange
 
--- what an exchange does to a repository, from one state of the store to the other: where it is its own it is performed; any other leaves it
--- as it was
+-- what an exchange does to a repository, from one state of the store to the other: its own repository performs it; any
+-- other is unchanged
 pub record IsStep (call : Call) (answer : Answer) (old new : StoreState) (before after : Repository) : Type 0 where
   pub name : after.name ≡ before.name
   pub config : after.config ≡ before.config
@@ -58,12 +58,12 @@ AreSteps call answer old new before after = AllZip (IsStep call answer old new) 
 abbrev pub is_of_none : List Repository → Call → Bool
 is_of_none repositories call = list_all (λ (repository : Repository). not (leads_to_repository repository.name call.target)) repositories
 
--- what such an exchange is answered
+-- the answer to such an exchange
 abbrev pub refused : Call → Answer
 refused call = answered (if is_rooted call.target then status.NotFound else status.BadRequest)
 
--- an exchange with the host: it is a step of each repository; one that is no repository's is refused, and leaves the host as it was; and a
--- fault has its cause
+-- an exchange with the host: it is a step of each repository; one that is no repository's is refused, and leaves the
+-- host unchanged; and a fault has its cause
 pub record IsExchanged (call : Call) (answer : Answer) (before after : HostState) : Type 0 where
   pub each : AreSteps call answer (store_of before) (store_of after) before.repositories after.repositories
   pub none : is_of_none before.repositories call ≡ true → (answer ≡ refused call) × (after ≡ before)
@@ -80,7 +80,8 @@ AreExchanged (call ∷ calls) [] before after = ⊥
 AreExchanged (call ∷ calls) (answer ∷ answers) before after =
     (between : HostState) × IsExchanged call answer before between × AreExchanged calls answers between after
 
--- between the exchanges of a repository others may use the store: its device stays as honest as it was, and may have failed more often
+-- between the exchanges of a repository others may use the store: the honesty of its device is unchanged, and it may
+-- have failed more often
 pub record IsLater (old new : StoreState) : Type 0 where
   pub honesty : new.honest ≡ old.honest
   pub count : old.failures ≤ new.failures
@@ -98,7 +99,7 @@ IsRun config (call ∷ calls) (answer ∷ answers) before old after new =
     × IsPerformed config call.moment (task_of call) answer before first between next
     × IsRun config calls answers between next after new
 
--- what exchanges do to a repository: its own do to it what they would do if there were no others, and the others nothing
+-- what exchanges do to a repository: its own do what they would do if there were no others, and the others nothing
 pub record IsOwnRun (calls : List Call) (answers : List Answer) (old new : StoreState) (before after : Repository) : Type 0 where
   pub name : after.name ≡ before.name
   pub config : after.config ≡ before.config
@@ -124,7 +125,7 @@ abbrev pub IsAsAlone : List Call → List Answer → Repository → Type 0
 IsAsAlone calls answers repository =
     own_answers repository.name calls answers ≡ answers_alone repository.config repository.state (own_calls repository.name calls)
 
--- where none of its own exchanges failed
+-- the same, if none of its own exchanges failed
 abbrev pub IsAloneUnlessFailed : List Call → List Answer → Repository → Type 0
 IsAloneUnlessFailed calls answers repository = none_failed (own_answers repository.name calls answers) ≡ true → IsAsAlone calls answers repository
 

@@ -1,4 +1,4 @@
--- What a host keeps of its repositories, and what the lists of its store have of them: this repository's own.
+-- What a host keeps of its repositories, and what its store's lists hold of them: this repository's own.
 use Rattle.std.specs.Prelude.{◌≡◌, ℕ, Bool, true, false, List, [], ◌∷◌, map, Option, IsTrue}
 use Rattle.std.specs.List.{AllByRecursion, position}
 use Rattle.std.specs.Str.{bytes_eq}
@@ -18,15 +18,15 @@ repositories_of repos lists = map (repository_of lists) repos
 abbrev pub repo_names : List NamedRepo → List (List ℕ)
 repo_names repos = map (λ (one : NamedRepo). one.name) repos
 
--- the place of a name among these, if it is there
+-- the position of a name among these, if it is there
 abbrev pub place_in : List (List ℕ) → List ℕ → Option ℕ
 place_in names name = position (λ (one : List ℕ). bytes_eq one name) names
 
--- no number is one of both
+-- they have no number in common
 abbrev pub AreApart : RepoFields → RepoFields → Type 0
 AreApart one other = (n : ℕ) → has (numbers_of one) n ≡ true → has (numbers_of other) n ≡ false
 
--- no number is one of this and of another
+-- it has no number in common with any of the others
 abbrev pub IsApart : RepoFields → List NamedRepo → Type 0
 IsApart one others = AllByRecursion (λ (other : NamedRepo). AreApart one other.repo) others
 
@@ -34,14 +34,14 @@ abbrev pub AllApart : List NamedRepo → Type 0
 AllApart [] = Unit {0}
 AllApart (one ∷ others) = IsApart one.repo others × AllApart others
 
--- the lists have of each what they have to have of a repository
+-- the lists hold of each what they must of a repository
 abbrev pub AllStand : List NamedRepo → Lists → Type 0
 AllStand repos lists = AllByRecursion (λ (one : NamedRepo). StandsIn one.repo lists) repos
 
 abbrev pub AllHeld : List NamedRepo → Lists → Type 0
 AllHeld repos lists = AllByRecursion (λ (one : NamedRepo). IsStored one.repo lists) repos
 
--- each has a name of its own, and no number is one of two repositories
+-- names are distinct, and no two repositories have a number in common
 pub record AreNamedRepos (honest : Bool) (repos : List NamedRepo) (lists : Lists) : Type 0 where
   pub named : AreNamed (repo_names repos)
   pub stand : AllStand repos lists

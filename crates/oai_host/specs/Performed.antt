@@ -1,5 +1,5 @@
--- What an exchange does to the repository whose it is, over every store, also over one that does not give back what was written to it; and
--- that over one that does it is what the machine does. This repository's own.
+-- What an exchange does to its repository, over every store, also one that does not return what was written to it; and
+-- that over one that does, it does what the machine does. This repository's own.
 use Rattle.std.specs.Prelude.{◌≡◌, ◌⊎◌, ◌<◌, ℕ, ℤ, Bool, IsTrue, List, [], ◌∷◌, ◌++◌, codes, length, take, None, Some, Result, Ok, Err}
 use Rattle.oai_time.specs.Clock.{tick}
 use Rattle.oai_time.specs.TimeTexts.{datestamp_text}
@@ -30,26 +30,26 @@ pub record IsRefusedLine (moment : ℤ) (cause : Cause) (before : RepoState) (li
   pub told : line ≡ refusal_line cause ++ 10 ∷ []
   pub state : after ≡ moved moment before
 
--- it was accepted: its answer gives the datestamp, which is that of the clock; a new set stands behind the others; the clock and the open
--- lists are those at the moment. Nothing is said of the items
+-- it was accepted: its answer has the datestamp, which is the clock's; a new set is the last one; the clock and the
+-- open lists are those at the moment. Nothing is said of the items
 pub record IsAcceptedLine (config : Config) (moment : ℤ) (change : Change) (before : RepoState) (line : List ℕ) (after : RepoState) : Type 0 where
   pub told : line ≡ (codes "ok " ++ datestamp_text config.granularity (stamp_at config after.clock)) ++ 10 ∷ []
   pub clock : after.clock ≡ tick before.clock moment
   pub sets : after.holdings.sets ≡ sets_with change before.holdings.sets
   pub open_lists : after.open_lists ≡ (moved moment before).open_lists
 
--- as it was read: accepted or refused
+-- as it was parsed: accepted or refused
 abbrev pub IsLineAnswered : Config → ℤ → Result Change LineRefusal → RepoState → List ℕ → RepoState → Type 0
 IsLineAnswered config moment (Ok change) before line after =
     IsAcceptedLine config moment change before line after ⊎ ((cause : ChangeRefusal) × IsRefusedLine moment (in_repository cause) before line after)
 IsLineAnswered config moment (Err cause) before line after = IsRefusedLine moment (in_line cause) before line after
 
--- it was performed, as it was read; over an honest store it was a step of the machine
+-- it was performed, as it was parsed; over an honest store it was a step of the machine
 pub record IsLinePerformed (honest : Bool) (config : Config) (moment : ℤ) (read : Result Change LineRefusal) (before : RepoState) (line : List ℕ) (after : RepoState) : Type 0 where
   pub so : IsLineAnswered config moment read before line after
   pub exact : IsTrue honest → after_read config moment before read ≡ (line, after)
 
--- lines were performed one after the other at one moment, and all of their answers are these
+-- lines were performed one after the other at one moment, and these are all of their answers
 abbrev pub AreLinesPerformed : Bool → Config → ℤ → List (List ℕ) → RepoState → List ℕ → RepoState → Type 0
 AreLinesPerformed honest config moment [] before told after = (told ≡ []) × (after ≡ before)
 AreLinesPerformed honest config moment (text ∷ lines) before told after =
@@ -62,7 +62,8 @@ AreLinesPerformed honest config moment (text ∷ lines) before told after =
 
 -- ---- an exchange
 
--- a request was replied to: it moves the clock and leaves what is held; over an honest store it was a step of the machine
+-- a request was replied to: it moves the clock and leaves what is held; over an honest store it was a step of the
+-- machine
 pub record IsReplied (honest : Bool) (config : Config) (moment : ℤ) (arguments : List ℕ) (before : RepoState) (answer : Answer) (after : RepoState) : Type 0 where
   pub reply : IsReply answer
   pub clock : after.clock ≡ tick before.clock moment
@@ -76,7 +77,8 @@ IsDone honest config moment (asking arguments) before answer after = IsReplied h
 IsDone honest config moment (depositing lines) before answer after =
     (answer ≡ answered_with answer.body) × AreLinesPerformed honest config moment lines before answer.body after
 
--- a fault ended it: a request has left all as it was; of a deposit as many lines were done as the answer says, the first ones, and no other
+-- a fault ended it: a request has left everything unchanged; for a deposit the answer says how many lines were done,
+-- the first ones, and no other
 abbrev pub HasStopped : Bool → Config → ℤ → Task → Fault → RepoState → Answer → RepoState → Type 0
 HasStopped honest config moment (refusing status) fault before answer after = ⊥
 HasStopped honest config moment (asking arguments) fault before answer after = (answer ≡ failed fault None) × (after ≡ before)
@@ -87,15 +89,15 @@ HasStopped honest config moment (depositing lines) fault before answer after =
     × (told : List ℕ)
     × AreLinesPerformed honest config moment (take done lines) before told after
 
--- what is said of a store: whether its device gives back what was written to it, how often that has failed, and how many calls of the store are
--- sure to find room
+-- the state of a store: whether its device returns what was written to it, how often that has failed, and how many
+-- calls of the store are sure to find room
 pub record StoreState : Type 0 where
   pub honest : Bool
   pub failures : ℕ
   pub room : ℕ
 
--- an exchange, from a state of the repository and of the store to another: it was done, or a fault ended it; no more room is used than is asked
--- for; and the fault has its cause
+-- an exchange, from a state of the repository and of the store to another: it was done, or a fault ended it; no more
+-- room is used than it needs; and the fault has its cause
 pub record IsPerformed (config : Config) (moment : ℤ) (task : Task) (answer : Answer) (before : RepoState) (old : StoreState) (after : RepoState) (new : StoreState) : Type 0 where
   pub ended : IsDone old.honest config moment task before answer after
       ⊎ ((fault : Fault) × HasStopped old.honest config moment task fault before answer after)

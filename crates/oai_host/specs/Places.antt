@@ -5,7 +5,7 @@ use Rattle.oai_http.specs.Targets.{front_of, leads_to_repository, path_of}
 use Rattle.oai_host.specs.declared.repositories.NamedRepo.{NamedRepo}
 use Rattle.oai_http.specs.declared.targets.Endpoint.{Endpoint}
 
--- the path of the exchange is of that endpoint and ends with the name of the repository at the place
+-- the path of the exchange is of that endpoint and ends with the name of the repository at the position
 pub record IsRepoPlace (repos : List NamedRepo) (place : ℕ) (endpoint : Endpoint) (target : List ℕ) : Type 0 where
   pub one : NamedRepo
   pub there : slice_get repos place ≡ Some one

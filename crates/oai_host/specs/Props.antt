@@ -1,4 +1,4 @@
--- No definition: that repositories stand apart is one fact, by which the ghost field of `Host` is shown.
+-- No definition: repositories share no number, one fact, which shows the ghost field of `Host`.
 use Rattle.std.proofs.Common.{List, [], ◌∷◌}
 use Rattle.std.specs.List.{AllByRecursion-prop}
 use mathlib.Core.Bool.{Bool-set}

@@ -1,4 +1,4 @@
--- What an exchange leaves at the repositories of a host, and what of it is to be performed again. This repository's own.
+-- What an exchange leaves at the repositories of a host, and what of it has to be replayed. This repository's own.
 use Rattle.std.specs.Prelude.{◌≡◌, ◌≤◌, ◌⊎◌, ℕ, ℤ, Bool, false, if◌then◌else◌, IfSome, IsTrue, length, List, [], ◌∷◌, map, MatchOption, max, Option, None, Some, Err, Result}
 use Rattle.std.specs.List.{list_any}
 use Rattle.std.specs.Str.{bytes_eq}
@@ -24,9 +24,9 @@ use Rattle.oai_host.specs.Hosts.{AreSteps, HostState, IsExchanged, Repository, r
 use Rattle.oai_host.specs.Performed.{IsPerformed, StoreState}
 use Rattle.oai_host.specs.Tasks.{Task, asking, depositing, task_in}
 
--- ---- what a call leaves, and what it is answered
+-- ---- the state after a call, and its answer
 
--- the repository whose it is does what it alone would do, and any other nothing
+-- its own repository does what it alone would do, and any other nothing
 abbrev pub redone_at : Call → Repository → Repository
 redone_at call repository =
     if leads_to_repository repository.name call.target then record repository { state = (exchanged_alone repository.config repository.state call).1 }
@@ -35,27 +35,28 @@ redone_at call repository =
 abbrev pub redone_all : List Repository → Call → List Repository
 redone_all repositories call = map (redone_at call) repositories
 
--- the repository whose it is answers what it alone would answer; a call that is none's is refused
+-- its own repository answers what it alone would answer; a call that is none's is refused
 abbrev pub reply_all : List Repository → Call → Answer
 reply_all [] call = refused call
 reply_all (repository ∷ repositories) call =
     if leads_to_repository repository.name call.target then (exchanged_alone repository.config repository.state call).0
     else reply_all repositories call
 
--- ---- what is performed again at one repository
+-- ---- the replay at one repository
 
 -- a request with these arguments, or a deposit of these lines
 abbrev pub task_again : Endpoint → List ℕ → Task
 task_again Requests arguments = asking arguments
 task_again Deposits lines = depositing (lines_in lines)
 
--- the state after is what that leaves of the state before; or nothing has to be done, since it is the state before
+-- the state after is what the replay makes of the state before; or nothing has to be replayed, since it is the state
+-- before
 abbrev pub IsLeftBy : Config → ℤ → Endpoint → Option (List ℕ) → RepoState → RepoState → Type 0
 IsLeftBy config moment endpoint None before after = after ≡ before
 IsLeftBy config moment endpoint (Some bytes) before after = after ≡ (done_alone config before moment (task_again endpoint bytes)).1
 
--- where the first bytes were performed, others may be performed again in their place, or nothing: at a repository whose clock was the one and is
--- the other, and whose lists are open, they leave the same
+-- if the first bytes were performed, others may be replayed in their place, or nothing: at a repository whose clock was
+-- the one and is the other, and whose lists are open, they leave the same
 abbrev pub LeaveSame : Config → Endpoint → ℤ → ℤ → List ℕ → Option (List ℕ) → Type 0
 LeaveSame config endpoint was is bytes others =
     (moment : ℤ) (before after : RepoState)
@@ -69,7 +70,7 @@ LeaveSame config endpoint was is bytes others =
 abbrev pub AreNoLonger : List ℕ → Option (List ℕ) → Type 0
 AreNoLonger bytes others = IfSome others (λ (its : List ℕ). length its ≤ length bytes)
 
--- of an exchange of a repository that was answered so, these bytes were performed and nothing else; or nothing
+-- of an exchange of a repository with that answer, these bytes were performed and nothing else; or nothing
 abbrev pub LeavesAgain : Endpoint → Exchange → Answer → Option (List ℕ) → Type 0
 LeavesAgain endpoint exchange answer bytes =
     (config : Config) (moment : ℤ) (before after : RepoState) (old new : StoreState)
@@ -77,7 +78,7 @@ LeavesAgain endpoint exchange answer bytes =
     → IsPerformed config moment (task_in endpoint (call_of moment exchange)) answer before old after new
     → IsLeftBy config moment endpoint bytes before after
 
--- and so it is between these two clocks
+-- the same, between these two clocks
 abbrev pub LeavesBetween : Config → Endpoint → Exchange → Answer → ℤ → ℤ → Option (List ℕ) → Type 0
 LeavesBetween config endpoint exchange answer was is bytes =
     (moment : ℤ) (before after : RepoState) (old new : StoreState)
@@ -94,24 +95,24 @@ IsNoLonger exchange bytes = IfSome bytes (λ (its : List ℕ). length its ≤ ma
 
 -- ---- at a host
 
--- the repository of that name was left so, and the others as they were
+-- the repository with that name was left so, and the others unchanged
 abbrev pub AreLeftBy : ℤ → Endpoint → List ℕ → Option (List ℕ) → List Repository → List Repository → Type 0
 AreLeftBy moment endpoint name None before after = after ≡ before
 AreLeftBy moment endpoint name (Some bytes) before after = after ≡ redone_all before (own_call moment endpoint name bytes)
 
--- this was performed by these bytes at the repository of that name; or nothing was
+-- these bytes were performed at the repository with that name; or nothing was
 abbrev pub IsPerformedAt : Endpoint → List ℕ → Option (List ℕ) → Option Performed → Type 0
 IsPerformedAt endpoint name bytes performed =
     MatchOption performed (bytes ≡ None) (λ (p : Performed). (p.endpoint ≡ endpoint) × (p.name.now ≡ name) × (bytes ≡ Some p.bytes.now))
 
--- an exchange was answered so, and this is what of it is to be performed again
+-- an exchange has that answer, and this is what of it has to be replayed
 pub record IsRecorded (moment : ℤ) (exchange : Exchange) (answer : Answer) (performed : Option Performed) (before after : HostState) : Type 0 where
   pub exchanged : IsExchanged (call_of moment exchange) answer before after
   pub left : IsTrue before.honest → after.repositories ≡ left_again redone_all before.repositories moment performed
   pub name : IfSome performed (λ (p : Performed). IsTrue (is_short_name p.name.now))
   pub size : IfSome performed (λ (p : Performed). length p.bytes.now ≤ max (length exchange.target.now) (length exchange.body.now))
 
--- a call was performed again at each, and its answer dropped but for its fault, which has its cause
+-- a call was replayed at each, and its answer dropped except for its fault, which has its cause
 abbrev pub AreRedone : Call → Result (Unit {0}) Fault → StoreState → StoreState → List Repository → List Repository → Type 0
 AreRedone call result old new before after =
     (answer : Answer)
@@ -124,7 +125,8 @@ AreRedone call result old new before after =
 abbrev pub has_name : List Repository → List ℕ → Bool
 has_name repositories name = list_any (λ (repository : Repository). bytes_eq repository.name name) repositories
 
--- what was performed was performed again, and its answer dropped but for its fault; or no repository has its name, and nothing was done
+-- what was performed was replayed, and its answer dropped except for its fault; or no repository has its name, and
+-- nothing was done
 abbrev pub IsRedone : ℤ → Performed → Result (Unit {0}) Fault → HostState → HostState → Type 0
 IsRedone moment performed result before after =
     ((answer : Answer) × (result ≡ failure_in answer) × IsExchanged (call_again moment performed) answer before after)

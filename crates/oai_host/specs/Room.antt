@@ -9,7 +9,8 @@ use Rattle.oai_settings.specs.Config.{Config}
 use Rattle.oai_repo.specs.Calls.{room_to_ask, room_to_change}
 use Rattle.oai_host.specs.Tasks.{Task, asking, depositing, refusing}
 
--- a line of a deposit, as it was read: what its change may want where the repository has as many items as it may; and nothing where it is refused
+-- a line of a deposit, as it was parsed: what its change may need if the repository has as many items as it may; and
+-- nothing if it is refused
 abbrev pub room_for_line : Config → Result Change LineRefusal → ℕ
 room_for_line config (Ok change) = room_to_change config.items change
 room_for_line config (Err cause) = 0

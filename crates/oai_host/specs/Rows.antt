@@ -1,4 +1,4 @@
--- The two routes, as the router keeps them: words that no definition of this repository's needs.
+-- The two routes, as the router stores them: words that no definition of this repository's needs.
 use Rattle.std.specs.Prelude.{ℕ, List, [], ◌∷◌, ◌++◌, codes, Option, None, Some}
 use Rattle.matchit.specs.Rows.{RowsOf, param_token}
 use Rattle.matchit.specs.Router.{RouteOf}
@@ -20,7 +20,7 @@ requests_row = row (codes "/oai/") (codes "/oai/{name}") 6 10 Requests
 abbrev pub both_rows : RowsOf (RouteOf Endpoint)
 both_rows = deposits_row ∷ requests_row ∷ []
 
--- what the route is for that was found
+-- the endpoint of the route that was found
 abbrev pub endpoint_in : Option (RouteOf Endpoint) → Option Endpoint
 endpoint_in None = None
 endpoint_in (Some route) = Some route.value

@@ -1,4 +1,5 @@
--- The parts of what a host keeps, as they are spelled, and what they make when they are restored one after the other. This repository's own.
+-- The parts of a host's state, encoded, and the state that they make when they are restored one after the other. This
+-- repository's own.
 use Rattle.std.specs.Prelude.{ℕ, ℤ, Bool, ◌&&◌, ◌==◌, if◌then◌else◌, List, ◌∷◌, ◌++◌, map, decimal, Option, None, Some}
 use Rattle.std.specs.List.{after_first, before_first, flat_map}
 use Rattle.std.specs.Ordering.{int_eq}
@@ -39,7 +40,7 @@ spelled_part name clock part = record { kind = kind_of part; moment = moment_of 
 abbrev pub is_space : ℕ → Bool
 is_space b = b == 32
 
--- what a part of that kind may be that has this moment and these bytes
+-- the part with that kind, moment and bytes
 abbrev pub part_from : PartKind → ℤ → List ℕ → Part
 part_from Begin moment bytes = begins moment (digits_value 10 bytes)
 part_from Set moment bytes = has_named_set (before_first is_space bytes, after_first is_space bytes)
@@ -52,18 +53,18 @@ has_spelling moment bytes part = bytes_eq (bytes_of part) bytes && int_eq (momen
 abbrev pub if_spelled : ℤ → List ℕ → Part → Option Part
 if_spelled moment bytes part = if has_spelling moment bytes part then Some part else None
 
--- the part that is spelled so, where one is
+-- the part that is encoded so, if there is one
 abbrev pub part_in : PartState → Option Part
 part_in part = if_spelled part.moment part.bytes (part_from part.kind part.moment part.bytes)
 
 -- ---- repositories
 
--- a part that was read is restored; nothing that was not read
+-- a part that was decoded is restored; nothing if none was
 abbrev pub with_read : RepoState → Option Part → RepoState
 with_read state None = state
 with_read state (Some part) = with_part state part
 
--- a part is restored at the repository of its name
+-- a part is restored at the repository with its name
 abbrev pub restored_at : PartState → Repository → Repository
 restored_at part repository =
     if bytes_eq repository.name part.name then record repository { state = with_read repository.state (part_in part) } else repository
@@ -79,14 +80,14 @@ parts_at repository = map (spelled_part repository.name repository.state.clock) 
 abbrev pub parts_in : List Repository → List PartState
 parts_in repositories = flat_map parts_at repositories
 
--- no list is open, and the number of each next list is raised by so many
+-- no list is open, and the number of each next list is raised by that much
 abbrev pub ended_at : ℕ → Repository → Repository
 ended_at raise repository = record repository { state = ended raise repository.state }
 
 abbrev pub ended_in : ℕ → List Repository → List Repository
 ended_in raise repositories = map (ended_at raise) repositories
 
--- each as it begins
+-- each in its initial state
 abbrev pub emptied_at : Repository → Repository
 emptied_at repository = record repository { state = empty_state repository.config }
 

@@ -1,4 +1,5 @@
--- How a repository in a store is restored part by part, and how its parts are handed to a sink: words that no definition needs.
+-- How a repository in a store is restored part by part, and how its parts are passed to a sink: words that no
+-- definition needs.
 use Rattle.std.specs.Prelude.{◌≡◌, ◌<◌, ◌^◌, ℕ, ℤ, true, List, ◌++◌, map, Result, IsTrue, OnErr, OnOk}
 use Rattle.std.specs.List.{AllByRecursion}
 use Rattle.oai_names.specs.Sets.{may_be_set_spec}
@@ -11,29 +12,30 @@ use Rattle.oai_http.specs.Parts.{PartState}
 use Rattle.oai_host.specs.Hosts.{Repository}
 use Rattle.oai_host.specs.Saved.{ended_in, part_in, parts_in, spelled_part, with_read}
 
--- a repository in a store restores a part, and keeps what it has to keep; a fault leaves the repository and all lists as they were
+-- a repository in a store restores a part, and keeps its invariants; a fault leaves the repository and all lists
+-- unchanged
 pub record RestoresIn {V : Type 0} (g : Ghosts V) (part : PartState) (result : Result (Unit {0}) Fault) (old : RepoFields) (before : V) (new : RepoFields) (after : V) : Type 0 where
   pub restored : OnOk result (IsTrue (g.honest before) → state_of new (g.lists after) ≡ with_read (state_of old (g.lists before)) (part_in part))
   pub err : OnErr result ((new ≡ old) × (g.lists after ≡ g.lists before))
   pub kept : Keeps (g.honest before) old (g.lists before) new (g.lists after)
   pub honesty : g.honest after ≡ g.honest before
 
--- the part can be read again
+-- the part can be decoded again
 abbrev pub CanBeRead : Part → Type 0
 CanBeRead (begins clock next) = next < 2 ^ 64
 CanBeRead (has_named_set set) = may_be_set_spec set.0 ≡ true
 CanBeRead (has_item item) = Spells (encoded item) item
 
--- whatever a sink had taken, it has these parts behind
+-- whatever a sink had taken, it has these parts after it
 abbrev pub Takes : {S : Type 0} → (S → List PartState → Type 0) → List PartState → S → S → Type 0
 Takes has parts old new = (before : List PartState) → has old before → has new (before ++ parts)
 
--- a sink took parts of a repository of that name and clock, and these can be read again
+-- a sink took parts of a repository with that name and clock, and these can be decoded again
 pub record TakesParts {S : Type 0} (has : S → List PartState → Type 0) (name : List ℕ) (clock : ℤ) (parts : List Part) (old new : S) : Type 0 where
   pub taken : Takes has (map (spelled_part name clock) parts) old new
   pub readable : AllByRecursion CanBeRead parts
 
--- a sink took the parts of repositories, once their lists have ended, and these can be read again
+-- a sink took the parts of repositories, once their lists have ended, and these can be decoded again
 pub record TakesAll {S : Type 0} (has : S → List PartState → Type 0) (raise : ℕ) (repositories : List Repository) (old new : S) : Type 0 where
   pub taken : Takes has (parts_in (ended_in raise repositories)) old new
   pub readable : AllByRecursion (λ (repository : Repository). AllByRecursion CanBeRead (parts_of (ended raise repository.state))) repositories

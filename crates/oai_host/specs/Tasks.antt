@@ -1,4 +1,5 @@
--- What an exchange asks of the repository that its path leads to: RFC 9110, sections 9.3, 15.5.6 and 15.5.16; OAI-PMH 2.0, section 3.1.1.
+-- What an exchange asks of the repository that its path leads to: RFC 9110, sections 9.3, 15.5.6 and 15.5.16; OAI-PMH
+-- 2.0, section 3.1.1.
 use Rattle.std.specs.Prelude.{ℕ, Bool, if◌then◌else◌, List, codes, Option, None, Some}
 use Rattle.std.specs.Str.{bytes_eq}
 use Rattle.oai_http.specs.Bodies.{is_form}
@@ -10,7 +11,7 @@ use Rattle.oai_http.specs.declared.targets.Endpoint.{Endpoint}
 use Rattle.oai_http.specs.declared.targets.Endpoint.TheVariants.{Deposits, Requests}
 use Rattle.oai_host.specs.Bodies.{lines_in}
 
--- nothing, since it is answered that status; a request of OAI-PMH, by the bytes of its arguments; or deposit lines
+-- nothing, since its answer is that status; a request of OAI-PMH, by the bytes of its arguments; or deposit lines
 pub data Task : Type 0 where
   refusing : Status → Task
   asking : List ℕ → Task
@@ -37,7 +38,7 @@ abbrev pub task_in : Endpoint → Call → Task
 task_in Requests call = request_task call
 task_in Deposits call = deposit_in call
 
--- what a call asks, by what its target is for; nothing where it is for neither
+-- what a call asks, by the endpoint of its target; nothing if it has none
 abbrev pub task_at : Option Endpoint → Call → Task
 task_at None call = refusing (if is_rooted call.target then status.NotFound else status.BadRequest)
 task_at (Some endpoint) call = task_in endpoint call

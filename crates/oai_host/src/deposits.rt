@@ -1,4 +1,4 @@
-//! Deposits: lines, each of which is performed and answered in a line of its own.
+//! Deposits: each line is performed, and answered in a line of its own.
 ghost use Rattle.oai_deposit.specs.Lines.{line_of};
 ghost use Rattle.oai_host.specs.Bodies as spec;
 ghost use Rattle.oai_host.specs.Bodies.{lines_in};
@@ -22,12 +22,12 @@ use oai_time::{Granularity, write_datestamp};
 use std::alloc::Global;
 use std::marker::Model;
 
-/// The most bytes of the line that answers a line, its end included.
+/// The maximum length in bytes of the line that answers a line, with its line end.
 const MAX_LINE: usize = 32;
 
-/// Performs the lines of a deposit at the moment, in seconds from 1970 on, one after the other, and
-/// answers them; a fault ends them. Room for the answer to a line is taken before it is performed, so a
-/// line that was performed is answered or counted.
+/// Performs the lines of a deposit at the moment, in seconds from 1970 on, one after the other, and answers them; a
+/// fault ends them. Space for the answer to a line is reserved before the line is performed, so a line that was
+/// performed is always answered and counted.
 pub(crate) fn perform_lines<V: Versions>(
     alloc: Global,
     repo: &mut Repo,
@@ -51,8 +51,7 @@ pub(crate) fn perform_lines<V: Versions>(
     Answer::with_body(Sequence::new(told))
 }
 
-/// Performs a line and writes the line for it. Room for that is taken first. A fault leaves everything
-/// as it was.
+/// Performs a line and writes its answer, for which space is reserved first. A fault leaves everything unchanged.
 fn perform_line<V: Versions>(
     alloc: Global,
     repo: &mut Repo,
@@ -76,7 +75,7 @@ fn perform_line<V: Versions>(
     }
 }
 
-/// Performs a change and writes the line for it, in the room that is there.
+/// Performs a change and writes its answer into the reserved space.
 #[tactic(auto, unfolding(oai_repo::specs::Machine::outcome_output))]
 fn perform_change<V: Versions>(
     repo: &mut Repo,
@@ -98,8 +97,7 @@ fn perform_change<V: Versions>(
     Ok(())
 }
 
-/// Moves the clock for a line that is refused as it stands and writes the line for it, in the room that
-/// is there.
+/// Moves the clock for a line that is refused by itself and writes its answer into the reserved space.
 #[tactic(auto, unfolding(oai_repo::specs::Machine::outcome_output, oai_repo::specs::Machine::act))]
 fn refuse_line<V: Versions>(
     repo: &mut Repo,
@@ -138,8 +136,8 @@ fn put_line(text: &str, out: &mut Vec<u8>)
     put(b"\n", out);
 }
 
-/// The lines of a deposit that are still to be taken: its body is cut at each line end, and a line of
-/// nothing but spaces, tabs and CR is passed over.
+/// Iterates over the lines of a deposit: its body is split at each line end, and a line of nothing but spaces, tabs and
+/// CR is skipped.
 #[derive(Drop)]
 pub(crate) struct Lines<'a> {
     rest: Option<&'a [u8]>,
@@ -179,7 +177,7 @@ impl<'a> Lines<'a> {
     }
 }
 
-/// What stands before the first line end, and what stands behind it, if there is one.
+/// The bytes before the first line end, and those after it, if there is one.
 fn cut(text: &[u8]) -> (&[u8], Option<&[u8]>)
     ensures lines { lines_in text.now ≡ from_line result.0.now (lines_left (option_copied result.1)) }
     ensures less { bytes_left (option_copied result.1) < bytes_left (Some text.now) }
@@ -193,7 +191,7 @@ fn cut(text: &[u8]) -> (&[u8], Option<&[u8]>)
     }
 }
 
-/// How many bytes of the body have its first `count` lines, or all of it where it has fewer.
+/// The length in bytes of the first `count` lines of the body, or of all of it if it has fewer.
 pub(crate) fn first_lines(body: &[u8], count: u64) -> usize
     ensures within { result ≤ length body.now }
     ensures lines { AreTaken body.now result count }
@@ -208,8 +206,8 @@ pub(crate) fn first_lines(body: &[u8], count: u64) -> usize
     body.len() - rest.len()
 }
 
-/// How many bytes what stands before the first line end takes, with it, and how many of `left` lines are left
-/// behind it: a blank one is none of them.
+/// The length of the first line with its line end, and how many of `left` lines remain after it; a blank line does not
+/// count.
 fn first_line(body: &[u8], left: u64) -> (usize, u64)
     requires some { 0 < length body.now }
     requires more { 0 < left }
@@ -227,7 +225,7 @@ fn first_line(body: &[u8], left: u64) -> (usize, u64)
     }
 }
 
-/// How many of the lines are left behind one, which is none of them where it is blank.
+/// How many of the lines remain after one; a blank one does not count.
 fn without_line(is_blank: bool, left: u64) -> u64
     requires { 0 < left }
     ensures { left ≡ (if is_blank then result else result + 1) }

@@ -1,4 +1,4 @@
-//! What exchanges ask of a repository, performed: requests of OAI-PMH, and deposits.
+//! Performs what exchanges ask of a repository: requests of OAI-PMH, and deposits.
 ghost use Rattle.oai_host.specs.Exchanged.{PerformsIn};
 ghost use Rattle.oai_host.specs.Tasks as spec;
 ghost use Rattle.oai_host.specs.Tasks.{task_in};
@@ -12,7 +12,7 @@ use oai_http::{Answer, Endpoint, Exchange, Status, is_form, query_of};
 use oai_repo::{Reply, Repo};
 use std::alloc::Global;
 
-/// Performs what the exchange asks of the repository, by what its path is for.
+/// Performs what the exchange asks of the repository, by the endpoint of its path.
 pub(crate) fn perform<V: Versions>(
     alloc: Global,
     repo: &mut Repo,
@@ -40,8 +40,8 @@ pub(crate) fn perform<V: Versions>(
     }
 }
 
-/// The arguments of the request that the exchange makes, still encoded: the query of a GET, the body of
-/// a POST that is a form. Else the status that the exchange is answered.
+/// The arguments of the request that the exchange makes, still encoded: the query of a GET, the body of a POST that is
+/// a form. Otherwise the status of its answer.
 pub(crate) fn arguments_of<'a>(exchange: &Exchange<'a>) -> Result<&'a [u8], Status>
     ensures asked { (moment : ℤ) → MatchResult result
         (λ arguments. spec.request_task (call_of moment exchange.now) ≡ spec.asking arguments.now)
@@ -67,7 +67,7 @@ pub(crate) fn is_post(method: &[u8]) -> bool
     method == b"POST".as_slice()
 }
 
-/// Performs a request at the moment, in seconds from 1970 on, by its arguments, and answers it.
+/// Performs a request at the moment, in seconds from 1970 on, by its arguments, and returns its answer.
 pub(crate) fn perform_request<V: Versions>(
     alloc: Global,
     repo: &mut Repo,

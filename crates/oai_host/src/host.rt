@@ -32,10 +32,9 @@ use std::marker::Model;
 
 /// A host: repositories, each reached by its name, and the store that has the items of all of them.
 ///
-/// What happens at one repository cannot be seen at another: where none of the exchanges of a repository
-/// failed, and the store gives back what was written to it, what is answered there is what it alone would
-/// answer to them, whatever comes between them. The numbers under which two repositories keep their items
-/// in the store are never the same.
+/// Repositories are isolated: if none of the exchanges of a repository failed, and the store returns what was written
+/// to it, then the answers there are those that it alone would give to them, whatever comes between them. Two
+/// repositories never use the same number in the store.
 #[derive(Drop)]
 pub struct Host<V: Versions + Drop> {
     alloc: Global,
@@ -60,9 +59,9 @@ impl<V: Versions + Drop> Model for Host<V> {
 }
 
 impl<V: Versions + Drop> Host<V> {
-    /// The repositories of the configuration, each without items and sets, in the store. What grows in
-    /// them takes its memory from `alloc`. Any fault but `Damaged` may come over an honest store, and
-    /// `TooManyPages` only where the store may lack room for one call for each repository.
+    /// The repositories of the configuration, each without items and sets, in the store. What grows in them is
+    /// allocated from `alloc`. Over an honest store any fault but `Damaged` may come; `TooManyPages` only if the store
+    /// may lack room for one call for each repository.
     pub fn new(alloc: Global, config: Config, mut store: V) -> Result<Host<V>, Fault>
         ensures begun { IfOk result (λ host. host.repositories ≡ map begun config.repositories) }
         ensures honesty { IfOk result (λ host. host.honest ≡ V.honest store) }
@@ -85,16 +84,15 @@ impl<V: Versions + Drop> Host<V> {
         })
     }
 
-    /// Performs an exchange at the moment, in seconds from 1970 on, and answers it. Each fault, out of
-    /// memory too, is reported in the answer.
+    /// Performs an exchange at the moment, in seconds from 1970 on, and returns its answer, which also reports each
+    /// fault, out of memory too.
     ///
-    /// Over every store an exchange leaves all repositories but its own as they were, and one that is no
-    /// repository's is refused and leaves the host as it was. At its own repository a request moves the clock and
-    /// leaves what is held. A line of a deposit that is refused moves the clock and changes nothing else; of one
-    /// that is accepted the datestamp, the clock, the sets and the open lists are those of the change. Over a
-    /// store that gives back what was written to it, answers and states are those of the machine. What
-    /// fails leaves all as it was before that request or line, the clock included: the first `done` lines of a
-    /// deposit were performed, and no other. A fault is reported by its own status.
+    /// Over every store an exchange leaves all other repositories unchanged, and one that is no repository's is refused
+    /// and leaves the host unchanged. At its own repository a request moves the clock and leaves what is held. A line
+    /// of a deposit that is refused moves the clock and changes nothing else; for an accepted one the datestamp, the
+    /// clock, the sets and the open lists are those of the change. Over a store that returns what was written to it,
+    /// answers and states are the machine's. A request or line that fails changes nothing, the clock included: the
+    /// first `done` lines of a deposit were performed, and no other. The status of the answer reports a fault.
     pub fn exchange(&mut self, moment: i64, exchange: &Exchange<'_>) -> Answer
         ensures { IsExchanged (call_of moment exchange.now) result self.old self.new }
     {
@@ -107,9 +105,9 @@ impl<V: Versions + Drop> Host<V> {
         }
     }
 
-    /// Performs again, at the moment, in seconds from 1970 on, what was performed before, as `exchange` does, and makes
-    /// no answer. The error is the fault that ended it. Where no repository has the name, nothing is done, and the
-    /// error is `Damaged`.
+    /// Replays, at the moment, in seconds from 1970 on, what was performed before, as `exchange` performs it, and makes
+    /// no answer. The error is the fault that ended it. If no repository has the name, nothing is done, and the error
+    /// is `Damaged`.
     pub fn redo(&mut self, moment: i64, performed: &Performed<'_>) -> Result<(), Fault>
         ensures { IsRedone moment performed.now result self.old self.new }
     {
@@ -121,7 +119,7 @@ impl<V: Versions + Drop> Host<V> {
         }
     }
 
-    /// Performs an exchange as `exchange` does, and gives with the answer what of it is to be performed again.
+    /// Performs an exchange as `exchange` does, and returns with the answer what of it has to be replayed.
     fn perform_recorded<'a>(&mut self, moment: i64, exchange: &Exchange<'a>) -> Done<'a>
         ensures { IsRecorded moment exchange.now result.answer result.performed self.old self.new }
     {
@@ -140,9 +138,9 @@ impl<V: Versions + Drop> Host<V> {
         }
     }
 
-    /// Restores a part behind those that were restored before. Any fault may come, and `Damaged` where no repository has the
-    /// part's name, its bytes spell nothing, or the repository would not keep it. After a fault all repositories are as they
-    /// were.
+    /// Restores a part, after those that were restored before. Any fault may come, and `Damaged` if no repository has
+    /// the part's name, its bytes encode nothing, or it violates the repository's invariants. After a fault all
+    /// repositories are unchanged.
     pub fn restore(&mut self, part: &Part<'_>) -> Result<(), Fault>
         ensures restored { OnOk result (IsTrue self.old.honest
             → self.new.repositories ≡ restored_in self.old.repositories (as_part part.now)) }
@@ -155,9 +153,9 @@ impl<V: Versions + Drop> Host<V> {
         }
     }
 
-    /// Hands the parts of all repositories to the sink, with the number of each next list raised by so many. The
-    /// repositories stay as they are, and what was saved can be restored. The errors: `Reading` where the store fails or
-    /// memory is refused, `Numbers` where a list number would not fit in 64 bits, `Sink` where the sink takes no more.
+    /// Passes the parts of all repositories to the sink, with the number of each next list raised by that much. The
+    /// repositories are unchanged, and what was saved can be restored. The errors: `Reading` if the store fails or
+    /// memory runs out, `Numbers` if a list number would not fit in 64 bits, `Sink` if the sink takes no more.
     pub fn save<S: Sink>(&mut self, raise: u32, sink: &mut S) -> Result<(), SaveFault>
         ensures saved { OnOk result (IsTrue self.old.honest
             → Takes S.has (parts_in (ended_in raise self.old.repositories)) sink.old sink.new) }
@@ -171,8 +169,8 @@ impl<V: Versions + Drop> Host<V> {
         self.repositories.save(&mut self.store, raise, sink)
     }
 
-    /// The store. The host's repositories are what its lists stand for, and its honesty, its failures and
-    /// its room are those of the host.
+    /// The store. Its lists are the host's repositories, and its honesty, its failures and its room are those of the
+    /// host.
     pub fn versions(&self) -> &V
         ensures lists { StandFor (V.honest result.now) (V.lists result.now) self.now.repositories }
         ensures honesty { V.honest result.now ≡ self.now.honest }
@@ -182,17 +180,17 @@ impl<V: Versions + Drop> Host<V> {
         &self.store
     }
 
-    /// Performs a call, at its moment, as `exchange` does, and answers it.
+    /// Performs a call, at its moment, as `exchange` does, and returns its answer.
     fn perform(&mut self, call: &Call) -> Answer
         ensures { IsExchanged call.now result self.old self.new }
     {
         self.exchange(call.moment, &call.exchange())
     }
 
-    /// Performs exchanges, one after the other, as `exchange` does, and answers them in their order. At each
-    /// repository its own exchanges are a run, whatever comes between them; where none of them failed, and the
-    /// store gives back what was written to it, their answers are those that the repository alone gives. The
-    /// error is out of memory for the list of the answers; nothing was performed then.
+    /// Performs exchanges, one after the other, as `exchange` does, and returns their answers in order. At each
+    /// repository its own exchanges are a run, whatever comes between them; if none of them failed, and the store
+    /// returns what was written to it, their answers are those that the repository alone gives. The error is out of
+    /// memory for the list of the answers; nothing was performed then.
     pub fn run(&mut self, calls: &[Call]) -> Result<Sequence<Answer>, AllocError>
         ensures exchanged { IfOk result (λ answers. AreExchanged calls.now answers self.old self.new) }
         ensures answered { IfOk result (λ answers. AreAnswered calls.now answers self.old self.new) }
@@ -209,7 +207,7 @@ impl<V: Versions + Drop> Host<V> {
     }
 }
 
-/// What the path of the target is for, and the place and the name of the repository whose it is.
+/// The endpoint of the target, and the position and the name of its repository. The error is the status of the answer.
 fn find<'a>(
     routes: &Routes,
     repositories: &Repositories,
@@ -227,7 +225,7 @@ fn find<'a>(
     Some((endpoint, place, name.as_bytes()))
 }
 
-/// What was performed at the repository of that name, where something was.
+/// What was performed at the repository with that name, if anything was.
 fn performed_at<'a>(
     endpoint: Endpoint,
     name: &'a [u8],

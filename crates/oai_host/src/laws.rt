@@ -1,4 +1,4 @@
-//! What is true of the exchanges with a host, in a law: an empty function whose contract is the statement.
+//! A theorem on the exchanges with a host: an empty function whose contract is the statement.
 ghost use Rattle.oai_device.specs.declared.devices.TheConstants.{MAX_FAILURES};
 ghost use Rattle.oai_host.specs.Answers.{tells_of_device};
 ghost use Rattle.oai_host.specs.Hosts.{AreExchanged, HostState, IsRun};
@@ -11,10 +11,10 @@ ghost use Rattle.oai_settings.specs.Config.{Config};
 ghost use Rattle.std.specs.List.{AllByRecursion};
 ghost use Rattle.std.specs.Prelude.{IsTrue, List, filter, length, true, ◌+◌, ◌<◌, ◌≡◌, ◌≤◌};
 
-/// No more answers report a failed device than failures were counted meanwhile: of all exchanges with a host,
-/// and of those of each repository, as long as the count has not come to its last number. And over a store that
-/// gives back what was written to it, an exchange is answered that it could not be performed (RFC 9110, section
-/// 15.6.1) only with the fault that a device failed. It does nothing.
+/// At most as many answers report a failed device as failures were counted meanwhile: of all exchanges with a host, and
+/// of those of each repository, as long as the count has not saturated. And over a store that returns what was written
+/// to it, an exchange is answered 500 (RFC 9110, section 15.6.1) only with the fault that a device failed. A theorem,
+/// proved by an empty function.
 pub fn failures_law()
     ensures exchanged { (calls : List Call) (answers : List Answer) (before after : HostState)
         → AreExchanged calls answers before after → after.failures < MAX_FAILURES

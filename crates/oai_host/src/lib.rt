@@ -1,5 +1,5 @@
-//! Many repositories behind one door: which of them an exchange is for, what it is answered, and that
-//! nothing that happens at one repository is seen at another.
+//! Many repositories behind one interface: which of them an exchange is for, what its answer is, and that repositories
+//! are isolated from each other.
 #![tactic(auto)]
 
 mod deposits;

@@ -1,4 +1,4 @@
-//! What of an exchange is to be performed again, and how it is.
+//! What of an exchange has to be replayed, and its replay.
 ghost use Rattle.oai_host.specs.Answers.{failure_in};
 ghost use Rattle.oai_host.specs.Exchanged.{PerformsIn, RedoesIn};
 ghost use Rattle.oai_host.specs.Redone.{AreNoLonger, IsLeftBy, IsNoLonger, LeaveSame, LeavesAgain, LeavesBetween, task_again};
@@ -20,9 +20,8 @@ use oai_item::Fault;
 use oai_repo::Repo;
 use std::alloc::Global;
 
-/// Performs what the exchange asks of the repository, as `perform` does, and gives with the answer the bytes by
-/// which it is performed again: the arguments of a request, or the lines of a deposit. `None` where nothing has to be
-/// done again.
+/// Performs what the exchange asks of the repository, as `perform` does, and returns with the answer the bytes that
+/// replay it: the arguments of a request, or the lines of a deposit. `None` if nothing has to be replayed.
 pub(crate) fn perform_recorded<'a, V: Versions>(
     alloc: Global,
     repo: &mut Repo,
@@ -45,7 +44,7 @@ pub(crate) fn perform_recorded<'a, V: Versions>(
     (answer, bytes)
 }
 
-/// The bytes by which an exchange is performed again that was answered so, where the clock stood at `clock` before it.
+/// The bytes that replay an exchange with that answer, whose repository had the clock at `clock` before it.
 fn bytes_to_redo<'a>(
     repo: &Repo,
     clock: i64,
@@ -63,7 +62,7 @@ fn bytes_to_redo<'a>(
     }
 }
 
-/// As much of the bytes as has to be performed again, where the clock stood at `clock` before them.
+/// As much of the bytes as has to be replayed, if the clock was at `clock` before them.
 fn enough_of<'a>(repo: &Repo, clock: i64, endpoint: Endpoint, bytes: &'a [u8]) -> Option<&'a [u8]>
     ensures same { LeaveSame repo.now.config endpoint clock repo.now.clock bytes.now
         (option_copied result) }
@@ -75,8 +74,8 @@ fn enough_of<'a>(repo: &Repo, clock: i64, endpoint: Endpoint, bytes: &'a [u8]) -
     }
 }
 
-/// As much of a request as has to be performed again: all of it where it may have changed a list, a request without
-/// arguments where it moved the clock, and else nothing.
+/// As much of a request as has to be replayed: all of it if it may have changed a list, a request without arguments if
+/// it moved the clock, otherwise nothing.
 fn enough_of_request<'a>(repo: &Repo, clock: i64, arguments: &'a [u8]) -> Option<&'a [u8]>
     ensures same { LeaveSame repo.now.config Requests clock repo.now.clock arguments.now
         (option_copied result) }
@@ -91,7 +90,7 @@ fn enough_of_request<'a>(repo: &Repo, clock: i64, arguments: &'a [u8]) -> Option
     }
 }
 
-/// The lines, where there are bytes.
+/// The lines, unless they are empty.
 fn some_lines(lines: &[u8]) -> Option<&[u8]>
     ensures same { (config : Config) (was is : ℤ) → LeaveSame config Deposits was is lines.now
         (option_copied result) }
@@ -103,7 +102,7 @@ fn some_lines(lines: &[u8]) -> Option<&[u8]>
     Some(lines)
 }
 
-/// The bytes that were performed of an exchange that was answered so; `None` where nothing was.
+/// The bytes that were performed of an exchange with that answer; `None` if nothing was.
 fn bytes_done<'a>(endpoint: Endpoint, exchange: &Exchange<'a>, answer: &Answer) -> Option<&'a [u8]>
     ensures left { LeavesAgain endpoint exchange.now answer.now (option_copied result) }
     ensures size { IsNoLonger exchange.now (option_copied result) }
@@ -114,8 +113,8 @@ fn bytes_done<'a>(endpoint: Endpoint, exchange: &Exchange<'a>, answer: &Answer) 
     }
 }
 
-/// Performs again at the repository, at the moment, in seconds from 1970 on, what was performed there by these bytes:
-/// a request of these arguments, or a deposit of these lines. The error is the fault that ended it.
+/// Replays at the repository, at the moment, in seconds from 1970 on, what these bytes performed there: a request with
+/// these arguments, or a deposit of these lines. The error is the fault that ended it.
 pub(crate) fn redo<V: Versions>(
     alloc: Global,
     repo: &mut Repo,
@@ -137,7 +136,7 @@ pub(crate) fn redo<V: Versions>(
     }
 }
 
-/// Performs a request again, by its arguments, and makes no document.
+/// Replays a request, by its arguments, and makes no document.
 #[tactic(auto, using(crate::proofs::RedoLemmas::passed_in))]
 fn pass_request<V: Versions>(
     repo: &mut Repo,
@@ -152,7 +151,7 @@ fn pass_request<V: Versions>(
     repo.pass(store, moment, arguments)
 }
 
-/// Ok, or why the exchange failed that was answered so.
+/// Ok, or why the exchange with that answer failed.
 fn fault_of(answer: &Answer) -> Result<(), Fault>
     ensures { result ≡ failure_in answer.now }
 {
@@ -162,7 +161,7 @@ fn fault_of(answer: &Answer) -> Result<(), Fault>
     }
 }
 
-/// The arguments of a request that was performed; `None` where nothing was.
+/// The arguments of a request that was performed; `None` if nothing was.
 fn request_done<'a>(exchange: &Exchange<'a>, answer: &Answer) -> Option<&'a [u8]>
     ensures left { LeavesAgain Requests exchange.now answer.now (option_copied result) }
     ensures size { IsNoLonger exchange.now (option_copied result) }
@@ -176,7 +175,7 @@ fn request_done<'a>(exchange: &Exchange<'a>, answer: &Answer) -> Option<&'a [u8]
     }
 }
 
-/// The lines of a deposit that were performed, as far as they were; `None` where nothing was.
+/// The lines of a deposit that were performed; `None` if none was.
 fn lines_done<'a>(exchange: &Exchange<'a>, answer: &Answer) -> Option<&'a [u8]>
     ensures left { LeavesAgain Deposits exchange.now answer.now (option_copied result) }
     ensures size { IsNoLonger exchange.now (option_copied result) }

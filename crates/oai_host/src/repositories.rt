@@ -44,8 +44,7 @@ pub(crate) struct NamedRepo {
     pub(crate) repo: Repo,
 }
 
-/// The repositories of a host, in the order of its configuration, and an index of their names: a search
-/// takes time in the logarithm of their number.
+/// The repositories of a host, in the order of its configuration, and an index of their names: a look-up is O(log n).
 #[derive(Drop)]
 pub(crate) struct Repositories {
     alloc: Global,
@@ -68,7 +67,7 @@ impl Model for Repositories {
 }
 
 impl Repositories {
-    /// No repository. It takes no memory.
+    /// No repository. Allocates nothing.
     pub(crate) fn new(alloc: Global) -> Repositories
         ensures { result ≡ [] }
     {
@@ -79,14 +78,14 @@ impl Repositories {
         }
     }
 
-    /// The place of the repository of that name, if there is one.
+    /// The position of the repository with that name, if there is one.
     pub(crate) fn place_of(&self, name: &str) -> Option<usize>
         ensures { result ≡ place_in (repo_names self.now) name.now }
     {
         self.places.get(name).copied()
     }
 
-    /// The place of the repository of that name, which may be any bytes, if there is one.
+    /// The position of the repository with that name, which may be any bytes, if there is one.
     pub(crate) fn place_named(&self, name: &[u8]) -> Option<usize>
         requires { list_all is_repository_name (repo_names self.now) ≡ true }
         ensures { result ≡ place_in (repo_names self.now) name.now }
@@ -97,7 +96,7 @@ impl Repositories {
         }
     }
 
-    /// Adds a repository that begins, in a new version of the store. Any fault may come.
+    /// Adds an empty repository, in a new version of the store. Any fault may come.
     pub(crate) fn begin<V: Versions>(
         &mut self,
         entry: NamedConfig,
@@ -117,8 +116,7 @@ impl Repositories {
         Ok(())
     }
 
-    /// Adds a repository under a name that none has. What may fail comes before the first change that
-    /// shows.
+    /// Adds a repository under a new name. All that may fail comes before the first visible change.
     fn add(&mut self, one: NamedRepo) -> Result<(), AllocError>
         requires { list_any (bytes_eq one.name) (repo_names self.old) ≡ false }
         ensures ok { OnOk result (self.new ≡ self.old ++ one ∷ []) }
@@ -131,7 +129,7 @@ impl Repositories {
         Ok(())
     }
 
-    /// Performs an exchange of the repository at the place, at the moment, in seconds from 1970 on.
+    /// Performs an exchange of the repository at the position, at the moment, in seconds from 1970 on.
     pub(crate) fn perform<V: Versions>(
         &mut self,
         store: &mut V,
@@ -153,8 +151,8 @@ impl Repositories {
         perform(self.alloc, repo, store, moment, endpoint, exchange)
     }
 
-    /// Performs an exchange of the repository at the place as `perform` does, and gives with the answer the bytes by
-    /// which it is performed again; `None` where nothing has to be.
+    /// Performs an exchange of the repository at the position as `perform` does, and returns with the answer the bytes
+    /// that replay it; `None` if nothing has to be replayed.
     pub(crate) fn perform_recorded<'a, V: Versions>(
         &mut self,
         store: &mut V,
@@ -182,8 +180,8 @@ impl Repositories {
         perform_recorded(self.alloc, own, store, moment, endpoint, exchange)
     }
 
-    /// Performs again, at the repository at the place and at the moment, in seconds from 1970 on, what was performed.
-    /// The error is the fault that ended it.
+    /// Replays, at the repository at the position and at the moment, in seconds from 1970 on, what was performed. The
+    /// error is the fault that ended it.
     pub(crate) fn redo<V: Versions>(
         &mut self,
         store: &mut V,
@@ -210,7 +208,7 @@ impl Repositories {
         )
     }
 
-    /// Restores a part at the repository at the place. `Damaged` where the part does not fit; any other fault may come.
+    /// Restores a part at the repository at the position. `Damaged` if the part does not fit; any other fault may come.
     pub(crate) fn restore<V: Versions>(
         &mut self,
         store: &mut V,
@@ -231,7 +229,7 @@ impl Repositories {
         restore(self.alloc, own, store, part)
     }
 
-    /// Hands all parts to the sink, with the number of each next list raised by so many.
+    /// Passes all parts to the sink, with the number of each next list raised by that much.
     pub(crate) fn save<V: Versions, S: Sink>(
         &self,
         store: &mut V,
@@ -251,7 +249,7 @@ impl Repositories {
     }
 }
 
-/// Notes the place under the name.
+/// Adds the position to the index under the name.
 fn note_place(
     alloc: Global,
     places: &mut BTreeMap<String, usize>,

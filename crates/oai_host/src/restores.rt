@@ -15,8 +15,8 @@ use oai_names::{NameFault, SetSpec};
 use oai_repo::{Repo, SavedPart};
 use std::alloc::Global;
 
-/// Restores a part at the repository. `Damaged` where the part spells nothing, or the repository would not keep it. Any
-/// other fault may come. After a fault everything is as it was.
+/// Restores a part at the repository. `Damaged` if the part encodes nothing, or violates the repository's invariants.
+/// Any other fault may come. After a fault everything is unchanged.
 pub(crate) fn restore<V: Versions>(
     alloc: Global,
     repo: &mut Repo,
@@ -33,7 +33,7 @@ pub(crate) fn restore<V: Versions>(
     }
 }
 
-/// Restores that the repository begins.
+/// Restores the part that begins the repository.
 fn restore_begin<V: Versions>(repo: &mut Repo, store: &mut V, part: &Part<'_>) -> Result<(), Fault>
     requires kind { part.now.kind ≡ kind.Begin }
     requires owns { Owns (V.honest store.old) repo.old (V.lists store.old) }
@@ -82,7 +82,7 @@ fn restore_item<V: Versions>(
     repo.restore(store, &SavedPart::HasItem { item: &item })
 }
 
-/// The number below 2^64 that is spelled so, decimal without leading zeros.
+/// The number below 2^64 that the bytes spell, decimal without leading zeros.
 fn number_in(bytes: &[u8]) -> Option<u64>
     ensures { IfSome result (λ n. bytes.now ≡ decimal n) }
 {
@@ -96,7 +96,7 @@ fn number_in(bytes: &[u8]) -> Option<u64>
     }
 }
 
-/// The setSpec and the name of the set that is spelled so: what stands in front of the first space, and what is behind it.
+/// The setSpec and the name of the encoded set: what precedes the first space, and what follows it.
 fn set_in(bytes: &[u8]) -> Option<(&str, &str)>
     ensures { IfSome result (λ set. bytes.now ≡ set.0.now ++ 32 ∷ set.1.now) }
 {
@@ -106,7 +106,7 @@ fn set_in(bytes: &[u8]) -> Option<(&str, &str)>
     }
 }
 
-/// The setSpec of that text; `Damaged` where it is none, and `NoMemory`.
+/// The setSpec of that text. The errors: `Damaged` if it is none, and `NoMemory`.
 fn spec_in(alloc: Global, text: &str) -> Result<SetSpec, Fault>
     ensures text { IfOk result (λ spec. spec ≡ text.now) }
     ensures name { IfOk result (λ spec. may_be_set_spec spec ≡ true) }
@@ -118,7 +118,7 @@ fn spec_in(alloc: Global, text: &str) -> Result<SetSpec, Fault>
     }
 }
 
-/// The item that is spelled so; `Damaged` where none is, and `NoMemory`.
+/// The item that the bytes encode. The errors: `Damaged` if there is none, and `NoMemory`.
 fn item_in(alloc: Global, bytes: &[u8]) -> Result<Item, Fault>
     ensures { IfOk result (λ item. Spells bytes.now item) }
 {

@@ -1,4 +1,4 @@
-//! Where a target leads.
+//! Routes of targets.
 ghost use Rattle.std.specs.Prelude.{◌≡◌, ◌++◌, ℕ, List, true, IfSome, MatchOption};
 ghost use Rattle.oai_settings.specs.Config.{is_repository_name};
 ghost use Rattle.oai_host.specs.Rows.{both_rows};
@@ -8,7 +8,7 @@ use matchit::Router;
 use oai_http::Endpoint;
 use std::alloc::{AllocError, Global};
 
-/// The paths of repositories: one of the two fronts, and then a name.
+/// The paths of repositories: one of the two prefixes, then a name.
 #[derive(Drop)]
 pub(crate) struct Routes {
     router: Router<Endpoint>,
@@ -28,8 +28,7 @@ impl Routes {
         Ok(Routes { router })
     }
 
-    /// What the path is for, and the name that it ends with, byte for byte; `None` where it is no path of a
-    /// repository.
+    /// The endpoint of the path, and the name at its end, byte for byte; `None` if it is no path of a repository.
     pub(crate) fn find<'a>(&self, path: &'a [u8]) -> Option<(Endpoint, &'a str)>
         ensures found { IfSome result (λ route. path.now ≡ spec.front_of route.0 ++ route.1.now) }
         ensures only { (endpoint : Endpoint) (name : List ℕ) → is_repository_name name ≡ true
@@ -42,8 +41,7 @@ impl Routes {
         }
     }
 
-    /// What a path that is a text is for, and the name that it ends with; `None` where it is no path of a
-    /// repository.
+    /// The endpoint of a path in UTF-8, and the name at its end; `None` if it is no path of a repository.
     fn find_text<'a>(&self, path: &'a str) -> Option<(Endpoint, &'a str)>
         ensures found { IfSome result (λ route. path.now ≡ spec.front_of route.0 ++ route.1.now) }
         ensures only { (endpoint : Endpoint) (name : List ℕ) → is_repository_name name ≡ true

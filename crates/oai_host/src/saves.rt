@@ -22,7 +22,7 @@ use std::alloc::{AllocError, Global};
 /// How many items are read at once.
 const PIECE: usize = 256;
 
-/// Hands the parts of a repository to the sink, with the number of its next list raised by so many.
+/// Passes the parts of a repository to the sink, with the number of its next list raised by that much.
 pub(crate) fn save<V: Versions, S: Sink>(
     alloc: Global,
     one: &NamedRepo,
@@ -42,7 +42,7 @@ pub(crate) fn save<V: Versions, S: Sink>(
     save_items(alloc, &one.repo, name, store, sink)
 }
 
-/// Hands over that the repository begins.
+/// Passes the part that begins the repository.
 fn save_beginning<S: Sink>(
     repo: &Repo,
     name: &[u8],
@@ -65,7 +65,7 @@ fn save_beginning<S: Sink>(
     put(sink, &part)
 }
 
-/// Hands over the sets, in order of addition.
+/// Passes the sets, in order of addition.
 fn save_sets<S: Sink>(
     alloc: Global,
     repo: &Repo,
@@ -81,7 +81,7 @@ fn save_sets<S: Sink>(
     Ok(())
 }
 
-/// Hands over a set.
+/// Passes a set.
 fn save_set<S: Sink>(
     alloc: Global,
     clock: i64,
@@ -104,7 +104,7 @@ fn save_set<S: Sink>(
     put(sink, &part)
 }
 
-/// A set as it is spelled. The error is out of memory.
+/// An encoded set. The error is out of memory.
 fn spelled_set(alloc: Global, spec: &str, name: &str) -> Result<Sequence<u8>, AllocError>
     ensures { IfOk result (λ bytes. bytes ≡ spec.now ++ 32 ∷ name.now) }
 {
@@ -115,7 +115,7 @@ fn spelled_set(alloc: Global, spec: &str, name: &str) -> Result<Sequence<u8>, Al
     Ok(Sequence::new(bytes))
 }
 
-/// Hands over the items, in their order. They are read in pieces, so memory is taken for a few hundred at a time.
+/// Passes the items, in their order. They are read in batches, so a few hundred are in memory at a time.
 fn save_items<V: Versions, S: Sink>(
     alloc: Global,
     repo: &Repo,
@@ -145,8 +145,8 @@ fn save_items<V: Versions, S: Sink>(
     Ok(())
 }
 
-/// How many items of `most` were read with a piece of so many, where `some` were asked for behind the first `start`: all where it
-/// is shorter, since none stands behind it.
+/// How many items of `most` are read after a batch of `read` items, when `some` were requested after the first `start`:
+/// all if the batch is shorter, since none follows.
 fn after_piece(start: usize, some: usize, read: usize, most: usize) -> usize
     requires { start + some ≤ most }
     ensures read { result ≡ (if nat_lt read some then most else start + some) }
@@ -156,14 +156,14 @@ fn after_piece(start: usize, some: usize, read: usize, most: usize) -> usize
     if read < some { most } else { start + some }
 }
 
-/// The last of the items, where there are any.
+/// The last of the items, if there are any.
 fn last_of(items: Sequence<Item>) -> Option<Item>
     ensures { (d : ItemState) → 0 < length items → result ≡ Some (get_or items (length items - 1) d) }
 {
     items.into_vec().pop()
 }
 
-/// Hands over items.
+/// Passes items.
 fn save_piece<S: Sink>(
     alloc: Global,
     items: &[Item],
@@ -178,7 +178,7 @@ fn save_piece<S: Sink>(
     Ok(())
 }
 
-/// Hands over an item.
+/// Passes an item.
 fn save_item<S: Sink>(
     alloc: Global,
     item: &Item,
@@ -200,7 +200,7 @@ fn save_item<S: Sink>(
     put(sink, &part)
 }
 
-/// An item as it is spelled in a store. `Damaged` where that is too long, and `NoMemory`.
+/// An item, encoded as a store does. The errors: `Damaged` if that is too long, and `NoMemory`.
 fn spelled_item(alloc: Global, item: &Item) -> Result<Sequence<u8>, Fault>
     ensures bytes { IfOk result (λ bytes. bytes ≡ encoded item.now) }
     ensures spells { IfOk result (λ bytes. Spells (encoded item.now) item.now) }
@@ -215,7 +215,7 @@ fn spelled_item(alloc: Global, item: &Item) -> Result<Sequence<u8>, Fault>
     }
 }
 
-/// Hands over a part.
+/// Passes a part.
 fn put<S: Sink>(sink: &mut S, part: &Part<'_>) -> Result<(), SaveFault>
     ensures { OnOk result (Takes S.has (as_part part.now ∷ []) sink.old sink.new) }
 {

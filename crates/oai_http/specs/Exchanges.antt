@@ -1,4 +1,4 @@
--- What is asked, as plain data: this repository's own words.
+-- Requests as plain data: this repository's own words.
 use Rattle.std.specs.Prelude.{ℕ, ℤ, List, Option}
 use Rattle.std.specs.Option.{option_copied}
 use Rattle.oai_http.specs.declared.exchanges.Call.{Call}

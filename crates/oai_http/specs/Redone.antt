@@ -1,4 +1,4 @@
--- Exchanges that are performed again, by what a handler keeps: this repository's own.
+-- Exchanges that are replayed, in terms of a handler's state: this repository's own.
 use Rattle.std.specs.Prelude.{ℕ, ℤ, Bool, ◌&&◌, nat_le, List, [], ◌∷◌, ◌++◌, codes, length, take, Option, None, Some}
 use Rattle.std.specs.List.{list_all}
 use Rattle.oai_http.specs.Targets.{front_of}
@@ -7,11 +7,11 @@ use Rattle.oai_http.specs.declared.handlers.Performed.{Performed}
 use Rattle.oai_http.specs.declared.targets.Endpoint.{Endpoint}
 use Rattle.oai_http.specs.declared.targets.Endpoint.TheVariants.{Deposits, Requests}
 
--- the call with the first bytes of its body, so many
+-- the call with that many of the first bytes of its body
 abbrev pub call_front : Call → ℕ → Call
 call_front call size = record call { body = take size call.body }
 
--- a name of at most 32 ASCII characters that can be seen
+-- a name of at most 32 visible ASCII characters
 abbrev pub is_short_name : List ℕ → Bool
 is_short_name name = list_all (λ (b : ℕ). nat_le 33 b && nat_le b 126) name && nat_le (length name) 32
 
@@ -35,7 +35,7 @@ own_call moment Deposits name lines = record {
 abbrev pub call_again : ℤ → Performed → Call
 call_again moment performed = own_call moment performed.endpoint performed.name.now performed.bytes.now
 
--- what is left by what was performed, or by nothing
+-- the state after replaying what was performed, or nothing
 abbrev pub left_again : {K : Type 0} → (K → Call → K) → K → ℤ → Option Performed → K
 left_again redone kept moment None = kept
 left_again redone kept moment (Some performed) = redone kept (call_again moment performed)

@@ -15,7 +15,7 @@ number_of status.InternalServerError = 500
 number_of status.NotImplemented = 501
 number_of status.ServiceUnavailable = 503
 
--- the words that go with it
+-- its reason phrase
 abbrev pub phrase_of : Status → List ℕ
 phrase_of status.Ok = codes "OK"
 phrase_of status.BadRequest = codes "Bad Request"

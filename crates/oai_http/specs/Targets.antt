@@ -1,4 +1,5 @@
--- Where a target leads: RFC 3986, sections 3.3 and 3.4; RFC 9112, section 3.2.1. The two paths of a repository are this repository's own.
+-- The endpoint of a target: RFC 3986, sections 3.3 and 3.4; RFC 9112, section 3.2.1. The two paths of a repository are
+-- this repository's own.
 use Rattle.std.specs.Prelude.{ℕ, Bool, ◌==◌, ◌||◌, if◌then◌else◌, List, ◌++◌, take, codes, Option, None, Some}
 use Rattle.std.specs.List.{after_first, before_first}
 use Rattle.std.specs.Str.{bytes_eq}
@@ -13,7 +14,7 @@ is_question_mark b = b == 63
 abbrev pub path_of : List ℕ → List ℕ
 path_of target = before_first is_question_mark target
 
--- the query: the bytes behind it
+-- the query: the bytes after it
 abbrev pub query_of : List ℕ → List ℕ
 query_of target = after_first is_question_mark target
 
@@ -21,19 +22,19 @@ query_of target = after_first is_question_mark target
 abbrev pub is_rooted : List ℕ → Bool
 is_rooted target = bytes_eq (take 1 target) (codes "/")
 
--- what stands before the name of a repository, in the path of its requests and in that of its deposits
+-- the path up to the name of a repository, for its requests and for its deposits
 abbrev pub front_of : Endpoint → List ℕ
 front_of Requests = codes "/oai/"
 front_of Deposits = codes "/deposit/"
 
--- what a path is for, by how it begins
+-- the endpoint of a path, by how it begins
 abbrev pub endpoint_at : List ℕ → Option Endpoint
 endpoint_at path =
     if bytes_eq (take 5 path) (front_of Requests) then Some Requests
     else (if bytes_eq (take 9 path) (front_of Deposits) then Some Deposits
     else None)
 
--- what a target is for, by how its path begins
+-- the endpoint of a target, by how its path begins
 abbrev pub endpoint_of : List ℕ → Option Endpoint
 endpoint_of target = endpoint_at (path_of target)
 
@@ -41,6 +42,6 @@ endpoint_of target = endpoint_at (path_of target)
 abbrev pub leads_to : Endpoint → List ℕ → List ℕ → Bool
 leads_to endpoint name target = bytes_eq (path_of target) (front_of endpoint ++ name)
 
--- it is one of the two
+-- it leads to one of the two endpoints
 abbrev pub leads_to_repository : List ℕ → List ℕ → Bool
 leads_to_repository name target = leads_to Requests name target || leads_to Deposits name target

@@ -1,11 +1,11 @@
-//! Where bytes stand, and bytes that are written.
+//! Searching, trimming and writing bytes.
 ghost use Rattle.std.specs.Prelude.{◌≡◌, ◌≤◌, ◌+◌, ◌++◌, length, vec_len, vec_capacity};
 ghost use Rattle.std.specs.List.{position_or_len};
 ghost use Rattle.memchr.specs.Find.{is_byte};
 
 use memchr::memchr;
 
-/// How many bytes of the text stand before the first that is that byte; all of them where none is.
+/// The number of bytes of the text before the first occurrence of that byte; all of them if there is none.
 pub fn len_before(byte: u8, text: &[u8]) -> usize
     ensures length { result ≡ position_or_len (is_byte byte) text.now }
     ensures within { result ≤ length text.now }
@@ -13,7 +13,7 @@ pub fn len_before(byte: u8, text: &[u8]) -> usize
     memchr(byte, text).unwrap_or(text.len())
 }
 
-/// Writes the bytes at the end of `out`, into room that is there.
+/// Appends the bytes to `out`, which must have the spare capacity.
 pub fn put(bytes: &[u8], out: &mut Vec<u8>)
     requires { vec_len out.old + length bytes.now ≤ vec_capacity out.old }
     ensures items { out.new.items ≡ out.old.items ++ bytes.now }

@@ -1,4 +1,4 @@
-//! What is asked, and what is answered.
+//! Requests and their answers: what is asked, and what is answered.
 ghost use Rattle.std.specs.Prelude.{◌≡◌};
 ghost use Rattle.oai_http.specs.Answers as spec;
 ghost use Rattle.oai_http.specs.Exchanges.{call_of};
@@ -8,50 +8,50 @@ use oai_item::Fault;
 use oai_names::Sequence;
 use std::alloc::Global;
 
-/// The seconds after which an exchange may be made again for which there was no room.
+/// The seconds after which an exchange may be repeated that ran out of memory or pages.
 const ROOM_SECONDS: i64 = 60;
 
-/// A message and what it asks for, without the moment at which it comes.
+/// A message, without the moment at which it comes.
 #[derive(Clone, Copy, Debug)]
 pub struct Exchange<'a> {
-    /// The method, as `GET`.
+    /// The method, such as `GET`.
     pub method: &'a [u8],
-    /// The target, as `/oai/a?verb=Identify`.
+    /// The target, such as `/oai/a?verb=Identify`.
     pub target: &'a [u8],
     /// The value of the field Content-Type, if there is one.
     pub content_type: Option<&'a [u8]>,
-    /// The body, empty where there is none.
+    /// The body, empty if there is none.
     pub body: &'a [u8],
 }
 
 /// An exchange that owns its bytes, and the moment at which it comes.
 #[derive(Debug, Drop)]
 pub struct Call {
-    /// The moment, in seconds from 1970 on; any may come, also one before those of earlier calls.
+    /// The moment, in seconds from 1970 on; it may also lie before those of earlier calls.
     pub moment: i64,
-    /// The method, as `GET`.
+    /// The method, such as `GET`.
     pub method: Sequence<u8>,
-    /// The target, as `/oai/a?verb=Identify`.
+    /// The target, such as `/oai/a?verb=Identify`.
     pub target: Sequence<u8>,
     /// The value of the field Content-Type, if there is one.
     pub content_type: Option<Sequence<u8>>,
-    /// The body, empty where there is none.
+    /// The body, empty if there is none.
     pub body: Sequence<u8>,
 }
 
-/// What an exchange is answered.
+/// The answer to an exchange.
 #[derive(Debug, Drop)]
 pub struct Answer {
     /// The status.
     pub status: Status,
-    /// With `ServiceUnavailable` the seconds, from 1 on, after which the exchange may be made again.
+    /// With `ServiceUnavailable` the seconds, at least 1, after which the exchange may be repeated (Retry-After).
     pub seconds: Option<i64>,
-    /// Of a deposit that failed, the number of its lines that were done.
+    /// For a deposit that failed, the number of its lines that were done.
     pub done: Option<u64>,
-    /// The body; empty but with `Ok`.
+    /// The body; empty unless the status is `Ok`.
     pub body: Sequence<u8>,
-    /// Why the exchange failed. It is there with `InternalServerError`, and with a `ServiceUnavailable`
-    /// where memory or pages run out.
+    /// Why the exchange failed. Present with `InternalServerError`, and with a `ServiceUnavailable` that is due to
+    /// memory or pages.
     pub fault: Option<Fault>,
 }
 
@@ -73,7 +73,7 @@ impl Call {
 }
 
 impl Answer {
-    /// A status and nothing else. It takes no memory.
+    /// A status and nothing else. Allocates nothing.
     pub fn of_status(alloc: Global, status: Status) -> Answer
         ensures { result ≡ spec.answered status }
     {
@@ -99,7 +99,7 @@ impl Answer {
         }
     }
 
-    /// The exchange may be made again after so many seconds. It takes no memory.
+    /// The exchange may be repeated after that many seconds. Allocates nothing.
     pub fn to_wait(alloc: Global, seconds: i64) -> Answer
         ensures { result ≡ spec.asked_to_wait seconds }
     {
@@ -109,8 +109,7 @@ impl Answer {
         }
     }
 
-    /// The exchange failed; of a deposit, with the number of its lines that were done. It takes no
-    /// memory.
+    /// The exchange failed; for a deposit, with the number of its lines that were done. Allocates nothing.
     pub fn of_fault(alloc: Global, fault: Fault, done: Option<u64>) -> Answer
         ensures { result ≡ spec.failed fault done }
     {

@@ -17,59 +17,58 @@ use thiserror::Error;
 #[error("what was performed could not be made durable")]
 pub struct SettleFault;
 
-/// What performs the messages of connections.
+/// Performs the messages of connections.
 pub trait Handler {
-    /// What may be answered at a moment, in seconds from 1970 on, to what is asked, and what the handler
-    /// then is.
+    /// What may be answered at a moment, in seconds from 1970 on, to what is asked, and what the handler then is.
     ghost step: { Self → ℤ → Asked → Given → Self → Type 0 };
 
-    /// Performs a message at the moment, in seconds from 1970 on, and answers it. Out of memory and other
-    /// faults stand in the answer.
+    /// Performs a message at the moment, in seconds from 1970 on, and returns its answer, which also reports out of
+    /// memory and other faults.
     fn exchange(&mut self, moment: i64, exchange: &Exchange<'_>) -> Answer
         ensures { step self.old moment (asked_by exchange.now) result self.new };
 }
 
-/// What was performed at a repository, as it can be performed again.
+/// What was performed at a repository, in a form that can be replayed.
 #[derive(Clone, Copy, Debug)]
 pub struct Performed<'a> {
     /// A request, or a deposit.
     pub endpoint: Endpoint,
     /// The name of the repository.
     pub name: &'a [u8],
-    /// The arguments of the request, still encoded; or the lines of the deposit. A request without arguments moves
-    /// the clock of the repository and does nothing else.
+    /// The arguments of the request, still encoded; or the lines of the deposit. A request without arguments only moves
+    /// the clock of the repository.
     pub bytes: &'a [u8],
 }
 
-/// An answer, and what was performed for it; `None` where nothing was that leaves a trace.
+/// An answer, and what was performed for it; `None` if nothing was that changes the state.
 #[derive(Debug, Drop)]
 pub struct Done<'a> {
     /// The answer.
     pub answer: Answer,
-    /// What is to be performed again, so that the handler is what it is now.
+    /// What to replay so that the handler gets to its present state.
     pub performed: Option<Performed<'a>>,
 }
 
-/// A handler whose exchanges can be performed again, so that it is what it was.
+/// A handler whose exchanges can be replayed, which restores its state.
 pub trait Replayed: Handler {
-    /// What a handler keeps from one exchange to the next.
+    /// The state that a handler keeps from one exchange to the next.
     ghost Kept: { Type 0 };
 
-    /// That of this handler.
+    /// The state of this handler.
     ghost kept: { Self → Kept };
 
-    /// Whether its device gives back what was written to it.
+    /// Whether its device returns what was written to it.
     ghost is_honest: { Self → Bool };
 
-    /// What a call leaves.
+    /// The state after a call.
     ghost redone: { Kept → Calls → Kept };
 
-    /// What a call is answered.
+    /// The answer to a call.
     ghost reply: { Kept → Calls → Given };
 
-    /// Performs a message as `exchange` does, and gives what of it is to be performed again: a request, or a deposit
-    /// of its first lines, as many as were done; nothing where nothing was done, which is all that a request leaves
-    /// that failed. What the message left is what that leaves.
+    /// Performs a message as `exchange` does, and returns with the answer what of it has to be replayed: a request; a
+    /// deposit of its first lines, as many as were done; or nothing if nothing was done, as by a request that failed.
+    /// The message left the state that the replay leaves.
     fn perform<'a>(&mut self, moment: i64, exchange: &Exchange<'a>) -> Done<'a>
         ensures step { Self.step self.old moment (asked_by exchange.now) result.answer self.new }
         ensures left { IsTrue (is_honest self.old)
@@ -83,33 +82,33 @@ pub trait Replayed: Handler {
             ≤ max (length exchange.now.target.now) (length exchange.now.body.now)) }
         ensures honesty { is_honest self.new ≡ is_honest self.old };
 
-    /// Performs again, at the moment, in seconds from 1970 on, what was performed, and makes no answer. The error is
-    /// the fault that ended it.
+    /// Replays, at the moment, in seconds from 1970 on, what was performed, and makes no answer. The error is the fault
+    /// that ended it.
     fn redo(&mut self, moment: i64, performed: &Performed<'_>) -> Result<(), Fault>
         ensures redone { OnOk result (IsTrue (is_honest self.old)
             → kept self.new ≡ redone (kept self.old) (call_again moment performed.now)) }
         ensures honesty { is_honest self.new ≡ is_honest self.old };
 
-    /// What is kept once a part was restored behind those before it.
+    /// The state after a part was restored, after those before it.
     ghost restored: { Kept → PartState → Kept };
 
-    /// The parts of what is kept, in the order in which they can be restored; open lists have none.
+    /// The parts of the state, in the order in which they can be restored; open lists have none.
     ghost parts: { Kept → List PartState };
 
-    /// What is kept, with no list open, and with the number of each next list raised by so many.
+    /// The state with all lists ended, and with the number of each next list raised by that much.
     ghost ended: { ℕ → Kept → Kept };
 
-    /// What a handler of the same repositories keeps as it begins.
+    /// The initial state of a handler of the same repositories.
     ghost emptied: { Kept → Kept };
 
-    /// Restores a part behind those that were restored before. Any fault may come, and `Damaged` where the part does not fit: no
-    /// repository has its name, its bytes spell nothing, or the repository would not keep it.
+    /// Restores a part, after those that were restored before. Any fault may come, and `Damaged` if the part does not
+    /// fit: no repository has its name, its bytes encode nothing, or it violates the repository's invariants.
     fn restore(&mut self, part: &Part<'_>) -> Result<(), Fault>
         ensures restored { OnOk result (IsTrue (is_honest self.old)
             → kept self.new ≡ restored (kept self.old) (as_part part.now)) }
         ensures honesty { is_honest self.new ≡ is_honest self.old };
 
-    /// Hands all parts to the sink, with the number of each next list raised by so many. The handler keeps what it kept, and
+    /// Passes all parts to the sink, with the number of each next list raised by that much. The state is unchanged, and
     /// what was saved can be restored.
     fn save<S: Sink>(&mut self, raise: u32, sink: &mut S) -> Result<(), SaveFault>
         ensures saved { OnOk result (IsTrue (is_honest self.old) → (before : List PartState) → S.has sink.old before
@@ -120,20 +119,20 @@ pub trait Replayed: Handler {
         ensures same { kept self.new ≡ kept self.old }
         ensures honesty { is_honest self.new ≡ is_honest self.old };
 
-    /// A call leaves the repositories.
+    /// A call keeps the repositories.
     ghost same_redone: { (state : Kept) (call : Calls) → emptied (redone state call) ≡ emptied state };
 
-    /// A part that is restored leaves the repositories.
+    /// Restoring a part keeps the repositories.
     ghost same_restored: { (state : Kept) (part : PartState) → emptied (restored state part) ≡ emptied state };
 }
 
-/// A handler whose answers stand only once it has settled.
+/// A handler whose answers may be sent only after it has settled (group commit).
 pub trait Settled: Handler {
     /// What settling may return, and what the handler then is.
     ghost settled: { Self → Result Unit Unsettled → Self → Type 0 };
 
-    /// Makes all that was performed durable, so that the answers may leave. After an error none of those
-    /// that were given since the last settling that was Ok may leave.
+    /// Makes all that was performed durable, so that the answers may be sent. After an error, none of the answers since
+    /// the last settling that was Ok may be sent.
     fn settle(&mut self) -> Result<(), SettleFault>
         ensures { settled self.old result self.new };
 }

@@ -1,5 +1,5 @@
-//! What is asked over HTTP and what is answered: exchanges and their statuses, where a target leads, the type
-//! of a body, what performs messages, and where bytes stand and are written.
+//! Requests over HTTP and their answers: exchanges and their statuses, the endpoint of a target, the media type of a
+//! body, the traits of what performs messages, and helpers for bytes.
 #![tactic(auto)]
 
 mod bodies;

@@ -4,21 +4,21 @@ ghost use Rattle.oai_http.specs.Parts.{PartState, as_part};
 use oai_item::Fault;
 use thiserror::Error;
 
-/// What a part of what a handler keeps is about.
+/// What kind of part of a handler's state it is.
 #[derive(Clone, Copy, Debug, PartialEq, Eq)]
 pub enum PartKind {
     /// A repository begins: its clock, and the number of its next list.
     Begin,
     /// A set: its setSpec, a space, its name.
     Set,
-    /// An item, as it is spelled in a store.
+    /// An item, encoded as a store does.
     Item,
 }
 
-/// A part of what a handler keeps. Its parts in their order make the whole, but for the open lists.
+/// A part of a handler's state. The parts in their order make up the whole state, except for the open lists.
 #[derive(Clone, Copy, Debug)]
 pub struct Part<'a> {
-    /// What it is about.
+    /// Its kind.
     pub kind: PartKind,
     /// The datestamp of an item, or else the clock of the repository, in seconds from 1970 on.
     pub moment: i64,
@@ -28,14 +28,14 @@ pub struct Part<'a> {
     pub bytes: &'a [u8],
 }
 
-/// It cannot take more parts.
+/// The sink cannot take more parts.
 #[derive(Clone, Copy, Debug, PartialEq, Eq, Error)]
 #[error("no further part can be taken")]
 pub struct SinkFault;
 
-/// What takes parts, one behind the other.
+/// Takes parts, one after the other.
 pub trait Sink {
-    /// These were taken.
+    /// The parts that it has taken.
     ghost has: { Self → List PartState → Type 0 };
 
     /// Takes a part.
@@ -47,13 +47,13 @@ pub trait Sink {
 /// Why not all parts were saved.
 #[derive(Clone, Copy, Debug, PartialEq, Eq, Error)]
 pub enum SaveFault {
-    /// They could not be read.
+    /// Reading them failed.
     #[error("{0}")]
     Reading(Fault),
     /// A list number would not fit in 64 bits.
     #[error("no list number is left")]
     Numbers,
-    /// The sink could not take one.
+    /// The sink did not take one.
     #[error("{0}")]
     Sink(SinkFault),
 }

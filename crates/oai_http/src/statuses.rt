@@ -6,21 +6,21 @@ ghost use Rattle.oai_http.specs.Statuses as spec;
 pub enum Status {
     /// The exchange was performed, and the body is its answer.
     Ok,
-    /// The message, or its target, is none that can be read.
+    /// The message, or its target, is malformed.
     BadRequest,
-    /// No repository is there.
+    /// No repository has that path.
     NotFound,
-    /// The target does not take the method.
+    /// The target does not allow the method.
     MethodNotAllowed,
-    /// The body is longer than is taken.
+    /// The body is longer than the limit.
     ContentTooLarge,
-    /// The body is of another type than is taken.
+    /// The body has another media type than the target takes.
     UnsupportedMediaType,
-    /// The exchange could not be performed.
+    /// The exchange failed.
     InternalServerError,
-    /// The message uses what is not supported.
+    /// The message needs a feature that is not supported.
     NotImplemented,
-    /// The exchange can not be performed now.
+    /// The exchange cannot be performed now.
     ServiceUnavailable,
 }
 
@@ -42,7 +42,7 @@ impl Status {
         }
     }
 
-    /// The words that go with the number.
+    /// The reason phrase of the number.
     pub fn phrase(self) -> &'static str
         ensures { result.now ≡ spec.phrase_of self }
     {

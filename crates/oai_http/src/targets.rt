@@ -1,17 +1,17 @@
-//! Where a target leads.
+//! The endpoint that a target leads to.
 ghost use Rattle.std.specs.Option.{IfNone};
 ghost use Rattle.std.specs.Prelude.{◌≡◌, ◌++◌, ℕ, IfSome, List, true, None, Some};
 ghost use Rattle.oai_http.specs.Targets as spec;
 
 use crate::bytes::len_before;
 
-/// What stands before the name of a repository in the path of its requests.
+/// The path of a repository's requests, up to its name.
 pub const REQUESTS_FRONT: &str = "/oai/";
 
-/// What stands before the name of a repository in the path of its deposits.
+/// The path of a repository's deposits, up to its name.
 pub const DEPOSITS_FRONT: &str = "/deposit/";
 
-/// What a target is for.
+/// The endpoint of a target.
 #[derive(Clone, Copy, Debug, PartialEq, Eq)]
 pub enum Endpoint {
     /// The requests of a repository: the path begins with `/oai/`.
@@ -20,8 +20,8 @@ pub enum Endpoint {
     Deposits,
 }
 
-/// What the target is for, by how its path begins, whether its repository is there or not; `None` where it
-/// begins in neither way.
+/// The endpoint of the target, by how its path begins, whether or not its repository exists; `None` if it begins in
+/// neither way.
 pub fn endpoint_of(target: &[u8]) -> Option<Endpoint>
     ensures { result ≡ spec.endpoint_of target.now }
 {
@@ -35,8 +35,8 @@ pub fn endpoint_of(target: &[u8]) -> Option<Endpoint>
     }
 }
 
-/// What the target is for, and the name that its path ends with, whether a repository has it or not; `None` where
-/// the path begins in neither way.
+/// The endpoint of the target, and the name at the end of its path, whether or not a repository has it; `None` if the
+/// path begins in neither way.
 pub fn named(target: &[u8]) -> Option<(Endpoint, &[u8])>
     ensures named { IfSome result (λ named. spec.path_of target.now
         ≡ spec.front_of named.0 ++ named.1.now) }
@@ -59,14 +59,14 @@ pub fn is_rooted(target: &[u8]) -> bool
     target.strip_prefix(b"/").is_some()
 }
 
-/// What stands before the first `?`; all of the target where there is none.
+/// The path: the bytes before the first `?`, or all if there is none.
 pub fn path_of(target: &[u8]) -> &[u8]
     ensures { result.now ≡ spec.path_of target.now }
 {
     &target[..len_before(b'?', target)]
 }
 
-/// What stands behind the first `?`; nothing where there is none.
+/// The query: the bytes after the first `?`, or none if there is none.
 pub fn query_of(target: &[u8]) -> &[u8]
     ensures { result.now ≡ spec.query_of target.now }
 {
@@ -78,8 +78,8 @@ pub fn query_of(target: &[u8]) -> &[u8]
     }
 }
 
-/// What a target is for is what its path leads to, at whatever repository; and no target leads to two
-/// repositories. A theorem, proved by an empty function.
+/// The path alone decides the endpoint of a target, whichever the repository; and no target leads to two repositories.
+/// A theorem, proved by an empty function.
 pub fn path_law()
     ensures endpoint { (endpoint : Endpoint) (name target : List ℕ)
         → spec.leads_to endpoint name target ≡ true → spec.endpoint_of target ≡ Some endpoint }

@@ -11,7 +11,7 @@ pub fn trim(bytes: &[u8]) -> &[u8]
     trim_end(trim_start(bytes))
 }
 
-/// The bytes from the first that is no space and no tab.
+/// The bytes from the first that is neither space nor tab.
 fn trim_start(mut bytes: &[u8]) -> &[u8]
     ensures { result.now ≡ skip_ows bytes.now }
 {
@@ -23,7 +23,7 @@ fn trim_start(mut bytes: &[u8]) -> &[u8]
     bytes
 }
 
-/// The bytes up to the last that is no space and no tab.
+/// The bytes up to the last that is neither space nor tab.
 fn trim_end(mut bytes: &[u8]) -> &[u8]
     ensures { result.now ≡ reverse (skip_ows (reverse bytes.now)) }
 {

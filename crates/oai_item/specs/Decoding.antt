@@ -1,5 +1,6 @@
--- The item that bytes spell, as a function: the way back from `Encoding`. What is read from the front of bytes is a pair, a value and the
--- bytes behind it. Each of these reads something from any bytes, and what was spelled there where a spelling stands in front.
+-- The item that bytes encode, as a function: the inverse of `Encoding`. Each function reads from the start of bytes,
+-- and returns the value and the remaining bytes. Each reads something from any bytes, and the encoded value where the
+-- bytes begin with an encoding.
 use Rattle.std.specs.Prelude.{◌≡◌, ◌≤◌, ℕ, ℤ, int_le, nat_le, zero, suc, Bool, ◌==◌, ◌&&◌, if◌then◌else◌, List, [], ◌∷◌, length, take, drop, get_or, Option, Some, None, Result, Ok, Err}
 use Rattle.std.specs.Int.{w32, w64, cast_signed, from_be_bytes}
 use Rattle.std.specs.Str.{bytes_eq}
@@ -31,7 +32,7 @@ first_text bytes =
     let count = first_count bytes in
     (take count.0 count.1, drop count.0 count.1)
 
--- so many elements
+-- that many elements
 unfoldable pub first_elements : {A : Type 0} → (List ℕ → A × List ℕ) → ℕ → List ℕ → List A × List ℕ
 first_elements first_one zero bytes = ([], bytes)
 first_elements first_one (suc n) bytes =
@@ -97,12 +98,12 @@ spells bytes item =
     && is_item item
     && is_text_item item
 
--- the item that the bytes spell, all of them, where they spell one
+-- the item that the bytes, all of them, encode, if they encode one
 unfoldable pub item_in : List ℕ → Option ItemState
 item_in bytes = if spells bytes (first_item bytes) then Some (first_item bytes) else None
 
--- what reading an item in place answers: the item that the bytes spell; or that they spell none. Memory may be refused where they are not
--- too many
+-- the result of reading an item in place: the item that the bytes encode; or that they encode none. Out of memory is
+-- possible if they are not too many
 abbrev pub IsReadInPlace : List ℕ → Result ItemState DecodeFault → Type 0
 IsReadInPlace bytes (Ok item) = item_in bytes ≡ Some item
 IsReadInPlace bytes (Err Damaged) = item_in bytes ≡ None

@@ -1,4 +1,4 @@
--- How an item is spelled in bytes, where it is stored. This spelling is this repository's own, and no part of OAI-PMH.
+-- How an item is encoded in bytes for storage. This encoding is this repository's own, and no part of OAI-PMH.
 use Rattle.std.specs.Prelude.{◌≡◌, ◌<◌, ◌≤◌, ℕ, ℤ, Bool, true, false, List, [], ◌∷◌, ◌++◌, ◌&&◌, length, drop, Result, Ok, Err}
 use Rattle.std.specs.Int.{w64, bytes_high_first, cast_unsigned}
 use Rattle.std.specs.List.{flat_map, list_all}
@@ -10,7 +10,7 @@ use Rattle.oai_item.specs.declared.sizes.TooLarge.{TooLarge}
 use Rattle.oai_item.specs.declared.sizes.TheConstants.{MAX_ITEM_BYTES}
 use Rattle.oai_item.specs.Item.{IsItem, ItemState, Metadata}
 
--- one byte: 1 where the item is live, 0 where it is deleted
+-- one byte: 1 for a live item, 0 for a deleted one
 abbrev pub encoded_bool : Bool → List ℕ
 encoded_bool true = 1 ∷ []
 encoded_bool false = 0 ∷ []
@@ -48,7 +48,7 @@ encoded item =
     ++ encoded_list encoded_text item.sets
     ++ encoded_list encoded_record item.formats
 
--- what measuring so many bytes answers: their number where it is at most `MAX_ITEM_BYTES`, or that they are too many
+-- the result of measuring that many bytes: their number if it is at most `MAX_ITEM_BYTES`, or that they are too many
 abbrev pub IsMeasure : ℕ → Result ℕ TooLarge → Type 0
 IsMeasure bytes (Ok n) = (n ≡ bytes) × (bytes ≤ MAX_ITEM_BYTES)
 IsMeasure bytes (Err _) = MAX_ITEM_BYTES < bytes
@@ -66,28 +66,28 @@ abbrev pub is_text_item : ItemState → Bool
 is_text_item item =
     is_utf8 item.identifier && list_all is_utf8 item.sets && list_all is_text_record item.formats
 
--- the bytes spell the item: they are just its spelling, and not too many; and it keeps the rules of items
+-- the bytes encode the item: they are exactly its encoding, and not too many; and the item satisfies the rules of items
 pub record Spells (bytes : List ℕ) (item : ItemState) : Type 0 where
   pub spelling : bytes ≡ encoded item
   pub few : length bytes ≤ MAX_ITEM_BYTES
   pub valid : IsItem item
   pub texts : is_text_item item ≡ true
 
--- what writing the item at the front of bytes answers, and the bytes then: how many it wrote, which spell the item, and those
--- behind them are as they were; or that they are too many, and all are as they were
+-- the result of writing the item at the start of bytes, and the bytes afterwards: how many it wrote, which encode the
+-- item, and those behind them are unchanged; or that they are too many, and all are unchanged
 abbrev pub IsEncoding : ItemState → List ℕ → Result ℕ TooLarge → List ℕ → Type 0
 IsEncoding item old (Ok n) new =
     Spells (encoded item) item × (n ≡ length (encoded item)) × (new ≡ encoded item ++ drop n old)
 IsEncoding item old (Err _) new = (MAX_ITEM_BYTES < length (encoded item)) × (new ≡ old)
 
--- what reading an item from the bytes, all of them, answers: the item that they spell; or that they spell none. Memory may be
--- refused where they are not too many
+-- the result of decoding the bytes, all of them: the item that they encode; or that they encode none. Out of memory is
+-- possible if they are not too many
 abbrev pub IsDecoding : List ℕ → Result ItemState DecodeFault → Type 0
 IsDecoding bytes (Ok item) = Spells bytes item
 IsDecoding bytes (Err Damaged) = (item : ItemState) → ¬ (Spells bytes item)
 IsDecoding bytes (Err NoMemory) = length bytes ≤ MAX_ITEM_BYTES
 
--- reading gave that item, unless memory was refused
+-- decoding returned that item, unless memory ran out
 abbrev pub GivesBack : ItemState → Result ItemState DecodeFault → Type 0
 GivesBack item (Ok read) = read ≡ item
 GivesBack item (Err Damaged) = ⊥

@@ -5,8 +5,8 @@ use Rattle.std.specs.Str.{bytes_eq}
 use Rattle.oai_item.specs.Rules.{has_repeat, is_allowed}
 use Rattle.oai_item.specs.declared.formats.Format.{Format}
 
--- oai_dc, which every repository has: unqualified Dublin Core (OAI-PMH 2.0, sections 2.5 and 3.4, and its guidelines for
--- oai_dc), with the fifteen elements of DCES 1.1
+-- oai_dc, which every repository has: unqualified Dublin Core (OAI-PMH 2.0, sections 2.5 and 3.4, and its guidelines
+-- for oai_dc), with the fifteen elements of DCES 1.1
 unfoldable pub dublin_core : Format
 dublin_core = record {
   prefix = codes "oai_dc";
@@ -19,12 +19,12 @@ dublin_core = record {
       ∷ codes "coverage" ∷ codes "rights" ∷ [];
 }
 
--- the format of that prefix
+-- the format with that prefix
 unfoldable pub format_named : List ℕ → List Format → Option Format
 format_named prefix formats = find (λ format. bytes_eq format.prefix prefix) formats
 
--- what is true of the formats of each repository: oai_dc is the first, each after it keeps the rules, no prefix stands
--- twice, and there are at most 64
+-- the invariant of a repository's formats: oai_dc is the first, each after it satisfies the rules, the prefixes are
+-- distinct, and there are at most 64
 pub record AreRepositoryFormats (formats : List Format) : Type 0 where
   pub first : slice_get formats 0 ≡ Some dublin_core
   pub declared : list_all is_allowed (drop 1 formats) ≡ true

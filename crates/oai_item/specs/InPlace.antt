@@ -1,11 +1,11 @@
--- What contracts see of a `Spelling`: the item.
+-- What contracts see of a `Spelling`, an encoded item: the item.
 use Rattle.std.specs.Prelude.{◌≡◌, ◌++◌}
 use Rattle.oai_item.specs.Decoding.{first_list, first_record, first_text}
 use Rattle.oai_item.specs.Encoding.{Spells, encoded_list, encoded_record, encoded_text}
 use Rattle.oai_item.specs.Item.{ItemState}
 use Rattle.oai_item.specs.declared.in_place.Spelling.TheInside.{Inside}
 
--- the three parts that were read, and the two that are still to be read
+-- the three parts that are decoded, and the two that are still encoded
 abbrev pub spelled_item : Inside → ItemState
 spelled_item spelling =
     let sets = first_list first_text spelling.rest.now in
@@ -18,7 +18,7 @@ spelled_item spelling =
       formats = formats.0;
     }
 
--- the bytes spell it, and what is left to be read is the end of them
+-- the bytes encode it, and what remains to be decoded is the end of them
 pub record IsSpelling (spelling : Inside) : Type 0 where
   pub spells : Spells spelling.bytes.now (spelled_item spelling)
   pub rest : spelling.rest.now

@@ -23,21 +23,21 @@ pub record ItemState : Type 0 where
   pub sets : List (List ℕ)
   pub formats : List Metadata
 
--- the first text stands before the second, byte by byte
+-- the first text precedes the second, byte by byte
 abbrev pub is_before : List ℕ → List ℕ → Bool
 is_before a b = is_lt (slice_cmp nat_cmp a b)
 
--- each prefix stands before the next
+-- each prefix precedes the next
 abbrev pub are_rising : List Metadata → Bool
 are_rising [] = true
 are_rising (a ∷ []) = true
 are_rising (a ∷ b ∷ formats) = is_before a.0 b.0 && are_rising (b ∷ formats)
 
--- the seconds of years 0000 to 9999, which a datestamp can name
+-- the seconds of the years 0000 to 9999, which a datestamp can name
 abbrev pub IsStamp : ℤ → Type 0
 IsStamp stamp = IsWritable stamp
 
--- a live item of these parts
+-- a live item with these parts
 abbrev pub live_item : List ℕ → ℤ → List (List ℕ) → List Metadata → ItemState
 live_item identifier stamp sets formats = record {
   identifier = identifier;
@@ -51,25 +51,25 @@ live_item identifier stamp sets formats = record {
 abbrev pub emptied : Metadata → Metadata
 emptied format = (format.0, [])
 
--- the deleted item that is left of an item: the same sets and prefixes, no fields, and the datestamp of its deletion
+-- the tombstone of an item: the same sets and prefixes, no fields, and the datestamp of its deletion
 abbrev pub tombstone_of : ℤ → ItemState → ItemState
 tombstone_of stamp item =
     record item { stamp = stamp; live = false; formats = map emptied item.formats }
 
--- the record of that metadataPrefix
+-- the record with that metadataPrefix
 unfoldable pub record_named : List ℕ → List Metadata → Option Metadata
 record_named prefix formats = find (λ format. bytes_eq format.0 prefix) formats
 
--- there is a record of that metadataPrefix
+-- there is a record with that metadataPrefix
 abbrev pub has_record : List ℕ → List Metadata → Bool
 has_record prefix formats = is_some (record_named prefix formats)
 
--- the fields of a record, where there is one
+-- the fields of a record, if there is one
 abbrev pub fields_of : Option Metadata → List Field
 fields_of None = []
 fields_of (Some format) = format.1
 
--- the fields of the record of that metadataPrefix; none where there is no such record
+-- the fields of the record with that metadataPrefix; none if there is no such record
 abbrev pub fields_in : List ℕ → List Metadata → List Field
 fields_in prefix formats = fields_of (record_named prefix formats)
 
@@ -77,7 +77,7 @@ fields_in prefix formats = fields_of (record_named prefix formats)
 unfoldable pub are_set_specs : List (List ℕ) → Bool
 are_set_specs sets = list_all may_be_set_spec sets
 
--- each record is of a metadataPrefix, and that is not too long
+-- each record has a valid metadataPrefix, and that is not too long
 unfoldable pub are_prefixed : List Metadata → Bool
 are_prefixed formats = list_all (λ format. may_be_prefix format.0) formats
 
@@ -85,15 +85,15 @@ are_prefixed formats = list_all (λ format. may_be_prefix format.0) formats
 unfoldable pub have_no_fields : List Metadata → Bool
 have_no_fields formats = list_all (λ format. length format.1 == 0) formats
 
--- the records may be those of an item that is live or deleted: at least one, in the order of their prefixes, and without fields
--- where it is deleted
+-- the records may be those of an item that is live or deleted: at least one, in the order of their prefixes, and
+-- without fields if it is deleted
 abbrev pub may_be_records : Bool → List Metadata → Bool
 may_be_records live formats =
     not (length formats == 0) && are_rising formats && (live || have_no_fields formats)
 
--- what is true of each item: its names are of their grammars, its datestamp can be written, no setSpec of it covers another,
--- it has one record a format, in the order of the prefixes, and where it is deleted they have no fields (OAI-PMH 2.0, section
--- 2.5.1)
+-- the invariant of an item: its names match their grammars, its datestamp can be written, none of its setSpecs covers
+-- another, it has one record a format, in the order of the prefixes, and if it is deleted they have no fields (OAI-PMH
+-- 2.0, section 2.5.1)
 pub record IsItem (item : ItemState) : Type 0 where
   pub identified : may_be_identifier item.identifier ≡ true
   pub stamped : IsStamp item.stamp

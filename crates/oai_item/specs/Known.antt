@@ -1,4 +1,4 @@
--- Whether the records of an item are those that a repository can have: in its formats, and of their fields. OAI-PMH 2.0, section
+-- Whether a repository can have the records of an item: in its formats, and with their fields. OAI-PMH 2.0, section
 -- 3.4.
 use Rattle.std.specs.Prelude.{Bool, true, List, Option, None, Some, is_some}
 use Rattle.std.specs.List.{list_all}
@@ -12,7 +12,7 @@ use Rattle.oai_item.specs.declared.formats.Format.{Format}
 abbrev pub has_format : List Format → Metadata → Bool
 has_format formats metadata = is_some (format_named metadata.0 formats)
 
--- each field is one of the format's; without a format there is nothing to say
+-- each field is one of the format's; without a format there is no condition
 abbrev pub are_fields_of : Option Format → List Field → Bool
 are_fields_of None fields = true
 are_fields_of (Some format) fields = list_all (λ field. is_among format.fields field.name) fields

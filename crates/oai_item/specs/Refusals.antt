@@ -5,12 +5,12 @@ use Rattle.oai_item.specs.declared.refusals.LineRefusal.TheVariants.{BadJson, Ba
 use Rattle.oai_item.specs.declared.refusals.ChangeRefusal.{ChangeRefusal}
 use Rattle.oai_item.specs.declared.refusals.ChangeRefusal.TheVariants.{UnknownSet, UnknownFormat, NoDc, UnknownField, DropsFormat, TooLarge, TooManyItems, NoSuchItem, AlreadyDeleted, NotTransient, BadDate, SetExists, NoParent, TooManySets}
 
--- a cause lies in the line as it stands, or in what the repository holds
+-- a cause lies in the line itself, or in what the repository holds
 pub data Cause : Type 0 where
   in_line : LineRefusal → Cause
   in_repository : ChangeRefusal → Cause
 
--- the line that answers a refused line: the number of the cause, in the order in which they are looked for, and its name
+-- the line that reports a refusal: the number of the cause, in the order in which the causes are tested, and its name
 abbrev pub refusal_line : Cause → List ℕ
 refusal_line (in_line BadJson) = codes "refused 1 bad-json"
 refusal_line (in_line BadCommand) = codes "refused 2 bad-command"

@@ -7,26 +7,26 @@ use Rattle.oai_names.specs.Names.{is_name_of, is_one_of}
 use Rattle.oai_item.specs.ShortTexts.{is_short_text}
 use Rattle.oai_item.specs.declared.formats.Format.{Format}
 
--- a character of an element's name after its first (XML 1.0, section 2.3, NameChar): of those in ASCII, all but the colon
--- (Namespaces in XML 1.0, section 3, NCName), so a letter, a digit, `-`, `_` or `.`
+-- a character of an element's name after its first (XML 1.0, section 2.3, NameChar): of those in ASCII, all but the
+-- colon (Namespaces in XML 1.0, section 3, NCName), so a letter, a digit, `-`, `_` or `.`
 abbrev pub is_name_byte : ℕ → Bool
 is_name_byte b = is_ascii_alphanumeric b || is_one_of (codes "-_.") b
 
--- the first character (XML 1.0, section 2.3, NameStartChar): of those in ASCII, all but the colon (Namespaces in XML 1.0,
--- section 3, NCName), so a letter or `_`
+-- the first character (XML 1.0, section 2.3, NameStartChar): of those in ASCII, all but the colon (Namespaces in XML
+-- 1.0, section 3, NCName), so a letter or `_`
 abbrev pub is_first_byte : ℕ → Bool
 is_first_byte b = is_ascii_alphabetic b || b == 95
 
--- an element's name (XML 1.0, section 2.3, Name): such a first, and any of the others after it
+-- an element's name (XML 1.0, section 2.3, Name): a first character, then any number of the others
 unfoldable pub is_element_name : List ℕ → Bool
 is_element_name [] = false
 is_element_name (b ∷ bytes) = is_first_byte b && list_all is_name_byte bytes
 
--- such a name, of at most 64 bytes
+-- an element's name of at most 64 bytes
 abbrev pub is_name : List ℕ → Bool
 is_name text = is_name_of is_element_name 64 text
 
--- the root and each field have a name
+-- the root and each field are such names
 abbrev pub are_names : Format → Bool
 are_names format = is_name format.root && list_all is_name format.fields
 
@@ -34,15 +34,16 @@ are_names format = is_name format.root && list_all is_name format.fields
 abbrev pub is_space : ℕ → Bool
 is_space b = b == 32 || b == 9 || b == 10 || b == 13
 
--- what may stand for a URI in a document: a text of 1 to 512 bytes, of characters that a document may hold, without white space
+-- a text that may be used as a URI in a document: 1 to 512 bytes, of characters that a document may hold, without white
+-- space
 unfoldable pub is_uri : List ℕ → Bool
 is_uri text = is_short_text text && not (list_any is_space text)
 
--- the schema and the namespace are such
+-- the schema and the namespace are such texts
 abbrev pub are_uris : Format → Bool
 are_uris format = is_uri format.schema && is_uri format.namespace
 
--- some text of the list stands again behind itself
+-- some text of the list occurs again later
 abbrev pub has_repeat : List (List ℕ) → Bool
 has_repeat [] = false
 has_repeat (text ∷ texts) = list_any (bytes_eq text) texts || has_repeat texts
@@ -51,8 +52,7 @@ has_repeat (text ∷ texts) = list_any (bytes_eq text) texts || has_repeat texts
 abbrev pub has_fields : Format → Bool
 has_fields format = nat_lt 0 (length format.fields) && nat_le (length format.fields) 256
 
--- a format of these rules, as each that is declared: the names and the URIs are such, it has 1 to 256 fields, and none stands
--- twice
+-- a declared format satisfies these rules: names and URIs as above, 1 to 256 fields, and no field twice
 unfoldable pub is_allowed : Format → Bool
 is_allowed format =
     are_names format && are_uris format && has_fields format && not (has_repeat format.fields)

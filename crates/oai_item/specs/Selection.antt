@@ -4,20 +4,20 @@ use Rattle.std.specs.List.{Contains}
 use Rattle.oai_item.specs.Item.{ItemState, has_record}
 use Rattle.oai_item.specs.Membership.{is_in}
 
--- what a list request asks for: a metadataPrefix, the datestamps from the lower to the upper bound, in seconds from 1970 on and both
--- included, and a set where one is given
+-- what a list request asks for: a metadataPrefix, the datestamps from the lower to the upper bound, in seconds from
+-- 1970 on and both included, and a set if one is given
 pub record Filter : Type 0 where
   pub prefix : List ℕ
   pub lower : ℤ
   pub upper : ℤ
   pub set : Option (List ℕ)
 
--- an item of these setSpecs is in the set, where one is given
+-- an item with these setSpecs is in the set, if one is given
 abbrev pub is_in_given : Option (List ℕ) → List (List ℕ) → Bool
 is_in_given None sets = true
 is_in_given (Some set) sets = is_in set sets
 
--- the item, live or deleted, is asked for
+-- the request selects the item, live or deleted
 abbrev pub passes : Filter → ItemState → Bool
 passes asked item =
     has_record asked.prefix item.formats
@@ -25,11 +25,12 @@ passes asked item =
     && int_le item.stamp asked.upper
     && is_in_given asked.set item.sets
 
--- the selection: those of the items that are asked for
+-- the selection: the items that the request selects
 unfoldable pub selected : Filter → List ItemState → List ItemState
 selected asked items = filter (passes asked) items
 
--- the item is one of these, has a record of the prefix, a datestamp within the bounds, and is in the set where one is given
+-- the item is one of these, has a record with the prefix, a datestamp within the bounds, and is in the set if one is
+-- given
 pub record IsSelected (asked : Filter) (items : List ItemState) (item : ItemState) : Type 0 where
   pub stands : Contains items item
   pub has_prefix : IsTrue (has_record asked.prefix item.formats)

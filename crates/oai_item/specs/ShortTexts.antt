@@ -1,4 +1,4 @@
--- Short texts that stand in documents: the names, addresses and URLs of a repository. The length is this repository's own.
+-- Short texts in documents: the names, addresses and URLs of a repository. The length is this repository's own.
 use Rattle.std.specs.Prelude.{ℕ, Bool, ◌&&◌, nat_lt, nat_le, List, length}
 use Rattle.oai_names.specs.Characters.{is_xml_text}
 use Rattle.oai_item.specs.declared.short_texts.TheConstants.{MAX_SHORT_TEXT_BYTES}

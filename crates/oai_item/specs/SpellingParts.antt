@@ -1,4 +1,5 @@
--- What stands spelled at the front of bytes, and what reading it there answers: words of private functions, on which no definition rests.
+-- What bytes begin with in encoded form, and what reading it returns: words of private functions, on which no
+-- definition rests.
 use Rattle.std.specs.Prelude.{◌≡◌, ◌<◌, ◌≤◌, ◌^◌, ℕ, ℤ, Bool, true, List, ◌++◌, length, drop, Option, None, Some}
 use Rattle.std.specs.List.{flat_map, list_all}
 use Rattle.std.specs.Str.{is_utf8}
@@ -11,11 +12,11 @@ use Rattle.oai_item.specs.declared.in_place.Parts.{Parts}
 use Rattle.oai_item.specs.declared.sizes.TheConstants.{MAX_ITEM_BYTES}
 use denote.Ref.{Bor}
 
--- writing these bytes at the front of others answers how many they are, and leaves what is behind them
+-- writing these bytes at the start of others returns how many they are, and leaves what is behind them
 abbrev pub Writes : List ℕ → List ℕ → ℕ → List ℕ → Type 0
 Writes piece old size new = (size ≡ length piece) × (new ≡ piece ++ drop (length piece) old)
 
--- a good value's spelling stands in front of the bytes, and these are not too many for an item
+-- the bytes begin with a good value's encoding, and are not too many for an item
 pub record Stands {A : Type 0} (spelled : A → List ℕ) (Good : A → Type 0)
     (bytes : List ℕ) : Type 0 where
   pub value : A
@@ -24,24 +25,24 @@ pub record Stands {A : Type 0} (spelled : A → List ℕ) (Good : A → Type 0)
   pub parts : bytes ≡ spelled value ++ rest
   pub few : length bytes ≤ MAX_ITEM_BYTES
 
--- what reading a good value from the front of bytes answers, seen as the value and the bytes after it: its spelling stands in front of
--- these, or no good value's does
+-- the result of reading a good value from the start of bytes, seen as the value and the remaining bytes: the bytes
+-- begin with its encoding, or with no good value's
 abbrev pub Reads : {A B : Type 0} → (A → B × List ℕ) → (B → List ℕ) → (B → Type 0)
     → List ℕ → Option A → Type 0
 Reads see spelled Good bytes (Some a) =
     Good (see a).0 × (bytes ≡ spelled (see a).0 ++ (see a).1)
 Reads see spelled Good bytes None = ¬ (Stands spelled Good bytes)
 
--- what reading the datestamp and the identifier of the item answers, which its spelling has in front: these
+-- the result of reading the datestamp and the identifier of the item, with which its encoding begins
 abbrev pub IsPlaceRead : ItemState → Option (ℤ × Bor (List ℕ)) → Type 0
 IsPlaceRead item (Some place) = (place.0 ≡ item.stamp) × (place.1.now ≡ item.identifier)
 IsPlaceRead item None = ⊥
 
--- the good value is that which stands spelled in front of the bytes, and the rest is behind it
+-- the bytes are the encoding of the good value, and then the rest
 abbrev pub IsFront : {A : Type 0} → (A → List ℕ) → (A → Type 0) → A → List ℕ → List ℕ → Type 0
 IsFront spelled Good value bytes rest = Good value × (bytes ≡ spelled value ++ rest)
 
--- so many good elements of a list were read from the front of bytes, and this is what is left
+-- that many good elements of a list were read from the start of bytes, and this remains
 pub record HasRead {A : Type 0} (spelled : A → List ℕ) (test : A → Bool)
     (bytes : List ℕ) (count : ℕ) (rest : List ℕ) : Type 0 where
   pub elements : List A
@@ -53,7 +54,7 @@ pub record HasRead {A : Type 0} (spelled : A → List ℕ) (test : A → Bool)
 abbrev pub IsAny : Bool → Type 0
 IsAny b = Unit {0}
 
--- a number that four bytes hold
+-- a number that fits in four bytes
 abbrev pub IsCount : ℕ → Type 0
 IsCount n = n < 2 ^ 32
 
@@ -80,13 +81,13 @@ pub record HasParts (item : ItemState) : Type 0 where
   pub in_sets : are_sets item.sets ≡ true
   pub of_formats : are_records item.formats ≡ true
 
--- the bytes spell an item of such parts
+-- the bytes encode an item with such parts
 pub record SpellsParts (bytes : List ℕ) (item : ItemState) : Type 0 where
   pub spelling : bytes ≡ encoded item
   pub few : length bytes ≤ MAX_ITEM_BYTES
   pub parts : HasParts item
 
--- an item of these parts
+-- an item with these parts
 abbrev pub item_with : Bool → ℤ → List ℕ → List (List ℕ) → List Metadata → ItemState
 item_with live stamp identifier sets formats = record (live_item identifier stamp sets formats) { live = live }
 
@@ -94,7 +95,7 @@ item_with live stamp identifier sets formats = record (live_item identifier stam
 abbrev pub item_of : Parts → ItemState
 item_of parts = item_with parts.live parts.stamp parts.identifier.now parts.sets parts.records
 
--- what reading the parts of an item answers
+-- the result of reading the parts of an item
 abbrev pub ReadsParts : List ℕ → Option Parts → Type 0
 ReadsParts bytes (Some parts) = SpellsParts bytes (item_of parts)
 ReadsParts bytes None = (item : ItemState) → ¬ (SpellsParts bytes item)

@@ -1,5 +1,5 @@
--- What contracts see of the walks over the lists in an item's spelling: the elements that are still to come. No definition rests on these
--- words.
+-- What contracts see of the iterators over the lists of an encoded item: the remaining elements. No definition rests on
+-- these words.
 use Rattle.std.specs.Prelude.{◌≡◌, ◌≤◌, ℕ, Bool, true, ◌&&◌, List, ◌++◌, length}
 use Rattle.std.specs.List.{flat_map, list_all}
 use Rattle.std.specs.Str.{is_utf8}
@@ -19,11 +19,11 @@ is_name_text grammar text = grammar text && is_utf8 text
 abbrev pub are_fields : List Field → Bool
 are_fields fields = list_all is_text_field fields
 
--- a record whose prefix is one, and whose fields are of texts
+-- a record with a valid prefix, and fields of texts
 abbrev pub is_record : Metadata → Bool
 is_record format = is_name_text may_be_prefix format.0 && are_fields format.1
 
--- the elements are good, and stand spelled in front of the bytes
+-- the elements are good, and the bytes begin with their encoding
 pub record AreSpelled {A : Type 0} (spelled : A → List ℕ) (test : A → Bool)
     (bytes : List ℕ) (elements : List A) : Type 0 where
   pub good : list_all test elements ≡ true
@@ -31,21 +31,21 @@ pub record AreSpelled {A : Type 0} (spelled : A → List ℕ) (test : A → Bool
   pub parts : bytes ≡ flat_map spelled elements ++ behind
   pub few : length bytes ≤ MAX_ITEM_BYTES
 
--- so many setSpecs in front of the bytes
+-- that many setSpecs at the start of the bytes
 abbrev pub sets_left : ℕ → List ℕ → List (List ℕ)
 sets_left count bytes = (first_elements first_text count bytes).0
 
 abbrev pub AreSets : ℕ → List ℕ → Type 0
 AreSets count bytes = AreSpelled encoded_text (is_name_text may_be_set_spec) bytes (sets_left count bytes)
 
--- so many fields
+-- that many fields
 abbrev pub fields_left : ℕ → List ℕ → List Field
 fields_left count bytes = (first_elements first_field count bytes).0
 
 abbrev pub AreFields : ℕ → List ℕ → Type 0
 AreFields count bytes = AreSpelled encoded_field is_text_field bytes (fields_left count bytes)
 
--- so many records
+-- that many records
 abbrev pub records_left : ℕ → List ℕ → List Metadata
 records_left count bytes = (first_elements first_record count bytes).0
 

@@ -4,11 +4,11 @@ use oai_names::{Identifier, Sequence, SetSpec, Text};
 /// What a deposit line asks for.
 #[derive(Debug, Drop)]
 pub enum Change {
-    /// A new item, or a new state of an old one (OAI-PMH 2.0, section 2.3).
+    /// A new item, or a new version of an existing one (OAI-PMH 2.0, section 2.3).
     Deposit {
         /// The unique identifier.
         identifier: Identifier,
-        /// The setSpecs of the sets, as they were given.
+        /// The setSpecs of the sets, as the line gives them.
         sets: Sequence<SetSpec>,
         /// The record under each metadataPrefix.
         records: Records,
@@ -18,9 +18,9 @@ pub enum Change {
         /// The unique identifier.
         identifier: Identifier,
     },
-    /// The end of what is left of deleted items (OAI-PMH 2.0, section 2.5.1).
+    /// The removal of tombstones, what is left of deleted items (OAI-PMH 2.0, section 2.5.1).
     Purge {
-        /// The bound: those go whose datestamps are below its first second.
+        /// The bound: tombstones with a datestamp below its first second are removed.
         before: Text,
     },
     /// A new set (OAI-PMH 2.0, section 2.6).

@@ -43,7 +43,7 @@ pub(crate) fn copy_fields(alloc: Global, fields: &[Field]) -> Result<Sequence<Fi
     Ok(Sequence::new(copies))
 }
 
-/// The records without their fields, in memory.
+/// The records without their fields, copied.
 pub(crate) fn emptied(
     alloc: Global,
     mut records: ItemRecords<'_>,
@@ -58,7 +58,7 @@ pub(crate) fn emptied(
     Ok(Sequence::new(left))
 }
 
-/// The setSpecs of a spelling, in memory.
+/// The setSpecs of an encoding, copied.
 pub(crate) fn sets_in_memory(
     alloc: Global,
     mut sets: SpelledSets<'_>,

@@ -1,4 +1,4 @@
-//! Whether of the setSpecs in the spelling of an item none covers another.
+//! Whether none of the setSpecs in an encoded item covers another.
 
 ghost use Rattle.std.specs.Prelude.{◌≡◌, ℕ, List, IfOk};
 ghost use Rattle.std.specs.List.{list_all, list_any};
@@ -11,12 +11,11 @@ use oai_names::covers;
 use std::alloc::{AllocError, Global};
 use std::collections::BTreeSet;
 
-/// How many setSpecs are compared by pairs, at most.
+/// The most setSpecs that are compared pairwise.
 const FEW_SETS: usize = 16;
 
-/// Whether no setSpec covers another at a different place. Up to `FEW_SETS` are compared by pairs, which takes no
-/// memory. Of more the time is that of a search in a sorted set for each part of each setSpec; the error is out of
-/// memory.
+/// Whether no setSpec covers one at a different position. Up to `FEW_SETS` are compared pairwise, without allocation.
+/// More are looked up in a sorted set, which takes O(p log p) for p parts of setSpecs; the error is out of memory.
 pub(crate) fn none_covers(alloc: Global, sets: &SpelledSets<'_>) -> Result<bool, AllocError>
     ensures { IfOk result (λ apart. apart ≡ none_covers sets.now) }
 {
@@ -27,7 +26,7 @@ pub(crate) fn none_covers(alloc: Global, sets: &SpelledSets<'_>) -> Result<bool,
     are_new(names, sets)
 }
 
-/// Whether no setSpec covers another, each pair compared.
+/// Whether no setSpec covers another, by comparing each pair.
 fn no_pair_covers(sets: &SpelledSets<'_>) -> bool
     ensures { result ≡ none_covers sets.now }
 {
@@ -40,7 +39,7 @@ fn no_pair_covers(sets: &SpelledSets<'_>) -> bool
     true
 }
 
-/// Whether of that setSpec and each of these neither covers the other.
+/// Whether neither that setSpec nor any of these covers the other.
 fn covers_none(set: &str, others: &SpelledSets<'_>) -> bool
     ensures { result ≡ list_all (neither_covers set.now) others.now }
 {
@@ -53,7 +52,7 @@ fn covers_none(set: &str, others: &SpelledSets<'_>) -> bool
     true
 }
 
-/// The names of the sets above these: of each one its parent, the parent of that, and so on.
+/// The names of the ancestors of these sets: the parent of each, its parent, and so on.
 fn names_above<'a>(alloc: Global, sets: &SpelledSets<'a>) -> Result<BTreeSet<&'a str>, AllocError>
     ensures { IfOk result (λ names. (q : List ℕ) → holds names q ≡ list_any (is_above q) sets.now) }
 {
@@ -65,7 +64,7 @@ fn names_above<'a>(alloc: Global, sets: &SpelledSets<'a>) -> Result<BTreeSet<&'a
     Ok(names)
 }
 
-/// Whether each setSpec is none of the names, and stands once.
+/// Whether none of the setSpecs is among the names, and none occurs twice.
 fn are_new<'a>(mut names: BTreeSet<&'a str>, sets: &SpelledSets<'a>) -> Result<bool, AllocError>
     ensures { IfOk result (λ new. new ≡ are_fresh (holds names.entry) sets.now) }
 {

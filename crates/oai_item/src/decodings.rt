@@ -1,4 +1,4 @@
-//! Items from bytes: what reads the parts of an item's spelling, in place. No function here takes memory.
+//! Items from bytes: reads the parts of an encoded item in place. No function here allocates.
 
 ghost use Rattle.std.specs.Prelude.{◌≡◌, ◌↔◌, ◌<◌, ◌≤◌, length, false, nat_lt, true, IsTrue, MatchOption};
 ghost use Rattle.std.specs.List.{list_all};
@@ -19,19 +19,19 @@ use std::alloc::AllocError;
 use std::str::{from_utf8, from_utf8_unchecked};
 use thiserror::Error;
 
-/// The least bytes of a text in the spelling of an item, those of its length.
+/// The least bytes of an encoded text: those of its length.
 const TEXT_BYTES: usize = 4;
 
-/// The least bytes of a field, and of a record: those of two texts, or of a text and a count.
+/// The least bytes of a field, and of an encoded record: those of two texts, or of a text and a count.
 const PAIR_BYTES: usize = 8;
 
-/// Why bytes were not read as an item.
+/// Why bytes were not decoded as an item.
 #[derive(Clone, Copy, Debug, PartialEq, Eq, Error)]
 pub enum DecodeFault {
-    /// The bytes are not the spelling of an item, or are more than 1,048,576.
+    /// The bytes encode no item, or are more than 1,048,576.
     #[error("the bytes are not those of an item")]
     Damaged,
-    /// The item could not be stored.
+    /// Out of memory.
     #[error("out of memory")]
     NoMemory,
 }
@@ -44,7 +44,7 @@ impl From<AllocError> for DecodeFault {
     }
 }
 
-/// Whether an item is live, from the front, and the bytes after it.
+/// Reads whether an item is live, and returns the remaining bytes.
 pub(crate) fn read_live(bytes: &[u8]) -> Option<(bool, &[u8])>
     ensures { Reads (λ a. (a.0, a.1.now)) encoded_bool IsAny bytes.now result }
 {
@@ -55,7 +55,7 @@ pub(crate) fn read_live(bytes: &[u8]) -> Option<(bool, &[u8])>
     }
 }
 
-/// A datestamp from the front, in seconds from 1970 on, and the bytes after it.
+/// Reads a datestamp, in seconds from 1970 on, and returns the remaining bytes.
 pub(crate) fn read_stamp(bytes: &[u8]) -> Option<(i64, &[u8])>
     ensures { Reads (λ a. (a.0, a.1.now)) encoded_stamp IsStamp bytes.now result }
 {
@@ -69,14 +69,14 @@ pub(crate) fn read_stamp(bytes: &[u8]) -> Option<(i64, &[u8])>
     Some((stamp, rest))
 }
 
-/// Whether the number of seconds is of years 0000 to 9999.
+/// Whether the number of seconds lies in the years 0000 to 9999.
 fn is_stamp(stamp: i64) -> bool
     ensures { IsTrue result ↔ IsStamp stamp }
 {
     (FIRST_SECOND..=LAST_SECOND).contains(&stamp)
 }
 
-/// A number from the front, and the bytes after it.
+/// Reads a number, and returns the remaining bytes.
 pub(crate) fn read_count(bytes: &[u8]) -> Option<(usize, &[u8])>
     ensures { Reads (λ a. (a.0, a.1.now)) encoded_count IsCount bytes.now result }
 {
@@ -86,7 +86,7 @@ pub(crate) fn read_count(bytes: &[u8]) -> Option<(usize, &[u8])>
     Some((u32::from_be_bytes([*a, *b, *c, *d]) as usize, rest))
 }
 
-/// A text from the front, and the bytes after it.
+/// Reads a text, and returns the remaining bytes.
 pub(crate) fn read_text(bytes: &[u8]) -> Option<(&str, &[u8])>
     ensures { Reads (λ a. (a.0.now, a.1.now)) encoded_text IsText bytes.now result }
 {
@@ -99,7 +99,7 @@ pub(crate) fn read_text(bytes: &[u8]) -> Option<(&str, &[u8])>
     Some((text, rest))
 }
 
-/// The bytes as a text, where they are UTF-8. Where all of them are ASCII, as in most texts, no character is looked at.
+/// The bytes as a text, if they are UTF-8. If all are ASCII, as in most texts, no character is decoded.
 fn text_of(bytes: &[u8]) -> Option<&str>
     ensures { MatchOption result (is_utf8 bytes.now ≡ false)
         (λ text. (text.now ≡ bytes.now) × (is_utf8 bytes.now ≡ true)) }
@@ -113,8 +113,8 @@ fn text_of(bytes: &[u8]) -> Option<&str>
     }
 }
 
-/// Whether each byte is ASCII, by the largest chunks that fit in. What is found is handed out of a function of its
-/// own, so that the bytes of a chunk are tested all at once.
+/// Whether each byte is ASCII, by the largest chunks that fit. A separate function returns the result, so that the test
+/// of a chunk can be vectorized.
 #[inline(never)]
 fn are_ascii(bytes: &[u8]) -> bool
     ensures { result ≡ list_all (λ byte. nat_lt byte 128) bytes.now }
@@ -131,8 +131,8 @@ fn are_ascii(bytes: &[u8]) -> bool
     is_each_ascii(bytes)
 }
 
-/// Whether each byte is ASCII, where there are N or more: as many chunks of N as there are, and then the last N bytes,
-/// some of which are tested again. So no byte is tested by itself.
+/// Whether each byte is ASCII, of N bytes or more: first the whole chunks of N, then the last N bytes, some of them a
+/// second time. So no byte is tested alone.
 fn are_ascii_by<const N: usize>(bytes: &[u8]) -> bool
     requires fits { (0 < N) × (N ≤ 32) }
     requires long { N ≤ length bytes.now }
@@ -157,8 +157,8 @@ fn are_chunks_ascii<const N: usize>(chunks: &[[u8; N]]) -> bool
     true
 }
 
-/// Whether each byte is ASCII. The loop has no other end than the last byte, so that the bytes of a chunk, whose number
-/// is known, are tested all at once.
+/// Whether each byte is ASCII. The loop ends only at the last byte, so that it can be vectorized over a chunk of known
+/// length.
 fn is_each_ascii(bytes: &[u8]) -> bool
     ensures { result ≡ list_all (λ byte. nat_lt byte 128) bytes.now }
 {
@@ -169,7 +169,7 @@ fn is_each_ascii(bytes: &[u8]) -> bool
     ascii
 }
 
-/// An identifier from the front, and the bytes after it.
+/// Reads an identifier, and returns the remaining bytes.
 pub(crate) fn read_identifier(bytes: &[u8]) -> Option<(&str, &[u8])>
     ensures { Reads (λ a. (a.0.now, a.1.now)) encoded_text (IsNamed may_be_identifier)
         bytes.now result }
@@ -181,7 +181,7 @@ pub(crate) fn read_identifier(bytes: &[u8]) -> Option<(&str, &[u8])>
     Some((text, rest))
 }
 
-/// A setSpec from the front, and the bytes after it.
+/// Reads a setSpec, and returns the remaining bytes.
 fn read_set(bytes: &[u8]) -> Option<(&str, &[u8])>
     ensures { Reads (λ a. (a.0.now, a.1.now)) encoded_text (IsNamed may_be_set_spec)
         bytes.now result }
@@ -193,7 +193,7 @@ fn read_set(bytes: &[u8]) -> Option<(&str, &[u8])>
     Some((text, rest))
 }
 
-/// A prefix from the front, and the bytes after it.
+/// Reads a prefix, and returns the remaining bytes.
 fn read_prefix(bytes: &[u8]) -> Option<(&str, &[u8])>
     ensures { Reads (λ a. (a.0.now, a.1.now)) encoded_text (IsNamed may_be_prefix)
         bytes.now result }
@@ -205,7 +205,7 @@ fn read_prefix(bytes: &[u8]) -> Option<(&str, &[u8])>
     Some((text, rest))
 }
 
-/// A field from the front, and the bytes after it.
+/// Reads a field, and returns the remaining bytes.
 fn read_field(bytes: &[u8]) -> Option<(FieldTexts<'_>, &[u8])>
     ensures { Reads (λ a. (record { name = a.0.name.now; text = a.0.text.now }, a.1.now))
         encoded_field (λ field. is_text_field field ≡ true) bytes.now result }
@@ -215,7 +215,7 @@ fn read_field(bytes: &[u8]) -> Option<(FieldTexts<'_>, &[u8])>
     Some((FieldTexts { name, text }, rest))
 }
 
-/// A record from the front, and the bytes after it.
+/// Reads an encoded record, and returns the remaining bytes.
 fn read_record(bytes: &[u8]) -> Option<(SpelledRecord<'_>, &[u8])>
     requires { length bytes.now ≤ MAX_ITEM_BYTES }
     ensures { Reads (λ a. ((a.0.prefix.now, a.0.fields), a.1.now))
@@ -226,7 +226,7 @@ fn read_record(bytes: &[u8]) -> Option<(SpelledRecord<'_>, &[u8])>
     Some((SpelledRecord { prefix, fields }, rest))
 }
 
-/// A list of sets from the front, and the bytes after it.
+/// Reads a list of sets, and returns the remaining bytes.
 pub(crate) fn read_sets(bytes: &[u8]) -> Option<(SpelledSets<'_>, &[u8])>
     requires { length bytes.now ≤ MAX_ITEM_BYTES }
     ensures { Reads (λ a. (a.0, a.1.now)) (encoded_list encoded_text) (λ sets. are_sets sets ≡ true)
@@ -244,7 +244,7 @@ pub(crate) fn read_sets(bytes: &[u8]) -> Option<(SpelledSets<'_>, &[u8])>
     Some((SpelledSets::new(count, start), rest))
 }
 
-/// A list of fields from the front, and the bytes after it.
+/// Reads a list of fields, and returns the remaining bytes.
 fn read_fields(bytes: &[u8]) -> Option<(SpelledFields<'_>, &[u8])>
     requires { length bytes.now ≤ MAX_ITEM_BYTES }
     ensures { Reads (λ a. (a.0, a.1.now)) (encoded_list encoded_field) (λ fields. are_fields fields ≡ true)
@@ -262,7 +262,7 @@ fn read_fields(bytes: &[u8]) -> Option<(SpelledFields<'_>, &[u8])>
     Some((SpelledFields::new(count, start), rest))
 }
 
-/// A list of records from the front, and the bytes after it.
+/// Reads a list of records, and returns the remaining bytes.
 pub(crate) fn read_records(bytes: &[u8]) -> Option<(SpelledRecords<'_>, &[u8])>
     requires { length bytes.now ≤ MAX_ITEM_BYTES }
     ensures { Reads (λ a. (a.0, a.1.now)) (encoded_list encoded_record) (λ records. are_records records ≡ true)

@@ -1,10 +1,10 @@
-/// What a repository keeps of deleted records (OAI-PMH 2.0, section 2.5.1).
+/// A repository's policy on deleted records (OAI-PMH 2.0, section 2.5.1).
 #[derive(Clone, Copy, Debug, PartialEq, Eq)]
 pub enum DeletedRecord {
-    /// Nothing.
+    /// It keeps none.
     No,
-    /// Something, perhaps not for ever.
+    /// It keeps some, perhaps not for ever.
     Transient,
-    /// Everything, for ever.
+    /// It keeps all, for ever.
     Persistent,
 }

@@ -14,9 +14,9 @@ use oai_names::{Identifier, Prefix, Sequence, SetSpec, Text};
 use std::alloc::{AllocError, Global};
 
 impl Item {
-    /// The live item that is deposited with these parts, which are copied. The datestamp is in seconds
-    /// from 1970 on, of years 0000 to 9999; there is a record, and each is in one of the formats. Of the
-    /// sets those stay that say where the item is, as in `live`. The error is out of memory.
+    /// A live item with copies of these parts. The datestamp is in seconds from 1970 on, in the years 0000 to 9999;
+    /// there is at least one record, and each is in one of the formats. The item keeps the sets that decide its
+    /// membership, as in `live`. The error is out of memory.
     pub fn deposited(
         alloc: Global,
         formats: &Formats,
@@ -41,7 +41,7 @@ impl Item {
     }
 }
 
-/// The records under the prefixes of their formats, in one buffer where they are not too many bytes.
+/// The records under the prefixes of their formats, in one buffer unless they have too many bytes.
 fn held_records(
     alloc: Global,
     formats: &Formats,
@@ -58,8 +58,8 @@ fn held_records(
     }
 }
 
-/// Looks at the prefix of each record's format, so that what its type says of it, its grammar and its length, is known
-/// of the record's. It changes nothing.
+/// Reads the prefix of each record's format, so that the invariants of its type, grammar and length, are known of the
+/// record's. It changes nothing.
 fn see_prefixes(formats: &Formats, records: &[(Text, Sequence<Field>)])
     requires { list_all (has_format formats.now) records.now ≡ true }
     ensures { are_prefixed records.now ≡ true }
@@ -80,7 +80,7 @@ fn prefix_of<'a>(formats: &'a Formats, deposited: &(Text, Sequence<Field>)) -> &
     &format.prefix
 }
 
-/// The records under the prefixes of their formats, in memory of their own.
+/// The records under the prefixes of their formats, each allocated.
 fn typed_records(
     alloc: Global,
     formats: &Formats,

@@ -1,4 +1,4 @@
-//! Items as bytes: what writes the parts of an item's spelling.
+//! Items as bytes: writes the parts of an encoded item.
 
 ghost use Rattle.std.specs.Prelude.{◌≡◌, ◌≤◌, true, length};
 ghost use Rattle.std.specs.List.{list_all};
@@ -11,7 +11,7 @@ use crate::held_records::HeldRecords;
 use crate::memory_records::MemoryRecord;
 use oai_names::SetSpec;
 
-/// Writes the bytes at the front, and says how many they are.
+/// Writes the bytes at the start of `out`, and returns how many they are.
 pub(crate) fn put_bytes(out: &mut [u8], bytes: &[u8]) -> usize
     requires { length bytes.now ≤ length out.old }
     ensures { Writes bytes.now out.old result out.new }
@@ -20,8 +20,7 @@ pub(crate) fn put_bytes(out: &mut [u8], bytes: &[u8]) -> usize
     bytes.len()
 }
 
-/// Writes the spelling of an item of these parts at the front. The datestamp is in seconds from 1970
-/// on.
+/// Writes the encoding of an item with these parts at the start of `out`. The datestamp is in seconds from 1970 on.
 pub(crate) fn put_parts(
     out: &mut [u8],
     live: bool,
@@ -44,7 +43,7 @@ pub(crate) fn put_parts(
     at
 }
 
-/// Writes whether an item is live at the front, as 1 or 0.
+/// Writes whether an item is live at the start of `out`, as 1 or 0.
 fn put_live(out: &mut [u8], live: bool) -> usize
     requires { 1 ≤ length out.old }
     ensures { Writes (encoded_bool live) out.old result out.new }
@@ -52,7 +51,7 @@ fn put_live(out: &mut [u8], live: bool) -> usize
     put_bytes(out, &[u8::from(live)])
 }
 
-/// Writes a datestamp at the front, in seconds from 1970 on.
+/// Writes a datestamp at the start of `out`, in seconds from 1970 on.
 #[tactic(auto, unfolding(crate::specs::Encoding::encoded_stamp))]
 fn put_stamp(out: &mut [u8], stamp: i64) -> usize
     requires { 8 ≤ length out.old }
@@ -61,7 +60,7 @@ fn put_stamp(out: &mut [u8], stamp: i64) -> usize
     put_bytes(out, &stamp.to_be_bytes())
 }
 
-/// Writes a number at the front, the lower 32 bits of it.
+/// Writes a number at the start of `out`, its lower 32 bits.
 #[tactic(auto, unfolding(crate::specs::Encoding::encoded_count))]
 fn put_count(out: &mut [u8], count: usize) -> usize
     requires { 4 ≤ length out.old }
@@ -71,7 +70,7 @@ fn put_count(out: &mut [u8], count: usize) -> usize
     put_bytes(out, &[a, b, c, d])
 }
 
-/// Writes a text at the front.
+/// Writes a text at the start of `out`.
 fn put_text(out: &mut [u8], text: &str) -> usize
     requires { length (encoded_text text.now) ≤ length out.old }
     ensures written { Writes (encoded_text text.now) out.old result out.new }
@@ -81,7 +80,7 @@ fn put_text(out: &mut [u8], text: &str) -> usize
     at + put_bytes(&mut out[at..], text.as_bytes())
 }
 
-/// Writes a list of sets at the front.
+/// Writes a list of sets at the start of `out`.
 fn put_sets(out: &mut [u8], sets: &[SetSpec]) -> usize
     requires { length (encoded_list encoded_text sets.now) ≤ length out.old }
     ensures written { Writes (encoded_list encoded_text sets.now) out.old result out.new }
@@ -94,7 +93,7 @@ fn put_sets(out: &mut [u8], sets: &[SetSpec]) -> usize
     at
 }
 
-/// Writes a list of records at the front.
+/// Writes a list of records at the start of `out`.
 pub(crate) fn put_records<R: MemoryRecord>(out: &mut [u8], records: &[R]) -> usize
     requires { length (encoded_list (λ r. encoded_record (R.record_of r)) records.now) ≤ length out.old }
     ensures written { Writes (encoded_list (λ r. encoded_record (R.record_of r)) records.now)
@@ -108,7 +107,7 @@ pub(crate) fn put_records<R: MemoryRecord>(out: &mut [u8], records: &[R]) -> usi
     at
 }
 
-/// Writes a record at the front.
+/// Writes a record at the start of `out`.
 fn put_record<R: MemoryRecord>(out: &mut [u8], format: &R) -> usize
     requires { length (encoded_record (R.record_of format.now)) ≤ length out.old }
     ensures written { Writes (encoded_record (R.record_of format.now)) out.old result out.new }
@@ -118,7 +117,7 @@ fn put_record<R: MemoryRecord>(out: &mut [u8], format: &R) -> usize
     at + put_fields(&mut out[at..], format.fields())
 }
 
-/// Writes a list of fields at the front.
+/// Writes a list of fields at the start of `out`.
 fn put_fields(out: &mut [u8], fields: &[Field]) -> usize
     requires { length (encoded_list encoded_field fields.now) ≤ length out.old }
     ensures written { Writes (encoded_list encoded_field fields.now) out.old result out.new }
@@ -131,7 +130,7 @@ fn put_fields(out: &mut [u8], fields: &[Field]) -> usize
     at
 }
 
-/// Writes a field at the front.
+/// Writes a field at the start of `out`.
 fn put_field(out: &mut [u8], field: &Field) -> usize
     requires { length (encoded_field field.now) ≤ length out.old }
     ensures written { Writes (encoded_field field.now) out.old result out.new }

@@ -4,19 +4,19 @@ ghost use Rattle.oai_item.specs.declared.faults.Fault.TheVariants as fault;
 use std::alloc::{AllocError, AllocFailed};
 use thiserror::Error;
 
-/// Why a call on stored items could not be performed.
+/// Why a call on stored items failed.
 #[derive(Clone, Copy, Debug, PartialEq, Eq, Error)]
 pub enum Fault {
-    /// Memory was refused.
+    /// Out of memory.
     #[error("out of memory")]
     NoMemory,
-    /// The device that keeps the items failed.
+    /// The device that stores the items failed.
     #[error("the device failed")]
     Device,
-    /// The device gave other bytes than were written to it.
+    /// The device returned other bytes than were written to it.
     #[error("the stored items are damaged")]
     Damaged,
-    /// No page, no further name of a page, or no number of a version is left.
+    /// No page, no further reference to a page, or no number of a version is left.
     #[error("there are too many pages")]
     TooManyPages,
 }

@@ -48,36 +48,35 @@ pub struct Format {
     pub fields: Sequence<Text>,
 }
 
-/// The metadata formats of a repository: oai_dc, and those declared, in that order. There are at
-/// most 64, no two have the same prefix, and each that was declared keeps the rules that
-/// `FormatFault` names.
+/// The metadata formats of a repository: oai_dc, then the declared ones in order of declaration. There are at most 64,
+/// with distinct prefixes, and each declared one satisfies the rules that `FormatFault` names.
 #[derive(Debug, Drop)]
 pub struct Formats {
     formats: Vec<Format>,
 }
 
-/// Why a format was not declared, in the order in which the causes are looked for; out of memory
-/// apart, which may come in place of `FieldTwice` and of `TooMany`.
+/// Why a format was not declared, in the order in which the causes are tested. Only `NoMemory` may come earlier, in
+/// place of `FieldTwice` and of `TooMany`.
 #[derive(Clone, Copy, Debug, PartialEq, Eq, Error)]
 pub enum FormatFault {
-    /// A format of that prefix stands already, as oai_dc always does.
+    /// A format with that prefix exists, as oai_dc always does.
     #[error("a format of that prefix stands already")]
     Duplicate,
     /// The root, or a field, is not an ASCII letter or `_` followed by letters, digits, `-`, `_` and
     /// `.` (XML 1.0, section 2.3, `Name` in ASCII and without colons), or has more than 64 bytes.
     #[error("the name of an element is of illegal syntax or too long")]
     BadName,
-    /// The schema or the namespace is not of 1 to 512 bytes, or has a character that no document may
-    /// hold (XML 1.0, section 2.2), or a space, tab, LF or CR.
+    /// The schema or the namespace does not have 1 to 512 bytes, or has a character that no document may hold (XML 1.0,
+    /// section 2.2), or a space, tab, LF or CR.
     #[error("a URI is empty, too long or of illegal characters")]
     BadUri,
-    /// The name of a field stands twice.
+    /// The name of a field occurs twice.
     #[error("a field stands twice")]
     FieldTwice,
-    /// 64 formats stand already, oai_dc counted; or the format has no field, or more than 256.
+    /// There are 64 formats already, including oai_dc; or the format has no field, or more than 256.
     #[error("too many formats, too many fields, or no field")]
     TooMany,
-    /// The format could not be stored, or not be looked through.
+    /// Out of memory: the format could not be stored, or not be tested.
     #[error("out of memory")]
     NoMemory,
 }
@@ -105,16 +104,16 @@ impl Formats {
         Ok(Formats { formats })
     }
 
-    /// Adds the format at the end. On an error the formats are as before; the errors are those of
-    /// `FormatFault`, the first that applies, out of memory apart, which may come in place of
-    /// `FieldTwice`, of `TooMany` or of the format's place. The time is n log n for n fields.
+    /// Adds the format at the end. On an error the formats are unchanged. The error is the first cause that applies, in
+    /// the order of `FormatFault`; `NoMemory` may come in place of `FieldTwice`, of `TooMany`, or while the format is
+    /// stored. O(n log n) for n fields.
     pub fn declare(&mut self, format: Format) -> Result<(), FormatFault>
         ensures { IsDeclaring self.old format result self.new }
     {
         add(&mut self.formats, format)
     }
 
-    /// The format of that prefix, or None.
+    /// The format with that prefix, or None.
     pub fn find(&self, prefix: &Prefix) -> Option<&Format>
         ensures { option_copied result ≡ format_named prefix.now self.now }
     {
@@ -130,7 +129,7 @@ impl Formats {
         format_named(prefix, self.formats.as_slice())
     }
 
-    /// The format at that place, from 0, or None past the last.
+    /// The format at that position, counted from 0, or None past the last.
     pub fn get(&self, at: usize) -> Option<&Format>
         ensures { option_copied result ≡ slice_get self.now at }
     {
@@ -153,7 +152,7 @@ impl Formats {
     }
 }
 
-/// Adds the format at the end, if it may be declared beside those that stand.
+/// Adds the format at the end, if it may be declared beside the others.
 #[tactic(auto, using(crate::proofs::Declarations::good_texts))]
 fn add(formats: &mut Vec<Format>, format: Format) -> Result<(), FormatFault>
     ensures { IsDeclaring formats.old.items format result formats.new.items }
@@ -165,7 +164,7 @@ fn add(formats: &mut Vec<Format>, format: Format) -> Result<(), FormatFault>
     }
 }
 
-/// The format of that prefix among these.
+/// The format with that prefix among these.
 #[tactic(auto, unfolding(crate::specs::Formats::format_named))]
 fn format_named<'a>(prefix: &str, formats: &'a [Format]) -> Option<&'a Format>
     ensures { option_copied result ≡ format_named prefix.now formats.now }

@@ -1,5 +1,5 @@
-//! What is known to stand in front of bytes, read by the lengths alone: texts are not tested again.
-//! No function here takes memory.
+//! Reads what bytes are known to begin with, by the lengths alone: texts are not validated again. No function here
+//! allocates.
 
 ghost use Rattle.std.specs.Prelude.{◌≡◌, ◌++◌, true};
 ghost use Rattle.oai_names.specs.Sets.{may_be_set_spec};
@@ -12,18 +12,18 @@ use crate::decodings::read_count;
 use crate::walks::{FieldTexts, SpelledFields, SpelledRecord, SpelledRecords, SpelledSets};
 use std::str::from_utf8_unchecked;
 
-/// The text that stands in front, and the bytes after it.
+/// The text at the start of the bytes, and the remaining bytes.
 pub(crate) fn first_text(bytes: &[u8]) -> (&str, &[u8])
     requires { Stands encoded_text IsText bytes.now }
     ensures { IsFront encoded_text IsText result.0.now bytes.now result.1.now }
 {
     let (len, rest) = read_count(bytes).unwrap();
     let (text, after) = rest.split_at(len);
-    // A text stands there, so these bytes are UTF-8.
+    // The bytes begin with a text, so these are UTF-8.
     (unsafe { from_utf8_unchecked(text) }, after)
 }
 
-/// The bytes after the text that stands in front.
+/// The bytes after the first text.
 fn after_text(bytes: &[u8]) -> &[u8]
     requires { Stands encoded_text IsText bytes.now }
     ensures { IsFront encoded_text IsText (first_text bytes.now).0 bytes.now result.now }
@@ -32,7 +32,7 @@ fn after_text(bytes: &[u8]) -> &[u8]
     after
 }
 
-/// The field that stands in front, and the bytes after it.
+/// The field at the start of the bytes, and the remaining bytes.
 pub(crate) fn first_field(bytes: &[u8]) -> (FieldTexts<'_>, &[u8])
     requires { Stands encoded_field (λ field. is_text_field field ≡ true) bytes.now }
     ensures { IsFront encoded_field (λ field. is_text_field field ≡ true)
@@ -43,7 +43,7 @@ pub(crate) fn first_field(bytes: &[u8]) -> (FieldTexts<'_>, &[u8])
     (FieldTexts { name, text }, rest)
 }
 
-/// The bytes after the field that stands in front.
+/// The bytes after the first field.
 fn after_field(bytes: &[u8]) -> &[u8]
     requires { Stands encoded_field (λ field. is_text_field field ≡ true) bytes.now }
     ensures { IsFront encoded_field (λ field. is_text_field field ≡ true) (first_field bytes.now).0
@@ -52,7 +52,7 @@ fn after_field(bytes: &[u8]) -> &[u8]
     after_text(after_text(bytes))
 }
 
-/// The list of fields that stands in front, and the bytes after it.
+/// The list of fields at the start of the bytes, and the remaining bytes.
 fn first_fields(bytes: &[u8]) -> (SpelledFields<'_>, &[u8])
     requires { Stands (encoded_list encoded_field) (λ fields. are_fields fields ≡ true) bytes.now }
     ensures { IsFront (encoded_list encoded_field) (λ fields. are_fields fields ≡ true) result.0
@@ -66,7 +66,7 @@ fn first_fields(bytes: &[u8]) -> (SpelledFields<'_>, &[u8])
     (SpelledFields::new(count, start), rest)
 }
 
-/// The setSpec that stands in front, and the bytes after it.
+/// The setSpec at the start of the bytes, and the remaining bytes.
 pub(crate) fn first_set(bytes: &[u8]) -> (&str, &[u8])
     requires { Stands encoded_text (IsNamed may_be_set_spec) bytes.now }
     ensures { IsFront encoded_text (IsNamed may_be_set_spec) result.0.now bytes.now result.1.now }
@@ -74,7 +74,7 @@ pub(crate) fn first_set(bytes: &[u8]) -> (&str, &[u8])
     first_text(bytes)
 }
 
-/// The bytes after the setSpec that stands in front.
+/// The bytes after the first setSpec.
 fn after_set(bytes: &[u8]) -> &[u8]
     requires { Stands encoded_text (IsNamed may_be_set_spec) bytes.now }
     ensures { IsFront encoded_text (IsNamed may_be_set_spec) (first_text bytes.now).0
@@ -83,7 +83,7 @@ fn after_set(bytes: &[u8]) -> &[u8]
     after_text(bytes)
 }
 
-/// The list of sets that stands in front, and the bytes after it.
+/// The list of sets at the start of the bytes, and the remaining bytes.
 pub(crate) fn first_sets(bytes: &[u8]) -> (SpelledSets<'_>, &[u8])
     requires { Stands (encoded_list encoded_text) (λ sets. are_sets sets ≡ true) bytes.now }
     ensures { IsFront (encoded_list encoded_text) (λ sets. are_sets sets ≡ true) result.0
@@ -97,7 +97,7 @@ pub(crate) fn first_sets(bytes: &[u8]) -> (SpelledSets<'_>, &[u8])
     (SpelledSets::new(count, start), rest)
 }
 
-/// The record that stands in front, and the bytes after it.
+/// The record at the start of the bytes, and the remaining bytes.
 pub(crate) fn first_record(bytes: &[u8]) -> (SpelledRecord<'_>, &[u8])
     requires { Stands encoded_record (λ format. is_record format ≡ true) bytes.now }
     ensures { IsFront encoded_record (λ format. is_record format ≡ true)
@@ -108,7 +108,7 @@ pub(crate) fn first_record(bytes: &[u8]) -> (SpelledRecord<'_>, &[u8])
     (SpelledRecord { prefix, fields }, rest)
 }
 
-/// The list of records that stands in front.
+/// The list of records at the start of the bytes.
 pub(crate) fn first_records(bytes: &[u8]) -> SpelledRecords<'_>
     requires { Stands (encoded_list encoded_record) (λ formats. are_records formats ≡ true)
         bytes.now }

@@ -1,4 +1,4 @@
-//! The records that an item owns: each in memory of its own, or all of them as the bytes of their spelling.
+//! The records that an item owns: each allocated, or all of them encoded in one buffer.
 
 ghost use Rattle.std.specs.Prelude.{◌≡◌, ◌<◌, ◌≤◌, ◌+◌, true, length, IfOk, MatchOption};
 ghost use Rattle.std.specs.List.{list_all};
@@ -17,13 +17,13 @@ use oai_names::{Prefix, Sequence, Text};
 use std::alloc::{AllocError, Global};
 use std::marker::Model;
 
-/// How records are held.
+/// How records are stored in memory.
 #[derive(Debug, Drop)]
 enum Held {
-    /// Each in memory of its own: those of an item that was made of its parts, those that a deletion leaves, and those
-    /// of a deposit that are too many bytes to be spelled.
+    /// Each allocated: those of an item that was made from its parts, those of a tombstone, and those of a deposit that
+    /// have too many bytes to be encoded.
     Typed(Sequence<(Prefix, Sequence<Field>)>),
-    /// As the bytes of their spelling, one buffer: those of a deposit, and those of an item that comes from a store.
+    /// Encoded in one buffer: those of a deposit, and those of an item that was read from a store.
     Spelled(Sequence<u8>),
 }
 
@@ -47,7 +47,7 @@ impl Model for HeldRecords {
 }
 
 impl HeldRecords {
-    /// These records, in the memory that they have.
+    /// These records, as they are allocated.
     pub(crate) fn typed(records: Sequence<(Prefix, Sequence<Field>)>) -> HeldRecords
         ensures { result ≡ records }
     {
@@ -56,7 +56,7 @@ impl HeldRecords {
         }
     }
 
-    /// The records that the bytes spell, all of them, which are copied. The error is out of memory.
+    /// The records that the bytes, all of them, encode; the bytes are copied. The error is out of memory.
     pub(crate) fn spelled(alloc: Global, bytes: &[u8]) -> Result<HeldRecords, AllocError>
         requires { AreWhole bytes.now }
         ensures { IfOk result (λ records. records ≡ records_in bytes.now) }
@@ -66,8 +66,8 @@ impl HeldRecords {
         })
     }
 
-    /// These records of a deposit, each under a prefix, as the bytes of their spelling, which one buffer holds; None
-    /// where they are more bytes than an item can have. The error is out of memory.
+    /// These records of a deposit, each under a prefix, encoded in one buffer; None if they have more bytes than an
+    /// item may have. The error is out of memory.
     pub(crate) fn deposited(
         alloc: Global,
         records: &[(Text, Sequence<Field>)],
@@ -87,7 +87,7 @@ impl HeldRecords {
         }))
     }
 
-    /// Equal records. The error is out of memory.
+    /// A copy of the records. The error is out of memory.
     pub(crate) fn copy(&self, alloc: Global) -> Result<HeldRecords, AllocError>
         ensures { IfOk result (λ copy. copy ≡ self.now) }
     {
@@ -100,7 +100,7 @@ impl HeldRecords {
         }
     }
 
-    /// The records, one after the other.
+    /// Iterates over the records.
     pub(crate) fn walk(&self) -> ItemRecords<'_>
         ensures { result ≡ self.now }
     {
@@ -110,7 +110,7 @@ impl HeldRecords {
         }
     }
 
-    /// So many bytes, and those of the list of the records, spelled.
+    /// That many bytes and those of the encoded list of the records.
     pub(crate) fn measured(&self, size: usize) -> Result<usize, TooLarge>
         ensures { IsMeasure (size + length (encoded_list encoded_record self.now)) result }
     {
@@ -120,7 +120,7 @@ impl HeldRecords {
         }
     }
 
-    /// Writes the list of the records at the front, and says how many bytes it is.
+    /// Writes the list of the records at the start of `out`, and returns its length in bytes.
     pub(crate) fn put(&self, out: &mut [u8]) -> usize
         requires { length (encoded_list encoded_record self.now) ≤ length out.old }
         ensures written { Writes (encoded_list encoded_record self.now) out.old result out.new }

@@ -1,4 +1,4 @@
-//! Items that are read in place: the bytes of an item's spelling answer for the item.
+//! Items that are read in place: the encoded bytes stand for the item.
 
 ghost use Rattle.std.specs.Prelude.{◌≡◌, ◌≤◌, ◌&&◌, ℕ, List, Some, IfOk, IsSome, OnErr, is_some, length};
 ghost use Rattle.oai_item.specs.Decoding.{IsReadInPlace, item_in};
@@ -23,8 +23,8 @@ use std::alloc::{AllocError, Global};
 use std::cmp::Ordering;
 use std::marker::Model;
 
-/// An item as the bytes of its spelling, which are lent. It answers as the item would, which `Item::decode`
-/// gives of these bytes, and keeps nothing else in memory.
+/// An item in encoded form, borrowed. Its methods return what those of the item decoded from these bytes
+/// (`Item::decode`) return. It allocates nothing.
 #[derive(Drop)]
 pub struct Spelling<'a> {
     bytes: &'a [u8],
@@ -46,10 +46,9 @@ impl<'a> Model for Spelling<'a> {
 }
 
 impl<'a> Spelling<'a> {
-    /// The item that the bytes spell, all of them. It looks at all bytes. The errors: `Damaged` where they
-    /// spell none, just where `Item::decode` answers so; `NoMemory`, where memory is taken: of more than 16
-    /// setSpecs the names are kept, and those of the sets above them, until it is known that none covers
-    /// another.
+    /// The item that the bytes, all of them, encode. All bytes are read. The errors: `Damaged` exactly where
+    /// `Item::decode` returns it, if they encode none; `NoMemory`, which needs more than 16 setSpecs: then their names
+    /// and those of their ancestors are held in memory until it is known that none covers another.
     pub fn read(alloc: Global, bytes: &'a [u8]) -> Result<Spelling<'a>, DecodeFault>
         ensures { IsReadInPlace bytes.now result }
     {
@@ -60,8 +59,8 @@ impl<'a> Spelling<'a> {
         }
     }
 
-    /// The item that bytes spell of which this is known: `is_spelling` answered so. It looks at the
-    /// front of them, up to the identifier.
+    /// The item that the bytes encode, for which `is_spelling` returned true. It reads only the first bytes, up to the
+    /// identifier.
     pub fn new(bytes: &'a [u8]) -> Spelling<'a>
         requires { IsSome (item_in bytes.now) }
         ensures { item_in bytes.now ≡ Some result }
@@ -78,7 +77,7 @@ impl<'a> Spelling<'a> {
         }
     }
 
-    /// The bytes, all of the spelling: 1 to 1,048,576.
+    /// The encoded bytes: 1 to 1,048,576.
     pub fn bytes(&self) -> &'a [u8]
         ensures spells { Spells result.now self.now }
         ensures read { item_in result.now ≡ Some self.now }
@@ -94,7 +93,7 @@ impl<'a> Spelling<'a> {
         self.identifier
     }
 
-    /// The datestamp, in seconds from 1970 on, of years 0000 to 9999.
+    /// The datestamp, in seconds from 1970 on, in the years 0000 to 9999.
     pub fn stamp(&self) -> i64
         ensures { result ≡ self.now.stamp }
     {
@@ -108,7 +107,7 @@ impl<'a> Spelling<'a> {
         self.live
     }
 
-    /// The setSpecs that say which sets the item is in, one after the other.
+    /// Iterates over the setSpecs that decide which sets the item is in.
     pub fn sets(&self) -> SpelledSets<'a>
         ensures { result ≡ self.now.sets }
     {
@@ -116,7 +115,7 @@ impl<'a> Spelling<'a> {
         sets
     }
 
-    /// The record in each format, in the order of the prefixes, one after the other.
+    /// Iterates over the record in each format, in the order of the prefixes.
     pub fn records(&self) -> SpelledRecords<'a>
         ensures { result ≡ self.now.formats }
     {
@@ -124,7 +123,7 @@ impl<'a> Spelling<'a> {
         first_records(rest)
     }
 
-    /// The bytes of the list of its records, the end of the spelling.
+    /// The encoded list of its records, the end of the bytes.
     pub(crate) fn records_bytes(&self) -> &'a [u8]
         ensures spelled { AreWhole result.now }
         ensures records { records_in result.now ≡ self.now.formats }
@@ -133,14 +132,14 @@ impl<'a> Spelling<'a> {
         rest
     }
 
-    /// How the item stands to another in the order of items.
+    /// Compares the item with another in the order of items.
     pub fn order(&self, other: &Spelling<'_>) -> Ordering
         ensures { result ≡ item_cmp self.now other.now }
     {
         self.order_to(other.stamp(), other.identifier())
     }
 
-    /// How the item stands in that order to this datestamp, in seconds from 1970 on, and identifier.
+    /// Compares the item in that order with this datestamp, in seconds from 1970 on, and identifier.
     pub fn order_to(&self, stamp: i64, identifier: &str) -> Ordering
         ensures { result ≡ place_cmp self.now stamp identifier.now }
     {
@@ -150,23 +149,22 @@ impl<'a> Spelling<'a> {
         }
     }
 
-    /// Whether the item has a record of that prefix.
+    /// Whether the item has a record with that prefix.
     pub fn has_record(&self, prefix: &str) -> bool
         ensures { result ≡ has_record prefix.now self.now.formats }
     {
         has_record(self.records(), prefix)
     }
 
-    /// Whether the item is in the set: one of its setSpecs is that of the set, or lies below it.
+    /// Whether the item is in the set: one of its setSpecs is the set's or a descendant of it.
     pub fn is_in(&self, set: &SetSpec) -> bool
         ensures { result ≡ is_in set.now self.now.sets }
     {
         is_in(self.sets(), set.as_str())
     }
 
-    /// Whether the item, live or deleted, is asked for: it has a record of the prefix, a datestamp
-    /// from `lower` to `upper`, in seconds from 1970 on and both included, and is in the set where
-    /// one is given.
+    /// Whether a list request selects the item, live or deleted: it has a record with the prefix, a datestamp from
+    /// `lower` to `upper`, in seconds from 1970 on and both included, and is in the set if one is given.
     pub fn passes(&self, prefix: &str, lower: i64, upper: i64, set: &Option<SetSpec>) -> bool
         ensures { result
             ≡ passes (record { prefix = prefix.now; lower = lower; upper = upper; set = set.now })
@@ -178,7 +176,7 @@ impl<'a> Spelling<'a> {
             && self.is_in_given(set)
     }
 
-    /// Whether the item is in the set, where one is given.
+    /// Whether the item is in the set, if one is given.
     fn is_in_given(&self, set: &Option<SetSpec>) -> bool
         ensures { result ≡ is_in_given set.now self.now.sets }
     {
@@ -189,10 +187,9 @@ impl<'a> Spelling<'a> {
     }
 }
 
-/// Whether the bytes, all of them, spell an item: just where `Item::decode` does not answer `Damaged`.
-/// The error is out of memory. It takes none for up to 16 setSpecs, of which it compares each pair, nor
-/// where another part of the item is not good; of more it keeps the names, and those of the sets above
-/// them, in a sorted set until it answers.
+/// Whether the bytes, all of them, encode an item: exactly where `Item::decode` does not return `Damaged`. The error is
+/// out of memory. It allocates nothing for up to 16 setSpecs, which it compares pairwise, nor if another part of the
+/// item is invalid; for more it holds their names and those of their ancestors in a sorted set until it returns.
 pub fn is_spelling(alloc: Global, bytes: &[u8]) -> Result<bool, AllocError>
     ensures spells { IfOk result (λ spells. spells ≡ is_some (item_in bytes.now)) }
     ensures few { OnErr result (length bytes.now ≤ MAX_ITEM_BYTES) }
@@ -203,7 +200,7 @@ pub fn is_spelling(alloc: Global, bytes: &[u8]) -> Result<bool, AllocError>
     }
 }
 
-/// The parts of an item, as its spelling has them.
+/// The parts of an encoded item.
 #[derive(Drop)]
 struct Parts<'a> {
     live: bool,
@@ -213,7 +210,7 @@ struct Parts<'a> {
     records: SpelledRecords<'a>,
 }
 
-/// The parts of the item that the bytes spell, all of them, where each is good by itself.
+/// The parts of the item that the bytes, all of them, encode, if each part is valid by itself.
 fn read_parts(bytes: &[u8]) -> Option<Parts<'_>>
     ensures { ReadsParts bytes.now result }
 {
@@ -237,7 +234,7 @@ fn read_parts(bytes: &[u8]) -> Option<Parts<'_>>
     })
 }
 
-/// Whether the parts may be those of one item. The error is out of memory.
+/// Whether the parts are valid together. The error is out of memory.
 fn parts_agree(alloc: Global, parts: &Parts<'_>) -> Result<bool, AllocError>
     ensures { IfOk result (λ agree. agree
         ≡ (none_covers parts.now.sets && may_be_records parts.now.live parts.now.records)) }
@@ -248,15 +245,15 @@ fn parts_agree(alloc: Global, parts: &Parts<'_>) -> Result<bool, AllocError>
     none_covers(alloc, &parts.sets)
 }
 
-/// Whether the records may be those of an item that is live, or deleted: at least one, in the order
-/// of their prefixes, and without fields where it is deleted.
+/// Whether a live, or a deleted, item may have these records: at least one, in the order of their prefixes, and without
+/// fields if it is deleted.
 fn may_be_records(live: bool, records: &SpelledRecords<'_>) -> bool
     ensures { result ≡ may_be_records live records.now }
 {
     !records.is_empty() && are_rising(records) && (live || have_no_fields(records))
 }
 
-/// Whether each prefix stands before the next, byte by byte.
+/// Whether each prefix precedes the next, byte by byte.
 fn are_rising(records: &SpelledRecords<'_>) -> bool
     ensures { result ≡ are_rising records.now }
 {
@@ -287,7 +284,7 @@ fn have_no_fields(records: &SpelledRecords<'_>) -> bool
     true
 }
 
-/// Whether one of the records is of that prefix.
+/// Whether one of the records has that prefix.
 #[tactic(auto, unfolding(crate::specs::Item::record_named))]
 fn has_record(mut records: SpelledRecords<'_>, prefix: &str) -> bool
     ensures { result ≡ has_record prefix.now records.entry }
@@ -300,7 +297,7 @@ fn has_record(mut records: SpelledRecords<'_>, prefix: &str) -> bool
     false
 }
 
-/// Whether an item of these setSpecs is in the set.
+/// Whether an item with these setSpecs is in the set.
 #[tactic(auto, unfolding(crate::specs::Membership::is_in))]
 fn is_in(mut sets: SpelledSets<'_>, set: &str) -> bool
     ensures { result ≡ is_in set.now sets.entry }
@@ -313,8 +310,8 @@ fn is_in(mut sets: SpelledSets<'_>, set: &str) -> bool
     false
 }
 
-/// What `item_in` answers, which reads an item from bytes as a function: the item that they spell, where
-/// they spell one.
+/// `item_in`, the decoder as a function, returns the item that the bytes encode, if they encode one. A theorem, proved
+/// by an empty function.
 pub fn spelling_law()
     ensures spelled { (bytes : List ℕ) (item : ItemState)
         → Spells bytes item → item_in bytes ≡ Some item }

@@ -1,4 +1,4 @@
-//! Walks over the records of an item and their fields, in memory or as they are spelled.
+//! Iterators over the records of an item and their fields, in memory or encoded.
 
 ghost use Rattle.std.specs.Prelude.{◌≡◌, ◌==◌, true, [], ◌∷◌, length, IfSome, MatchOption};
 ghost use Rattle.oai_names.specs.Names.{may_be_prefix};
@@ -8,14 +8,14 @@ use crate::walks::{FieldTexts, SpelledFields, SpelledRecords};
 use oai_names::{Prefix, Sequence};
 use std::marker::Model;
 
-/// Where the fields stand that are still to come.
+/// Where the remaining fields are.
 #[derive(Drop)]
 enum FieldsLeft<'a> {
     Typed(&'a [Field]),
     Spelled(SpelledFields<'a>),
 }
 
-/// The fields of a record of an item that are still to come, in order.
+/// The remaining fields of a record of an item, in order.
 #[derive(Drop)]
 pub struct Fields<'a> {
     left: FieldsLeft<'a>,
@@ -49,7 +49,7 @@ impl<'a> Fields<'a> {
         }
     }
 
-    /// Fields as they are spelled.
+    /// Encoded fields.
     pub(crate) fn spelled(fields: SpelledFields<'a>) -> Fields<'a>
         ensures { result ≡ fields.entry }
     {
@@ -58,7 +58,7 @@ impl<'a> Fields<'a> {
         }
     }
 
-    /// How many fields are to come.
+    /// The number of remaining fields.
     pub fn len(&self) -> usize
         ensures { result ≡ length self.now }
     {
@@ -68,7 +68,7 @@ impl<'a> Fields<'a> {
         }
     }
 
-    /// Whether no field is to come.
+    /// Whether no field remains.
     pub fn is_empty(&self) -> bool
         ensures { result ≡ (length self.now == 0) }
     {
@@ -104,14 +104,14 @@ pub struct ItemRecord<'a> {
     pub fields: Fields<'a>,
 }
 
-/// Where the records stand that are still to come.
+/// Where the remaining records are.
 #[derive(Drop)]
 enum RecordsLeft<'a> {
     Typed(&'a [(Prefix, Sequence<Field>)]),
     Spelled(SpelledRecords<'a>),
 }
 
-/// The records of an item that are still to come, in the order of their prefixes.
+/// The remaining records of an item, in the order of their prefixes.
 #[derive(Drop)]
 pub struct ItemRecords<'a> {
     left: RecordsLeft<'a>,
@@ -138,7 +138,7 @@ impl<'a> ItemRecords<'a> {
         }
     }
 
-    /// Records as they are spelled.
+    /// Encoded records.
     pub(crate) fn spelled(records: SpelledRecords<'a>) -> ItemRecords<'a>
         ensures { result ≡ records.entry }
     {
@@ -147,7 +147,7 @@ impl<'a> ItemRecords<'a> {
         }
     }
 
-    /// How many records are to come.
+    /// The number of remaining records.
     pub fn len(&self) -> usize
         ensures { result ≡ length self.now }
     {
@@ -157,7 +157,7 @@ impl<'a> ItemRecords<'a> {
         }
     }
 
-    /// Whether no record is to come.
+    /// Whether no record remains.
     pub fn is_empty(&self) -> bool
         ensures { result ≡ (length self.now == 0) }
     {

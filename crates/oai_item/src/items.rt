@@ -20,12 +20,11 @@ use oai_names::{Identifier, Prefix, Sequence, SetSpec};
 use std::alloc::{AllocError, Global};
 use std::marker::Model;
 
-/// The bytes of the first two parts of an item's spelling: whether it is live, and its datestamp.
+/// The length of the first two parts of an encoded item: whether it is live, and its datestamp.
 const FIRST_BYTES: usize = 9;
 
-/// An item of a repository (OAI-PMH 2.0, section 2.3): its identifier, its datestamp, whether it is
-/// live or deleted, its sets, and its record in each of its formats. The records of a deleted item
-/// have no fields (section 2.5.1).
+/// An item of a repository (OAI-PMH 2.0, section 2.3): its identifier, its datestamp, whether it is live or deleted,
+/// its sets, and its record in each of its formats. The records of a deleted item have no fields (section 2.5.1).
 #[derive(Debug, Drop)]
 pub struct Item {
     identifier: Identifier,
@@ -48,11 +47,10 @@ impl Model for Item {
 }
 
 impl Item {
-    /// A live item of these parts. The datestamp is in seconds from 1970 on, of years 0000 to 9999;
-    /// the records are in the order of their prefixes, one a prefix, and at least one. Of the sets
-    /// those stay that say where the item is: no setSpec stands twice, the first place counts, and
-    /// none stands that covers another, since the item is in it anyway (OAI-PMH 2.0, section 2.6).
-    /// The error is out of memory.
+    /// A live item with these parts. The datestamp is in seconds from 1970 on, in the years 0000 to 9999; there is at
+    /// least one record, and the records are in the order of their distinct prefixes. Of the setSpecs the item keeps
+    /// those that decide its membership: of equal ones the first, and none that covers another, since the item is in
+    /// that set anyway (OAI-PMH 2.0, section 2.6). The error is out of memory.
     pub fn live(
         alloc: Global,
         identifier: Identifier,
@@ -69,7 +67,7 @@ impl Item {
         Item::with_prefixed(alloc, identifier, stamp, sets, HeldRecords::typed(formats))
     }
 
-    /// A live item, of records whose prefixes are known to be of their grammar and length.
+    /// A live item with records whose prefixes are known to be valid.
     pub(crate) fn with_prefixed(
         alloc: Global,
         identifier: Identifier,
@@ -92,7 +90,7 @@ impl Item {
         })
     }
 
-    /// An equal item. The error is out of memory.
+    /// A copy of the item. The error is out of memory.
     pub fn copy(&self, alloc: Global) -> Result<Item, AllocError>
         ensures { IfOk result (λ copy. copy ≡ self.now) }
     {
@@ -105,9 +103,8 @@ impl Item {
         })
     }
 
-    /// The deleted item that is left of this one: of the same identifier, sets and prefixes, without
-    /// fields, and of that datestamp, in seconds from 1970 on, of years 0000 to 9999. The error is
-    /// out of memory.
+    /// The tombstone of this item: the same identifier, sets and prefixes, no fields, and that datestamp, in seconds
+    /// from 1970 on, in the years 0000 to 9999. The error is out of memory.
     pub fn tombstone(&self, alloc: Global, stamp: i64) -> Result<Item, AllocError>
         requires { IsStamp stamp }
         ensures { IfOk result (λ tombstone. tombstone ≡ tombstone_of stamp self.now) }
@@ -128,7 +125,7 @@ impl Item {
         &self.identifier
     }
 
-    /// The datestamp, in seconds from 1970 on, of years 0000 to 9999.
+    /// The datestamp, in seconds from 1970 on, in the years 0000 to 9999.
     pub fn stamp(&self) -> i64
         ensures stamp { result ≡ self.now.stamp }
         ensures in_range { IsStamp self.now.stamp }
@@ -143,8 +140,8 @@ impl Item {
         self.live
     }
 
-    /// The setSpecs that say which sets the item is in: those, and the sets that cover them. None of
-    /// them covers another, and none stands twice.
+    /// The setSpecs that decide which sets the item is in: these, and the sets that cover them. They are distinct, and
+    /// none of them covers another.
     pub fn sets(&self) -> &[SetSpec]
         ensures sets { result.now ≡ self.now.sets }
         ensures apart { NoneCovers self.now.sets }
@@ -152,7 +149,7 @@ impl Item {
         self.sets.as_slice()
     }
 
-    /// The record in each format, in the order of the prefixes, at least one.
+    /// Iterates over the record in each format, in the order of the prefixes; at least one.
     pub fn formats(&self) -> ItemRecords<'_>
         ensures formats { result ≡ self.now.formats }
         ensures valid { IsItem self.now }
@@ -160,14 +157,14 @@ impl Item {
         self.formats.walk()
     }
 
-    /// Whether the item has a record of that prefix. It takes no memory.
+    /// Whether the item has a record with that prefix. Allocates nothing.
     pub fn has_record(&self, prefix: &str) -> bool
         ensures { result ≡ has_record prefix.now self.now.formats }
     {
         has_record(self.formats(), prefix)
     }
 
-    /// Whether the item has a record in each format of the other one. It takes no memory.
+    /// Whether the item has a record in each format of the other one. Allocates nothing.
     pub fn has_each_format(&self, other: &Item) -> bool
         ensures { result ≡ list_all (λ format. has_record format.0 self.now.formats)
             other.now.formats }
@@ -181,16 +178,14 @@ impl Item {
         true
     }
 
-    /// The fields of the record of that prefix, or None where the item has no such record. It takes
-    /// no memory.
+    /// The fields of the record with that prefix, or None if the item has no such record. Allocates nothing.
     pub fn fields_in(&self, prefix: &str) -> Option<Fields<'_>>
         ensures { result ≡ option_map (λ r. r.1) (record_named prefix.now self.now.formats) }
     {
         fields_named(self.formats(), prefix)
     }
 
-    /// The number of bytes of the item's spelling, where it is stored. The error: they are more than
-    /// 1,048,576. It takes no memory.
+    /// The length of the encoded item in bytes. The error: it is above 1,048,576. Allocates nothing.
     pub fn encoded_len(&self) -> Result<usize, TooLarge>
         ensures { IsMeasure (length (encoded self.now)) result }
     {
@@ -199,9 +194,9 @@ impl Item {
         self.formats.measured(middle)
     }
 
-    /// Writes the item's spelling at the front of the bytes, and leaves those behind it alone. The
-    /// answer is how many bytes it is, as `encoded_len` returns it; there must be room for so many. The
-    /// error: they are more than 1,048,576, and nothing is written. It takes no memory.
+    /// Writes the encoded item at the start of `out`, and leaves the bytes behind it unchanged. Returns its length, as
+    /// `encoded_len` does; `out` must have at least that many bytes. The error: the length is above 1,048,576, and
+    /// nothing is written. Allocates nothing.
     pub fn encode_into(&self, out: &mut [u8]) -> Result<usize, TooLarge>
         requires { length (encoded self.now) ≤ MAX_ITEM_BYTES
             → length (encoded self.now) ≤ length out.old }
@@ -214,10 +209,9 @@ impl Item {
         Ok(put_parts(out, self.live, self.stamp, identifier, sets, records))
     }
 
-    /// The item that the bytes spell, all of them, as `encode_into` writes it; each item has one
-    /// spelling. The errors: `Damaged` where they spell none, as with bytes left over, or are more
-    /// than 1,048,576; `NoMemory`. Memory for the item is asked for once it is known that the bytes spell
-    /// one; to know it, memory is taken as `is_spelling` says.
+    /// The item that the bytes, all of them, encode, as `encode_into` writes it; each item has exactly one encoding.
+    /// The errors: `Damaged` if they encode none, as with trailing bytes, or are more than 1,048,576; `NoMemory`. The
+    /// item is allocated once the bytes are known to encode one; the test allocates what `is_spelling` says.
     pub fn decode(alloc: Global, bytes: &[u8]) -> Result<Item, DecodeFault>
         ensures { IsDecoding bytes.now result }
     {
@@ -225,7 +219,7 @@ impl Item {
         Ok(Item::spelled(alloc, &spelling)?)
     }
 
-    /// The item that was read in place, in memory of its own. The error is out of memory.
+    /// A copy of the item that was read in place. The error is out of memory.
     pub fn spelled(alloc: Global, spelling: &Spelling<'_>) -> Result<Item, AllocError>
         ensures { IfOk result (λ item. item ≡ spelling.now) }
     {
@@ -239,7 +233,7 @@ impl Item {
     }
 }
 
-/// Whether one of the records is of that prefix.
+/// Whether one of the records has that prefix.
 #[tactic(auto, unfolding(crate::specs::Item::record_named))]
 fn has_record(mut records: ItemRecords<'_>, prefix: &str) -> bool
     ensures { result ≡ has_record prefix.now records.entry }
@@ -252,7 +246,7 @@ fn has_record(mut records: ItemRecords<'_>, prefix: &str) -> bool
     false
 }
 
-/// The fields of the record of that prefix.
+/// The fields of the record with that prefix.
 #[tactic(auto, unfolding(crate::specs::Item::record_named))]
 fn fields_named<'a>(mut records: ItemRecords<'a>, prefix: &str) -> Option<Fields<'a>>
     ensures { result ≡ option_map (λ r. r.1) (record_named prefix.now records.entry) }
@@ -265,8 +259,8 @@ fn fields_named<'a>(mut records: ItemRecords<'a>, prefix: &str) -> Option<Fields
     None
 }
 
-/// Looks at each prefix, so that what its type says of it, its grammar and its length, is known of
-/// all of them. It changes nothing.
+/// Reads each prefix, so that the invariants of its type, grammar and length, are known of all of them. It changes
+/// nothing.
 #[tactic(auto, unfolding(crate::specs::Item::are_prefixed))]
 fn see_prefixes(formats: &[(Prefix, Sequence<Field>)])
     ensures { are_prefixed formats.now ≡ true }
@@ -276,7 +270,7 @@ fn see_prefixes(formats: &[(Prefix, Sequence<Field>)])
     }
 }
 
-/// Whether an item of these setSpecs is in the set. It takes no memory.
+/// Whether an item with these setSpecs is in the set. Allocates nothing.
 #[tactic(auto, unfolding(crate::specs::Membership::is_in))]
 pub fn is_in(set: &SetSpec, sets: &[SetSpec]) -> bool
     ensures { result ≡ is_in set.now sets.now }
@@ -284,8 +278,8 @@ pub fn is_in(set: &SetSpec, sets: &[SetSpec]) -> bool
     sets.iter().any(|other| set.covers(other))
 }
 
-/// What leaving sets out of an item's list keeps: the item is in the same sets (OAI-PMH 2.0, section
-/// 2.6), and of two setSpecs that stay at different places neither covers the other.
+/// Reducing an item's setSpecs leaves the item in the same sets (OAI-PMH 2.0, section 2.6), and of two setSpecs that
+/// stay, at different positions, neither covers the other. A theorem, proved by an empty function.
 #[tactic(auto, using(crate::proofs::Kept::reduced_apart, crate::proofs::SetLaws::same_sets))]
 pub fn set_law()
     ensures membership { (s : List ℕ) (sets : List (List ℕ))
@@ -293,8 +287,8 @@ pub fn set_law()
     ensures apart { (sets : List (List ℕ)) → NoneCovers (reduced sets) }
 {}
 
-/// What writing and reading items keep: bytes spell one item at most, and reading what was written
-/// gives the item that was written, unless memory is refused.
+/// Bytes encode at most one item, and decoding an encoded item returns that item, unless memory runs out. A theorem,
+/// proved by an empty function.
 #[tactic(auto, using(crate::proofs::Spelled::same_spelled, crate::proofs::Spelled::round_trip))]
 pub fn encoding_law()
     ensures one { (bytes : List ℕ) (item other : ItemState)

@@ -1,4 +1,4 @@
-//! Items, the records that they carry, and metadata formats; what deposits ask for; what lists select.
+//! Items, their records, and metadata formats; what deposits request; what list requests select.
 #![tactic(auto)]
 
 mod changes;

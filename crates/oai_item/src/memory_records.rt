@@ -1,4 +1,4 @@
-//! Records in memory, as an item has them and as a deposit has them.
+//! Records in memory, in the forms of an item and of a deposit.
 
 ghost use Rattle.std.specs.Prelude.{◌≡◌};
 ghost use Rattle.oai_item.specs.Item.{Metadata};

@@ -10,15 +10,14 @@ use crate::items::Item;
 use std::cmp::Ordering;
 
 impl Item {
-    /// How the item stands to another in the order of items: by datestamp, and where these are equal
-    /// by the bytes of the identifiers.
+    /// Compares the item with another in the order of items: by datestamp, then by the bytes of the identifiers.
     pub fn order(&self, other: &Item) -> Ordering
         ensures { result ≡ item_cmp self.now other.now }
     {
         self.order_to(other.stamp(), other.identifier().as_str())
     }
 
-    /// How the item stands in that order to this datestamp, in seconds from 1970 on, and identifier.
+    /// Compares the item in that order with this datestamp, in seconds from 1970 on, and identifier.
     pub fn order_to(&self, stamp: i64, identifier: &str) -> Ordering
         ensures { result ≡ place_cmp self.now stamp identifier.now }
     {
@@ -26,8 +25,8 @@ impl Item {
     }
 }
 
-/// How that datestamp, in seconds from 1970 on, and identifier stand to the other ones: by datestamp, and
-/// where these are equal by the bytes of the identifiers.
+/// Compares that datestamp, in seconds from 1970 on, and identifier with the other ones: by datestamp, then by the
+/// bytes of the identifiers.
 pub(crate) fn order_of_places(
     stamp: i64,
     identifier: &str,
@@ -43,9 +42,9 @@ pub(crate) fn order_of_places(
     }
 }
 
-/// Where this datestamp, in seconds from 1970 on, and identifier are among the items, which are in
-/// their order: the place of the item that has them, or where it would stand. Of n items it looks at
-/// about log n.
+/// Binary search for this datestamp, in seconds from 1970 on, and identifier among the items, which are in their order:
+/// `Ok` with the position of the item that has them, or `Err` with the position where it would be inserted. O(log n)
+/// comparisons.
 pub fn place_of(items: &[Item], stamp: i64, identifier: &str) -> Result<usize, usize>
     requires { are_in_order items.now ≡ true }
     ensures { IsPlace items.now stamp identifier.now result }
@@ -53,8 +52,8 @@ pub fn place_of(items: &[Item], stamp: i64, identifier: &str) -> Result<usize, u
     items.binary_search_by(|item| item.order_to(stamp, identifier))
 }
 
-/// Those of the items, which are in their order, that stand behind this datestamp, in seconds from 1970
-/// on, and identifier, whether or not one of them has these. Of n items it looks at about log n.
+/// The items, of a list in their order, that come after this datestamp, in seconds from 1970 on, and identifier,
+/// whether or not an item has these. Binary search: O(log n) comparisons.
 pub fn items_after<'a>(items: &'a [Item], stamp: i64, identifier: &str) -> &'a [Item]
     requires { are_in_order items.now ≡ true }
     ensures { result.now ≡ items_after stamp identifier.now items.now }
@@ -65,9 +64,9 @@ pub fn items_after<'a>(items: &'a [Item], stamp: i64, identifier: &str) -> &'a [
     }
 }
 
-/// What putting an item among others, and taking one out, keeps: with the new item, the members are it
-/// and the old ones; without what has a datestamp and identifier, the others; and items that rise
-/// strictly by datestamp and identifier still do.
+/// Inserting and removing an item preserves the other members and the order. After an insertion the members are the new
+/// item and the old ones; after the removal of a datestamp and identifier, the others; and items that rise strictly by
+/// datestamp and identifier still do. A theorem, proved by an empty function.
 pub fn order_law()
     ensures members { (item : ItemState) (items : List ItemState) (other : ItemState)
         → Contains (placed item items) other ↔ ((other ≡ item) ⊎ Contains items other) }

@@ -5,8 +5,8 @@ use crate::fields::Field;
 use oai_names::{Sequence, Text};
 use std::marker::Model;
 
-/// The records of a deposit: under each metadataPrefix its fields. The prefixes rise by their bytes,
-/// so that none stands twice.
+/// The records of a deposit: under each metadataPrefix its fields. The prefixes are in strictly rising byte order, so
+/// they are distinct.
 #[derive(Debug, Drop)]
 pub struct Records {
     records: Sequence<(Text, Sequence<Field>)>,
@@ -24,7 +24,7 @@ impl Model for Records {
 }
 
 impl Records {
-    /// The records of these prefixes, which rise. It takes no memory.
+    /// Records with prefixes in rising order. Allocates nothing.
     pub fn new(records: Sequence<(Text, Sequence<Field>)>) -> Records
         requires { are_rising records ≡ true }
         ensures { result ≡ records }

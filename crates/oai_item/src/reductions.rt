@@ -8,9 +8,8 @@ use oai_names::{Sequence, SetSpec, parent_of};
 use std::alloc::{AllocError, Global};
 use std::collections::BTreeSet;
 
-/// The setSpecs without repetitions, and without any that covers another of them, in their order.
-/// Those that stay are not copied. The time is that of a search in a sorted set for each part of each
-/// setSpec.
+/// The setSpecs without repetitions, and without those that cover another, in their order. Those that stay are not
+/// copied. O(p log p) for p parts of setSpecs. The error is out of memory.
 pub(crate) fn reduced(
     alloc: Global,
     sets: Sequence<SetSpec>,
@@ -24,7 +23,7 @@ pub(crate) fn reduced(
     Ok(Sequence::new(kept))
 }
 
-/// Of each setSpec whether it stays.
+/// For each setSpec, whether it stays. The error is out of memory.
 fn which_stay(alloc: Global, sets: &[SetSpec]) -> Result<Vec<bool>, AllocError>
     ensures kept { IfOk result (λ stay. flagged stay.items sets.now ≡ reduced sets.now) }
     ensures len { IfOk result (λ stay. vec_len stay ≡ length sets.now) }
@@ -38,7 +37,7 @@ fn which_stay(alloc: Global, sets: &[SetSpec]) -> Result<Vec<bool>, AllocError>
     Ok(stay)
 }
 
-/// Takes the setSpecs that do not stay out, in place.
+/// Removes the setSpecs that do not stay, in place.
 fn keep(sets: &mut Vec<SetSpec>, stay: &[bool])
     requires { length stay.now ≡ vec_len sets.old }
     ensures { sets.new.items ≡ flagged stay.now sets.old.items }
@@ -53,7 +52,7 @@ fn keep(sets: &mut Vec<SetSpec>, stay: &[bool])
     sets.truncate(kept);
 }
 
-/// The names of the sets above these: of each one its parent, the parent of that, and so on.
+/// The names of the ancestors of these sets: the parent of each, its parent, and so on.
 fn names_above(alloc: Global, sets: &[SetSpec]) -> Result<BTreeSet<&str>, AllocError>
     ensures { IfOk result (λ names. (q : List ℕ) → holds names q ≡ list_any (is_above q) sets.now) }
 {
@@ -64,7 +63,7 @@ fn names_above(alloc: Global, sets: &[SetSpec]) -> Result<BTreeSet<&str>, AllocE
     Ok(names)
 }
 
-/// Adds the names of the sets above this one.
+/// Adds the names of the ancestors of this set.
 pub(crate) fn add_above<'a>(names: &mut BTreeSet<&'a str>, spec: &'a str) -> Result<(), AllocError>
     ensures { OnOk result ((q : List ℕ)
         → holds names.new q ≡ (holds names.old q || is_above q spec.now)) }

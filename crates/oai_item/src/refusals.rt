@@ -7,29 +7,29 @@ use crate::faults::Fault;
 use std::alloc::AllocError;
 use thiserror::Error;
 
-/// Why a line is refused as it stands, in the order in which the causes are looked for.
+/// Why a line is refused by itself, in the order in which the causes are tested.
 #[derive(Clone, Copy, Debug, PartialEq, Eq, Error)]
 pub enum LineRefusal {
     /// The line is not JSON. Number 1.
     #[error("the line is not JSON")]
     BadJson,
-    /// The line is JSON, and of none of the shapes of a command. Number 2.
+    /// The line is JSON, but has none of the shapes of a command. Number 2.
     #[error("the line is no command")]
     BadCommand,
-    /// The identifier is not of its syntax, or too long. Number 3.
+    /// The identifier has invalid syntax, or is too long. Number 3.
     #[error("the identifier is of illegal syntax or too long")]
     BadIdentifier,
-    /// A setSpec is not of its syntax, or too long. Number 4.
+    /// A setSpec has invalid syntax, or is too long. Number 4.
     #[error("a setSpec is of illegal syntax or too long")]
     BadSetSpec,
-    /// A field's text, or the name of a set, has a character that no XML document may hold, or the
-    /// name of a set has no byte or more than 512. Number 5.
+    /// A field's text, or the name of a set, has a character that no XML document may hold, or the name of a set is
+    /// empty or longer than 512 bytes. Number 5.
     #[error("a text has a character that no XML document may hold, or is empty or too long")]
     BadText,
 }
 
 impl LineRefusal {
-    /// The line of the answer, as `refused 1 bad-json`, with no line end.
+    /// The line that reports it, such as `refused 1 bad-json`, without a line end.
     pub fn answer(self) -> &'static str
         ensures line { result.now ≡ refusal_line (in_line self) }
         ensures short { length result.now ≤ 31 }
@@ -44,14 +44,14 @@ impl LineRefusal {
     }
 }
 
-/// Why a repository refuses a change, in the order in which the causes are looked for. It then has
-/// moved the clock, and nothing else.
+/// Why a repository refuses a change, in the order in which the causes are tested. The repository has then moved its
+/// clock, and changed nothing else.
 #[derive(Clone, Copy, Debug, PartialEq, Eq, Error)]
 pub enum ChangeRefusal {
     /// The item is deposited into a set that the repository does not have. Number 6.
     #[error("the repository does not have the set")]
     UnknownSet,
-    /// A record is of a format that the repository does not have. Number 7.
+    /// A record is in a format that the repository does not have. Number 7.
     #[error("the repository does not have the format")]
     UnknownFormat,
     /// There is no record in oai_dc. Number 8.
@@ -60,41 +60,40 @@ pub enum ChangeRefusal {
     /// A record has a field that its format does not have. Number 9.
     #[error("the format does not have the field")]
     UnknownField,
-    /// The item has a format, or had it when it was deleted, of which there is no record. Number 10.
+    /// The item has, or had when it was deleted, a format in which the deposit has no record. Number 10.
     #[error("the item has a format of which there is no record")]
     DropsFormat,
     /// The encoded item would have more than 1,048,576 bytes. Number 11.
     #[error("the item is too large")]
     TooLarge,
-    /// The identifier is a new one, and as many items stand as the repository may have. Number 12.
+    /// The identifier is new, and the repository has as many items as it may have. Number 12.
     #[error("the repository has too many items")]
     TooManyItems,
-    /// No item has the identifier that is to be deleted. Number 13.
+    /// No item has the identifier to delete. Number 13.
     #[error("no item has the identifier")]
     NoSuchItem,
-    /// The item that is to be deleted is deleted. Number 14.
+    /// The item to delete is already deleted. Number 14.
     #[error("the item is deleted already")]
     AlreadyDeleted,
-    /// Deleted items do not go, as the repository keeps all of them or none. Number 15.
+    /// The repository keeps all of its tombstones or none, so a purge removes nothing. Number 15.
     #[error("the repository does not forget deleted items")]
     NotTransient,
-    /// What the purge is bounded by is no bound, or a finer one than the repository's datestamps.
-    /// Number 16.
+    /// The purge's bound is not a bound, or is finer than the repository's datestamps. Number 16.
     #[error("the bound is none, or too fine")]
     BadDate,
-    /// A set of that setSpec is there. Number 17.
+    /// A set with that setSpec exists. Number 17.
     #[error("the set exists")]
     SetExists,
-    /// The setSpec has two or more parts, and without its last part it is no set. Number 18.
+    /// The setSpec has two or more parts, and no set has it without the last part. Number 18.
     #[error("the set has no parent")]
     NoParent,
-    /// There are 10,000 sets. Number 19.
+    /// There are 10,000 sets already. Number 19.
     #[error("the repository has too many sets")]
     TooManySets,
 }
 
 impl ChangeRefusal {
-    /// The line of the answer, as `refused 6 unknown-set`, with no line end.
+    /// The line that reports it, such as `refused 6 unknown-set`, without a line end.
     pub fn answer(self) -> &'static str
         ensures line { result.now ≡ refusal_line (in_repository self) }
         ensures short { length result.now ≤ 31 }
@@ -124,7 +123,7 @@ pub enum Refusal {
     /// The change is refused. The clock is moved, and nothing else is changed.
     #[error("the change is refused: {0}")]
     Refused(ChangeRefusal),
-    /// The change could not be performed. Everything is as it was, the clock included.
+    /// The change failed. Nothing is changed, the clock included.
     #[error("{0}")]
     Fault(Fault),
 }

@@ -3,12 +3,12 @@ ghost use Rattle.oai_item.specs.ShortTexts.{is_short_text};
 
 use oai_names::is_xml_text;
 
-/// The most bytes of a short text, as the name, an address or a URL of a repository: this repository's
-/// own limit.
+/// The maximum length in bytes of a short text, such as a repository's name, address or URL: this repository's own
+/// limit.
 pub const MAX_SHORT_TEXT_BYTES: usize = 512;
 
-/// Whether the text has 1 to 512 bytes, of characters that an XML document may hold (XML 1.0,
-/// section 2.2). It takes no memory.
+/// Whether the text has 1 to 512 bytes, of characters that an XML document may hold (XML 1.0, section 2.2). Allocates
+/// nothing.
 #[tactic(auto, unfolding(crate::specs::ShortTexts::is_short_text))]
 pub fn is_short_text(text: &str) -> bool
     ensures { result ≡ is_short_text text.now }

@@ -7,13 +7,13 @@ use crate::short_texts::MAX_SHORT_TEXT_BYTES;
 use oai_names::SetSpec;
 use thiserror::Error;
 
-/// The most bytes that the spelling of an item has.
+/// The maximum length of an encoded item in bytes.
 pub const MAX_ITEM_BYTES: usize = 1_048_576;
 
-/// The bytes of a count in the spelling of an item.
+/// The length of an encoded count in bytes.
 const COUNT_BYTES: usize = 4;
 
-/// The spelling of an item has more than 1,048,576 bytes.
+/// The encoded item has more than 1,048,576 bytes.
 #[derive(Clone, Copy, Debug, PartialEq, Eq, Error)]
 #[error("the encoded item has more than 1,048,576 bytes")]
 pub struct TooLarge;
@@ -25,7 +25,7 @@ pub fn limit_law()
     ensures short_text { MAX_SHORT_TEXT_BYTES ≡ 512 }
 {}
 
-/// The sum, where it is at most `MAX_ITEM_BYTES`.
+/// The sum, if it is at most `MAX_ITEM_BYTES`.
 pub(crate) fn plus(size: usize, more: usize) -> Result<usize, TooLarge>
     ensures { IsMeasure (size + more) result }
 {
@@ -35,7 +35,7 @@ pub(crate) fn plus(size: usize, more: usize) -> Result<usize, TooLarge>
     }
 }
 
-/// So many bytes, and those of the text.
+/// That many bytes and those of the text.
 pub(crate) fn with_text(size: usize, text: &str) -> Result<usize, TooLarge>
     ensures { IsMeasure (size + length (encoded_text text.now)) result }
 {
@@ -43,7 +43,7 @@ pub(crate) fn with_text(size: usize, text: &str) -> Result<usize, TooLarge>
     plus(front, text.len())
 }
 
-/// So many bytes, and those of the list of sets.
+/// That many bytes and those of the list of sets.
 pub(crate) fn with_sets(size: usize, sets: &[SetSpec]) -> Result<usize, TooLarge>
     ensures { IsMeasure (size + length (encoded_list encoded_text sets.now)) result }
 {
@@ -54,7 +54,7 @@ pub(crate) fn with_sets(size: usize, sets: &[SetSpec]) -> Result<usize, TooLarge
     Ok(sum)
 }
 
-/// So many bytes, and those of the list of records.
+/// That many bytes and those of the list of records.
 pub(crate) fn with_records<R: MemoryRecord>(size: usize, records: &[R]) -> Result<usize, TooLarge>
     ensures { IsMeasure (size + length (encoded_list (λ r. encoded_record (R.record_of r)) records.now)) result }
 {
@@ -65,7 +65,7 @@ pub(crate) fn with_records<R: MemoryRecord>(size: usize, records: &[R]) -> Resul
     Ok(sum)
 }
 
-/// So many bytes, and those of a record.
+/// That many bytes and those of a record.
 fn with_record<R: MemoryRecord>(size: usize, format: &R) -> Result<usize, TooLarge>
     ensures { IsMeasure (size + length (encoded_record (R.record_of format.now))) result }
 {
@@ -73,7 +73,7 @@ fn with_record<R: MemoryRecord>(size: usize, format: &R) -> Result<usize, TooLar
     with_fields(front, format.fields())
 }
 
-/// So many bytes, and those of the list of fields.
+/// That many bytes and those of the list of fields.
 fn with_fields(size: usize, fields: &[Field]) -> Result<usize, TooLarge>
     ensures { IsMeasure (size + length (encoded_list encoded_field fields.now)) result }
 {
@@ -84,7 +84,7 @@ fn with_fields(size: usize, fields: &[Field]) -> Result<usize, TooLarge>
     Ok(sum)
 }
 
-/// So many bytes, and those of a field.
+/// That many bytes and those of a field.
 fn with_field(size: usize, field: &Field) -> Result<usize, TooLarge>
     ensures { IsMeasure (size + length (encoded_field field.now)) result }
 {

@@ -1,4 +1,4 @@
-//! Bytes that may spell an item, and of which no more is looked at than what is asked for.
+//! Bytes that may encode an item, of which only the needed part is read.
 
 ghost use Rattle.std.specs.Prelude.{◌≡◌, ℕ, List, Some};
 ghost use Rattle.oai_item.specs.Decoding.{item_in};
@@ -11,9 +11,9 @@ use crate::decodings::{read_live, read_stamp, read_text};
 use crate::order::order_of_places;
 use std::cmp::Ordering;
 
-/// How the item that the bytes spell stands in the order of items to this datestamp, in seconds from 1970
-/// on, and identifier. Where they spell none, nothing is promised of the answer; where they spell one, it is
-/// not None. It looks at the front of them, up to the identifier, and takes no memory.
+/// Compares the item that the bytes encode, in the order of items, with this datestamp, in seconds from 1970 on, and
+/// identifier. If the bytes encode an item, the result is not None; if they encode none, nothing is promised. It reads
+/// only the first bytes, up to the identifier, and allocates nothing.
 pub fn order_of_spelling(bytes: &[u8], stamp: i64, identifier: &str) -> Option<Ordering>
     ensures { (item : ItemState) → item_in bytes.now ≡ Some item
         → result ≡ Some (place_cmp item stamp identifier.now) }
@@ -29,7 +29,7 @@ pub fn order_of_spelling(bytes: &[u8], stamp: i64, identifier: &str) -> Option<O
     }
 }
 
-/// The datestamp, in seconds from 1970 on, and the identifier of the item that the bytes spell.
+/// The datestamp, in seconds from 1970 on, and the identifier of the encoded item.
 fn read_place(bytes: &[u8]) -> Option<(i64, &str)>
     ensures { (item : ItemState) → Spells bytes.now item → IsPlaceRead item result }
 {

@@ -1,4 +1,4 @@
-//! Walks over the lists in the spelling of an item, element by element, in place.
+//! Iterators over the lists of an encoded item, element by element, in place.
 
 ghost use Rattle.std.specs.Prelude.{◌≡◌, ◌==◌, true, [], ◌∷◌, length, IfSome, MatchOption};
 ghost use Rattle.oai_names.specs.Names.{may_be_prefix};
@@ -8,7 +8,7 @@ ghost use Rattle.oai_item.specs.Walks.{AreFields, AreRecords, AreSets, fields_le
 use crate::fronts::{first_field, first_record, first_set};
 use std::marker::Model;
 
-/// The setSpecs in the spelling of an item that are still to come.
+/// The remaining setSpecs of an encoded item.
 #[derive(Drop)]
 pub struct SpelledSets<'a> {
     left: usize,
@@ -27,7 +27,7 @@ impl<'a> Model for SpelledSets<'a> {
 }
 
 impl<'a> SpelledSets<'a> {
-    /// So many setSpecs, which stand in front of the bytes.
+    /// That many setSpecs, with which the bytes begin.
     pub(crate) fn new(left: usize, rest: &'a [u8]) -> SpelledSets<'a>
         requires { AreSets left rest.now }
         ensures { result ≡ sets_left left rest.now }
@@ -35,14 +35,14 @@ impl<'a> SpelledSets<'a> {
         SpelledSets { left, rest }
     }
 
-    /// How many setSpecs are to come.
+    /// The number of remaining setSpecs.
     pub fn len(&self) -> usize
         ensures { result ≡ length self.now }
     {
         self.left
     }
 
-    /// A copy of the walk, which begins where this one has come to.
+    /// A copy of the iterator at its current position.
     pub fn copy(&self) -> SpelledSets<'a>
         ensures { result ≡ self.now }
     {
@@ -67,7 +67,7 @@ impl<'a> SpelledSets<'a> {
     }
 }
 
-/// The name and the text of a field, in memory or as they are spelled.
+/// The name and the text of a field, in memory or encoded.
 #[derive(Drop)]
 pub struct FieldTexts<'a> {
     /// Its name.
@@ -76,7 +76,7 @@ pub struct FieldTexts<'a> {
     pub text: &'a str,
 }
 
-/// The fields of a record in the spelling of an item that are still to come.
+/// The remaining fields of a record of an encoded item.
 #[derive(Drop)]
 pub struct SpelledFields<'a> {
     left: usize,
@@ -96,7 +96,7 @@ impl<'a> Model for SpelledFields<'a> {
 }
 
 impl<'a> SpelledFields<'a> {
-    /// So many fields, which stand in front of the bytes.
+    /// That many fields, with which the bytes begin.
     pub(crate) fn new(left: usize, rest: &'a [u8]) -> SpelledFields<'a>
         requires { AreFields left rest.now }
         ensures { result ≡ fields_left left rest.now }
@@ -104,14 +104,14 @@ impl<'a> SpelledFields<'a> {
         SpelledFields { left, rest }
     }
 
-    /// How many fields are to come.
+    /// The number of remaining fields.
     pub fn len(&self) -> usize
         ensures { result ≡ length self.now }
     {
         self.left
     }
 
-    /// Whether no field is to come.
+    /// Whether no field remains.
     pub fn is_empty(&self) -> bool
         ensures { result ≡ (length self.now == 0) }
     {
@@ -134,7 +134,7 @@ impl<'a> SpelledFields<'a> {
     }
 }
 
-/// A record in the spelling of an item.
+/// A record of an encoded item.
 #[derive(Drop)]
 pub struct SpelledRecord<'a> {
     /// The metadataPrefix of its format.
@@ -143,7 +143,7 @@ pub struct SpelledRecord<'a> {
     pub fields: SpelledFields<'a>,
 }
 
-/// The records in the spelling of an item that are still to come.
+/// The remaining records of an encoded item.
 #[derive(Drop)]
 pub struct SpelledRecords<'a> {
     left: usize,
@@ -163,7 +163,7 @@ impl<'a> Model for SpelledRecords<'a> {
 }
 
 impl<'a> SpelledRecords<'a> {
-    /// So many records, which stand in front of the bytes.
+    /// That many records, with which the bytes begin.
     pub(crate) fn new(left: usize, rest: &'a [u8]) -> SpelledRecords<'a>
         requires { AreRecords left rest.now }
         ensures { result ≡ records_left left rest.now }
@@ -171,21 +171,21 @@ impl<'a> SpelledRecords<'a> {
         SpelledRecords { left, rest }
     }
 
-    /// How many records are to come.
+    /// The number of remaining records.
     pub fn len(&self) -> usize
         ensures { result ≡ length self.now }
     {
         self.left
     }
 
-    /// Whether no record is to come.
+    /// Whether no record remains.
     pub fn is_empty(&self) -> bool
         ensures { result ≡ (length self.now == 0) }
     {
         self.len() == 0
     }
 
-    /// A copy of the walk, which begins where this one has come to.
+    /// A copy of the iterator at its current position.
     pub fn copy(&self) -> SpelledRecords<'a>
         ensures { result ≡ self.now }
     {

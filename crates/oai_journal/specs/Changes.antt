@@ -1,4 +1,4 @@
--- An open gate that was changed: what stands behind it still goes on with the chain of digests. This repository's own.
+-- A set commit byte that was changed: what follows it still continues the chain of digests. This repository's own.
 use Rattle.std.specs.Prelude.{◌≡◌, ℕ, ◌<◌, ◌≤◌, ◌↔◌, false, List, [], ◌∷◌, ◌++◌, length, drop, IsTrue}
 use Rattle.oai_journal.specs.Files.{AreGated, IsJournalFile, Gated, IsFirstRecord, digest_after, front, is_open}
 use Rattle.oai_journal.specs.Frames.{frame, next_digest}
@@ -7,7 +7,7 @@ use Rattle.oai_journal.specs.Records.{Entry, IsFit, is_first_kind}
 use Rattle.oai_journal.specs.declared.changes.Turn.{Turn}
 use Rattle.oai_journal.specs.declared.changes.Turn.TheVariants.{Further, Done}
 
--- a frame that goes on behind the digest `before` stands in front of these bytes
+-- the bytes begin with a frame that continues the chain after the digest `before`
 pub record BeginsWithFrame (before : ℕ) (bytes : List ℕ) : Type 0 where
   pub entry : Entry
   pub fit : IsFit entry
@@ -15,7 +15,8 @@ pub record BeginsWithFrame (before : ℕ) (bytes : List ℕ) : Type 0 where
   pub after : List ℕ
   pub is : bytes ≡ frame before entry ++ after
 
--- the frames of a group, without the gate of the first one, and then the gate of a further group and its frame
+-- the frames of a commit group, without the commit byte of the first one, and then a set commit byte and the first
+-- frame of a further group
 pub record GoesOn (before : ℕ) (bytes : List ℕ) : Type 0 where
   pub group : List Entry
   pub some : group ≡ [] → ⊥
@@ -24,7 +25,7 @@ pub record GoesOn (before : ℕ) (bytes : List ℕ) : Type 0 where
   pub is : bytes ≡ inside before group ++ 43 ∷ behind
   pub next : BeginsWithFrame (digest_of_all before group) behind
 
--- a journal as far as that byte, where a gate is not open, and what stands behind it goes on
+-- a journal up to that byte, where a commit byte is unset, and what follows it continues the chain
 pub record IsChangedAt (file : List ℕ) (at : ℕ) : Type 0 where
   pub first : Entry
   pub frames : List Gated
@@ -37,17 +38,17 @@ pub record IsChangedAt (file : List ℕ) (at : ℕ) : Type 0 where
   pub closed : is_open gate ≡ false
   pub goes : GoesOn (digest_after (next_digest 0 first) frames) behind
 
--- the file is a journal, and no gate of it was changed
+-- the file is a journal, and no commit byte of it was changed
 pub record IsUndamaged (file : List ℕ) (first : Entry) (entries : List Entry) : Type 0 where
   pub ends : IsJournalFile file first entries
   pub unchanged : (at : ℕ) → IsChangedAt file at → ⊥
 
--- whether the bytes from a place on go on is whether those from a further one do, or the answer
+-- whether the bytes from a position on continue the chain is whether those from a further one do, or the result
 abbrev pub IsSearchTurn : List ℕ → ℕ → ℕ → Turn → Type 0
 IsSearchTurn file at digest (Further next last) = GoesOn digest (drop at file) ↔ GoesOn last (drop next file)
 IsSearchTurn file at digest (Done on) = IsTrue on ↔ GoesOn digest (drop at file)
 
--- a further place is within the file
+-- a further position is within the file
 abbrev pub TurnsOn : ℕ → ℕ → Turn → Type 0
 TurnsOn at len (Further next last) = (at < next) × (next ≤ len)
 TurnsOn at len (Done on) = Unit {0}

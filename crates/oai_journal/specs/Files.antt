@@ -1,18 +1,19 @@
--- The file of a journal: frames, each behind a gate, and then a gate that is closed. This repository's own.
+-- The file of a journal: frames, each after a set commit byte (a gate that is open), and then one that is unset
+-- (closed). This repository's own.
 use Rattle.std.specs.Prelude.{◌≡◌, ℕ, ◌==◌, Bool, true, false, ◌||◌, List, [], ◌∷◌, ◌++◌, map}
 use Rattle.oai_journal.specs.Frames.{frame, next_digest}
 use Rattle.oai_journal.specs.Records.{Entry, IsFit, is_first_kind}
 
--- `+` begins a group that counts, and `&` a further frame of its group
+-- the commit byte is set: `+` begins a committed group, and `&` a further frame of its group
 abbrev pub is_open : ℕ → Bool
 is_open gate = gate == 43 || gate == 38
 
--- a gate, and the record whose frame stands behind it
+-- a commit byte, and the record in the frame after it
 pub record Gated : Type 0 where
   pub gate : ℕ
   pub entry : Entry
 
--- frames one behind the other, the first of them behind the digest `before`
+-- frames one after the other, the first of them after the digest `before`
 abbrev pub spelled : ℕ → List Gated → List ℕ
 spelled before [] = []
 spelled before (f ∷ fs) = f.gate ∷ (frame before f.entry ++ spelled (next_digest before f.entry) fs)
@@ -22,7 +23,7 @@ abbrev pub digest_after : ℕ → List Gated → ℕ
 digest_after before [] = before
 digest_after before (f ∷ fs) = digest_after (next_digest before f.entry) fs
 
--- a frame that counts
+-- a committed frame
 pub record IsGated (f : Gated) : Type 0 where
   pub opened : is_open f.gate ≡ true
   pub fit : IsFit f.entry
@@ -37,7 +38,7 @@ pub record IsFirstRecord (e : Entry) : Type 0 where
   pub fit : IsFit e
   pub kind : is_first_kind e.kind ≡ true
 
--- the first record, and then frames: what stands before the gate that ends the journal
+-- the first record, and then frames: what precedes the commit byte that ends the journal
 abbrev pub front : Entry → List Gated → List ℕ
 front first frames = 43 ∷ (frame 0 first ++ spelled (next_digest 0 first) frames)
 

@@ -1,4 +1,4 @@
--- Frames: how a journal spells its records. This repository's own.
+-- Frames: how a journal encodes its records. This repository's own.
 use Rattle.std.specs.Prelude.{ℕ, ◌+◌, ◌-◌, nat_lt, List, [], ◌∷◌, ◌++◌, length, take, drop, Option, Some, None, if◌then◌else◌}
 use Rattle.std.specs.Int.{w64, to_be_bytes}
 use Rattle.hex.specs.Hex.{encode_lower}
@@ -21,28 +21,28 @@ digest_text d = encode_lower (to_be_bytes w64 d)
 abbrev pub line_end : List ℕ
 line_end = plain (10 ∷ [])
 
--- what stands before the bytes of a record: its head with the digest, and a line end
+-- what precedes the bytes of a record: its head with the digest, and a line end
 unfoldable pub frame_front : ℕ → Entry → List ℕ
 frame_front before e = head_front (head_of e) ++ digest_text (next_digest before e) ++ line_end
 
--- a frame, without its gate: that, the bytes of the record, and a line end
+-- a frame, without its commit byte: that, the bytes of the record, and a line end
 unfoldable pub frame : ℕ → Entry → List ℕ
 frame before e = frame_front before e ++ (e.body ++ line_end)
 
 -- ---- how one is read
 
--- so many bytes before the last one
+-- that many bytes before the last one
 unfoldable pub body_in : ℕ → List ℕ → Option (List ℕ)
 body_in size bytes = if nat_lt size (length bytes) then Some (take size (drop (length bytes - size - 1) bytes)) else None
 
--- how many bytes the frame has that begins so
+-- the length of the frame that begins so
 unfoldable pub len_in : List ℕ → Option ℕ
 len_in bytes = do
   h ← head_in bytes
   h ← tested (λ h. is_within h.kind h.name h.size) h
   Some (length (head_front h) + 16 + h.size + 2)
 
--- the record in the bytes of a frame; that these spell it is not looked at
+-- the record in the bytes of a frame; whether the bytes encode it is not tested
 unfoldable pub entry_in : List ℕ → Option Entry
 entry_in bytes = do
   h ← head_in bytes

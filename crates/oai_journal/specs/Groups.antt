@@ -1,21 +1,22 @@
--- Groups of frames: how they are written behind the gate that ends a journal, and what stands on the disk. This repository's own.
+-- Commit groups: how they are written after the commit byte that ends a journal, and what the disk then holds. This
+-- repository's own.
 use Rattle.std.specs.Prelude.{◌≡◌, ◌⊎◌, ℕ, false, List, [], ◌∷◌, ◌++◌, length, map}
 use Rattle.sqlite_disk.specs.Disk.{Holds, Only, Torn}
 use Rattle.oai_journal.specs.Files.{AreGated, IsJournalFile, Gated, IsFirstRecord, digest_after, front, is_open, spelled}
 use Rattle.oai_journal.specs.Frames.{frame, next_digest}
 use Rattle.oai_journal.specs.Records.{Entry, IsFit, is_first_kind}
 
--- the digest of the last of these frames, the first of which is behind the digest `before`
+-- the digest of the last of these frames, the first of which follows the digest `before`
 abbrev pub digest_of_all : ℕ → List Entry → ℕ
 digest_of_all before [] = before
 digest_of_all before (e ∷ es) = digest_of_all (next_digest before e) es
 
--- the records of a group: each of them fits, and none begins a journal
+-- the records of a group: each is within the limits, and none begins a journal
 abbrev pub AreGrouped : List Entry → Type 0
 AreGrouped [] = Unit {0}
 AreGrouped (e ∷ es) = (IsFit e × (is_first_kind e.kind ≡ false)) × AreGrouped es
 
--- the frames of a group as they are kept, each with the gate of a further one behind it
+-- the frames of a group in memory, each with the next commit byte after it
 abbrev pub kept_group : ℕ → List Entry → List ℕ
 kept_group before [] = []
 kept_group before (e ∷ es) = frame before e ++ 38 ∷ kept_group (next_digest before e) es
@@ -24,7 +25,7 @@ kept_group before (e ∷ es) = frame before e ++ 38 ∷ kept_group (next_digest 
 abbrev pub further : List Entry → List Gated
 further es = map (λ e. record { gate = 38; entry = e }) es
 
--- the frames of a group, without the gate of the first one
+-- the frames of a group, without the commit byte of the first one
 abbrev pub inside : ℕ → List Entry → List ℕ
 inside before [] = []
 inside before (e ∷ es) = frame before e ++ spelled (next_digest before e) (further es)
@@ -49,7 +50,7 @@ pub record IsMadeDurable {D : Type 0} (seen : D → List ℕ) (may_leave : D →
   pub holds : Holds (seen new) at bytes
   pub durable : Only (seen new) (may_leave new)
 
--- the bytes behind the gate are those of a group of these records
+-- the bytes after the commit byte are those of a group of these records
 pub record IsGroup (bytes : List ℕ) (digest : ℕ) (later : List Entry) : Type 0 where
   pub is : bytes ≡ inside digest later ++ 45 ∷ []
   pub are : AreGrouped later

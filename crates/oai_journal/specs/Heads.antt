@@ -11,7 +11,7 @@ use Rattle.oai_journal.specs.declared.records.Kind.{Kind}
 use Rattle.oai_journal.specs.declared.records.Kind.TheVariants.{Journal, Oai, Deposit, Tick, Begin, Set, Item}
 use Rattle.oai_journal.specs.declared.records.TheConstants.{MAX_NAME}
 
--- bytes as they stand; named so that the search does not spell them out
+-- bytes as they are; named so that the search does not spell them out
 unfoldable pub plain : List ℕ → List ℕ
 plain bytes = bytes
 
@@ -25,13 +25,13 @@ pub record HeadFields : Type 0 where
 abbrev pub fields_of_head : Head → HeadFields
 fields_of_head h = record { moment = h.moment; kind = h.kind; name = h.name.now; size = h.size }
 
--- a head: its four fields, each with a space behind it
+-- a head: its four fields, each followed by a space
 unfoldable pub head_front : HeadFields → List ℕ
 head_front h =
     signed_decimal h.moment ++ plain (codes " ") ++ plain (word_of h.kind) ++ plain (codes " ") ++ h.name ++ plain (codes " ")
     ++ decimal h.size ++ plain (codes " ")
 
--- fields that a head can spell
+-- fields that a head can encode
 pub record CanBeSpelled (h : HeadFields) : Type 0 where
   pub moment : FitsSigned w64 h.moment
   pub name : list_all is_visible_ascii h.name ≡ true
@@ -43,14 +43,14 @@ pub record CanBeSpelled (h : HeadFields) : Type 0 where
 abbrev pub is_separator : ℕ → Bool
 is_separator b = b == 32
 
--- what stands before the first space, and what stands after it
+-- what precedes the first space, and what follows it
 abbrev pub part : List ℕ → List ℕ
 part text = before_first is_separator text
 
 abbrev pub rest : List ℕ → List ℕ
 rest text = after_first is_separator text
 
--- the kind of a word
+-- the kind with that word
 unfoldable pub kind_in : List ℕ → Option Kind
 kind_in word =
     if bytes_eq word (codes "oai") then Some Oai else
@@ -66,11 +66,11 @@ abbrev pub ◌>>=◌ : {A B : Type 0} → Option A → (A → Option B) → Opti
 (Some x) >>= f = f x
 None >>= f = None
 
--- the value, where it passes the test
+-- the value, if it passes the test
 abbrev pub tested : {A : Type 0} → (A → Bool) → A → Option A
 tested passes x = if passes x then Some x else None
 
--- the fields in front of bytes; that these spell them is not looked at
+-- the fields with which bytes begin; whether the bytes are their encoding is not tested
 unfoldable pub head_in : List ℕ → Option HeadFields
 head_in bytes = do
   moment ← moment_of (part bytes)

@@ -9,13 +9,13 @@ use Rattle.oai_journal.specs.Records.{Entry}
 use Rattle.oai_journal.specs.declared.file.FileJournal.{FileJournal}
 use Rattle.oai_journal.specs.declared.frames.TheConstants.{FRAME_ROOM}
 
--- the records wait in memory, their frames one behind the other
+-- the records wait in memory, their frames one after the other
 pub record IsWaiting (bytes : List ℕ) (digest last : ℕ) (later : List Entry) : Type 0 where
   pub is : bytes ≡ kept_group digest later
   pub last_is : last ≡ digest_of_all digest later
   pub are : AreGrouped later
 
--- the file is a journal, and its records are the first so many of these, all durable ones among them
+-- the file is a journal, and its records are a prefix of these that has all durable ones
 pub record Survives (file : List ℕ) (first : Entry) (entries : List Entry) (durable : ℕ) : Type 0 where
   pub count : ℕ
   pub enough : durable ≤ count
@@ -70,14 +70,21 @@ LeavesAllOrNone may_leave journal entries durable = DiskLeavesAllOrNone may_leav
 abbrev pub HasRoom : Vec ℕ Global → ℕ → Type 0
 HasRoom pending bytes = vec_len pending + bytes + FRAME_ROOM ≤ vec_capacity pending
 
--- room for a record is room for a shorter one
+-- space for a record is space for a shorter one
 pub room_for_less : (pending : Vec ℕ Global) (bytes less : ℕ) → less ≤ bytes → HasRoom pending bytes → HasRoom pending less
 room_for_less pending bytes less low room =
     le_trans (add-le-add (add-le-add (le_refl (vec_len pending)) low) (le_refl FRAME_ROOM)) room
 
--- what a crash leaves is the first so many
+-- what a crash leaves is a prefix
 pub journal_left : {D : Type 0} (seen : D → List ℕ) (may_leave : D → List ℕ → Type 0) (journal : FileJournal D) (entries : List Entry) (durable : ℕ) (found : List Entry)
     → HoldsRecords seen may_leave journal entries durable → MayLeaveRecords may_leave journal.disk found → IsLeft durable entries found
 journal_left seen may_leave journal entries durable found held left =
     let survives = (held.1).survives left.file left.left in
     record { count = survives.count; enough = survives.enough; is = survives.only left.first found left.ends }
+
+-- and it leaves one
+pub journal_stays : {D : Type 0} (seen : D → List ℕ) (may_leave : D → List ℕ → Type 0) → ((disk : D) → may_leave disk (seen disk)) → (journal : FileJournal D) (entries : List Entry) (durable : ℕ)
+    → HoldsRecords seen may_leave journal entries durable → (found : List Entry) × MayLeaveRecords may_leave journal.disk found
+journal_stays seen may_leave stays journal entries durable held =
+    let survives = (held.1).survives (seen journal.disk) (stays journal.disk) in
+    (take survives.count entries, record { file = seen journal.disk; left = stays journal.disk; first = held.0; ends = survives.ends })

@@ -27,7 +27,7 @@ word_of Begin = codes "begin"
 word_of Set = codes "set"
 word_of Item = codes "item"
 
--- how many bytes a record of each kind may have
+-- the maximum length of a record of each kind
 abbrev pub most_bytes : Kind → ℕ
 most_bytes Journal = MAX_FIRST_BODY
 most_bytes other = MAX_BODY
@@ -36,11 +36,11 @@ abbrev pub is_first_kind : Kind → Bool
 is_first_kind Journal = true
 is_first_kind other = false
 
--- a byte of a name: an ASCII character that can be seen
+-- a byte of a name: a visible ASCII character
 abbrev pub is_visible_ascii : ℕ → Bool
 is_visible_ascii b = nat_le 33 b && nat_le b 126
 
--- a name and a number of bytes that a record of the kind may have
+-- a name and a length that a record of the kind may have
 unfoldable pub is_within : Kind → List ℕ → ℕ → Bool
 is_within kind name size = list_all is_visible_ascii name && nat_le (length name) MAX_NAME && nat_le size (most_bytes kind)
 

@@ -23,15 +23,15 @@ pub record IsFrameChecked (first : Bool) (before : ℕ) (bytes : List ℕ) (dige
 abbrev pub Checks : Bool → ℕ → List ℕ → Option ℕ → Type 0
 Checks first before bytes result = MatchOption result ((e : Entry) → IsFrame first before bytes e → ⊥) (λ digest. IsFrameChecked first before bytes digest)
 
--- a frame that stands in front of these bytes has so many of them; where there is no number none does
+-- the length of a frame with which these bytes begin; if there is none, they begin with no frame
 abbrev pub IsLenAt : List ℕ → Option ℕ → Type 0
 IsLenAt bytes found = (before : ℕ) (e : Entry) (after : List ℕ) → IsFit e → bytes ≡ frame before e ++ after → found ≡ Some (length (frame before e))
 
--- no frame stands in front of these bytes
+-- the bytes do not begin with a frame
 abbrev pub HasNoFrame : Bool → ℕ → List ℕ → Type 0
 HasNoFrame first before bytes = (e : Entry) (after : List ℕ) → IsFit e → is_first_kind e.kind ≡ first → bytes ≡ frame before e ++ after → ⊥
 
--- a frame stands in front of them
+-- the bytes begin with a frame
 pub record HasFrame (first : Bool) (before : ℕ) (bytes read : List ℕ) (digest : ℕ) : Type 0 where
   pub entry : Entry
   pub fit : IsFit entry
@@ -46,7 +46,7 @@ FindsFrame first before bytes read result = MatchOption result (HasNoFrame first
 
 -- ---- damage
 
--- behind an open gate no frame stands
+-- no frame follows a set commit byte
 pub record IsOpenWithNone (before : ℕ) (bytes : List ℕ) : Type 0 where
   pub gate : ℕ
   pub behind : List ℕ
@@ -54,7 +54,7 @@ pub record IsOpenWithNone (before : ℕ) (bytes : List ℕ) : Type 0 where
   pub opened : is_open gate ≡ true
   pub none : HasNoFrame false before behind
 
--- a journal as far as that byte, where no gate stands or an open one with no frame behind it
+-- a journal up to that byte, where there is no commit byte or a set one without a frame after it
 pub record IsBrokenAt (file : List ℕ) (at : ℕ) : Type 0 where
   pub first : Entry
   pub frames : List Gated
@@ -65,17 +65,17 @@ pub record IsBrokenAt (file : List ℕ) (at : ℕ) : Type 0 where
   pub place : at ≡ length (front first frames)
   pub broken : (rest ≡ []) ⊎ IsOpenWithNone (digest_after (next_digest 0 first) frames) rest
 
--- the file does not begin with an open gate and the frame of a first record
+-- the file does not begin with a set commit byte and the frame of a first record
 abbrev pub HasNoFirst : List ℕ → Type 0
 HasNoFirst file = (behind : List ℕ) → file ≡ 43 ∷ behind → HasNoFrame true 0 behind
 
--- the file is no journal, by what stands at that byte
+-- the file is no journal, because of what it has at that byte
 abbrev pub IsDamagedAt : List ℕ → ℕ → Type 0
 IsDamagedAt file at = ((at ≡ 0) × HasNoFirst file) ⊎ IsBrokenAt file at
 
 -- ---- how far it was read
 
--- the file is a journal as far as it was read: the first record and these, and behind them stands `rest`
+-- the file is a journal as far as it was read: the first record and these, followed by `rest`
 pub record ReadsTo (file : List ℕ) (at digest : ℕ) (first : Entry) (entries : List Entry) : Type 0 where
   pub frames : List Gated
   pub rest : List ℕ
@@ -88,11 +88,11 @@ pub record ReadsTo (file : List ℕ) (at digest : ℕ) (first : Entry) (entries 
 
 -- ---- one step
 
--- the gate at that place, or none where the file ends there
+-- the commit byte at that position, or none if the file ends there
 abbrev pub IsGateAt : List ℕ → ℕ → Option ℕ → Type 0
 IsGateAt file at gate = MatchOption gate (drop at file ≡ []) (λ g. drop at file ≡ g ∷ drop (at + 1) file)
 
--- a file that begins with an open gate and the frame of a first record, which was read
+-- a file that begins with a set commit byte and the frame of a first record, which was read
 pub record StartsAs (file read : List ℕ) (digest : ℕ) : Type 0 where
   pub first : Entry
   pub begins : IsFirstRecord first
@@ -104,7 +104,7 @@ pub record StartsAs (file read : List ℕ) (digest : ℕ) : Type 0 where
 abbrev pub Starts : List ℕ → List ℕ → Option ℕ → Type 0
 Starts file read found = MatchOption found (HasNoFirst file) (λ digest. StartsAs file read digest)
 
--- a closed gate, behind which nothing goes on
+-- an unset commit byte, after which nothing continues the chain
 pub record EndsHere (before : ℕ) (rest : List ℕ) : Type 0 where
   pub gate : ℕ
   pub behind : List ℕ
@@ -112,7 +112,7 @@ pub record EndsHere (before : ℕ) (rest : List ℕ) : Type 0 where
   pub closed : is_open gate ≡ false
   pub stops : GoesOn before behind → ⊥
 
--- a closed gate, which was open, since what stands behind it goes on
+-- an unset commit byte, which was set, since what follows it continues the chain
 pub record WasOpen (before : ℕ) (rest : List ℕ) : Type 0 where
   pub gate : ℕ
   pub behind : List ℕ
@@ -120,7 +120,7 @@ pub record WasOpen (before : ℕ) (rest : List ℕ) : Type 0 where
   pub closed : is_open gate ≡ false
   pub goes : GoesOn before behind
 
--- an open gate and a frame, which was read
+-- a set commit byte and a frame, which was read
 pub record Continues (rest : List ℕ) (before : ℕ) (read : List ℕ) (digest : ℕ) : Type 0 where
   pub gate : ℕ
   pub entry : Entry
@@ -143,6 +143,6 @@ abbrev pub StepsWithin : ℕ → List ℕ → ℕ → Step → Type 0
 StepsWithin at read len (Frame digest) = at + 1 + length read ≤ len
 StepsWithin at read len other = Unit {0}
 
--- what a closed gate is, behind which the journal goes on or not
+-- the result for an unset commit byte, after which the journal continues or not
 abbrev pub step_of : Bool → Step
 step_of on = if on then Changed else End

@@ -1,4 +1,4 @@
-//! Whether the gate that ends a journal was once open: what stands behind it then goes on with the chain of digests.
+//! Whether the commit byte that ends a journal was once set: then what follows it continues the chain of digests.
 ghost use Rattle.std.specs.Prelude.{◌≡◌, ◌≤◌, ◌↔◌, ℕ, List, length, drop, vec_capacity, IsTrue, IfOk};
 ghost use Rattle.oai_journal.specs.Changes.{BeginsWithFrame, GoesOn, IsSearchTurn, TurnsOn};
 ghost use Rattle.oai_journal.specs.declared.frames.TheConstants.{FRONT_ROOM};
@@ -8,16 +8,16 @@ use crate::journals::JournalFault;
 use crate::readings::{read_frame, read_gate};
 use sqlite_disk::Disk;
 
-/// How far it is known whether bytes go on.
+/// How much is known about whether bytes continue the chain.
 pub(crate) enum Turn {
-    /// They do where those at that place do, behind a frame of that digest.
+    /// They do if those at that position do, after a frame with that digest.
     Further(usize, u64),
     /// They do, or they do not.
     Done(bool),
 }
 
-/// Whether at that place, behind the digest, stand the frames of a group without the gate of the first, and behind
-/// them the gate that begins a further group, and its frame.
+/// Whether the bytes at that position, after that digest, are the frames of a commit group without the commit byte of
+/// the first, followed by a set commit byte and the first frame of another group.
 #[tactic(auto, using(crate::proofs::ChangeLemmas::iff_trans, crate::proofs::ChangeLemmas::iff_sym_trans))]
 pub(crate) fn goes_on<D: Disk>(
     disk: &mut D,
@@ -47,7 +47,7 @@ pub(crate) fn goes_on<D: Disk>(
     }
 }
 
-/// Reads the frame at that place and the gate behind it.
+/// Reads the frame at that position and the commit byte after it.
 fn take_turn<D: Disk>(
     disk: &mut D,
     len: usize,
@@ -82,7 +82,7 @@ fn take_turn<D: Disk>(
     Ok(Turn::Done(on))
 }
 
-/// Whether a frame stands at that place behind the digest.
+/// Whether a frame begins at that position, after that digest.
 fn begins_with_frame<D: Disk>(
     disk: &mut D,
     len: usize,

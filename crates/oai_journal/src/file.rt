@@ -12,16 +12,20 @@ use crate::records::Record;
 use sqlite_disk::Disk;
 use std::alloc::{AllocError, Global};
 
-/// A journal in a file: groups of frames, each written whole before it counts. Records wait in memory until they
-/// are committed.
+/// A journal in a file: a write-ahead log of commit groups. A group is written and synced, then committed by its commit
+/// byte. Records wait in memory until they are committed.
+///
+/// A commit byte precedes each frame, and one ends the journal; names call it a gate. It is *set* (open) if the frame
+/// after it is committed: `+` begins a group, `&` continues it. It is *unset* (closed, `-`) at the end of the journal:
+/// what follows is not committed.
 #[derive(Drop)]
 pub struct FileJournal<D: Disk> {
     disk: D,
-    /// Where the closed gate stands that ends the journal.
+    /// The position of the unset commit byte that ends the journal.
     end: usize,
     /// The digest of the last frame on the disk.
     digest: u64,
-    /// The frames that wait, each with the gate of a further one behind it.
+    /// The frames that wait, each with the next commit byte after it.
     pending: Vec<u8>,
     /// The digest of the last of these.
     last: u64,
@@ -31,7 +35,7 @@ pub struct FileJournal<D: Disk> {
 
 impl<D: Disk + Drop> Journal for FileJournal<D> {
     ghost use Rattle.oai_journal.specs.Kept.{HasRoom, HoldsRecords, HasNotStopped, LeavesAllOrNone, MayLeaveRecords};
-    ghost use Rattle.oai_journal.specs.Kept.{journal_left, room_for_less};
+    ghost use Rattle.oai_journal.specs.Kept.{journal_left, journal_stays, room_for_less};
 
     ghost holds = { λ journal entries durable. HoldsRecords D.Disk.seen D.Disk.may_leave journal entries durable };
 
@@ -40,6 +44,9 @@ impl<D: Disk + Drop> Journal for FileJournal<D> {
     ghost has_room = { λ journal bytes. HasRoom journal.pending bytes };
 
     ghost less_room = { λ journal bytes less low room. room_for_less journal.pending bytes less low room };
+
+    ghost stays = { λ journal entries durable held.
+        journal_stays D.Disk.seen D.Disk.may_leave D.Disk.seen_may_stay journal entries durable held };
 
     ghost left = { λ journal entries durable found held left.
         journal_left D.Disk.seen D.Disk.may_leave journal entries durable found held left };
@@ -92,8 +99,8 @@ impl<D: Disk + Drop> Journal for FileJournal<D> {
 impl<D: Disk + Drop> FileJournal<D> {
     ghost use Rattle.oai_journal.specs.Kept.{HoldsFirst, IsAtEnd};
 
-    /// Begins a journal with that record on a disk that is empty, and syncs it. NoRoom where memory is refused; Failed
-    /// where the disk fails or is not empty.
+    /// Begins a journal with that record on an empty disk, and syncs it. The errors: NoRoom if out of memory; Failed if
+    /// the disk fails or is not empty.
     pub fn create(
         alloc: Global,
         mut disk: D,
@@ -112,14 +119,14 @@ impl<D: Disk + Drop> FileJournal<D> {
         Ok(FileJournal::at_end(alloc, disk, bytes.len() - 1, digest))
     }
 
-    /// The disk that it is on; what waits is dropped.
+    /// The journal's disk; records that wait are dropped.
     pub fn into_disk(self) -> D
         ensures { result ≡ self.disk }
     {
         self.disk
     }
 
-    /// A journal on that disk that ends at `end`, with that digest of its last frame.
+    /// A journal on that disk that ends at `end`, whose last frame has that digest.
     pub(crate) fn at_end(alloc: Global, disk: D, end: usize, digest: u64) -> FileJournal<D>
         ensures { IsAtEnd result disk end digest }
     {
@@ -152,7 +159,7 @@ fn first_frame(alloc: Global, first: &Record<'_>) -> Result<(Vec<u8>, u64), Jour
     Ok((bytes, digest))
 }
 
-/// Puts a closed gate in the place of the last one.
+/// Unsets the last commit byte.
 fn close_group(pending: &mut Vec<u8>)
     requires { 0 < length pending.old.items }
     ensures len { length pending.new.items ≡ length pending.old.items }

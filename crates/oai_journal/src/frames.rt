@@ -1,5 +1,5 @@
-//! Frames: a head with a digest, a line end, the bytes of a record, and a line end. The gate before a frame stands
-//! with what writes and reads groups.
+//! Frames: a head with a digest, a line end, the bytes of a log record, and a line end. `groups` and `readings` handle
+//! the commit byte before a frame.
 ghost use Rattle.std.specs.Prelude.{◌≡◌, ◌≢◌, ◌↔◌, ◌<◌, ◌≤◌, ◌+◌, ◌++◌, length, List, ℕ, drop, take, vec_len, vec_capacity, IsTrue, IsSome, IfSome, MatchOption};
 ghost use Rattle.std.specs.Option.{option_copied, option_map};
 ghost use Rattle.sqlite_disk.specs.Digest.{digest};
@@ -12,16 +12,17 @@ use crate::heads::{Head, MAX_HEAD, parse_head, put, write_head};
 use crate::records::{Record, is_within};
 use std::hash::{DefaultHasher, Hasher};
 
-/// How many bytes a digest has as text.
+/// The length of a digest as text, in bytes.
 const DIGEST_LEN: usize = 16;
 
-/// Room enough for a frame and its gate without the record's bytes: a head, a digest, two line ends and a gate.
+/// A capacity that is enough for a frame and its commit byte without the record's bytes: a head, a digest, two line
+/// ends and a commit byte.
 pub(crate) const FRAME_ROOM: usize = 102;
 
-/// Room enough for what stands before the record's bytes.
+/// A capacity that is enough for what precedes the record's bytes.
 pub(crate) const FRONT_ROOM: usize = 100;
 
-/// Writes a frame into room that is there; answers its digest.
+/// Writes a frame into reserved space; returns its digest.
 #[tactic(auto, unfolding(crate::specs::Frames::frame, crate::specs::Heads::plain))]
 pub(crate) fn write_frame(before: u64, entry: &Record<'_>, out: &mut Vec<u8>) -> u64
     requires fit { IsTrue (is_fit (as_entry entry.now)) }
@@ -70,8 +71,8 @@ fn digest_text(digest: u64) -> [u8; DIGEST_LEN]
     text
 }
 
-/// How many bytes the frame has of which these are the first; `out` is emptied, and needs room for a head. None
-/// where no frame begins so.
+/// The length of the frame that begins with these bytes; `out` is cleared, and needs capacity for a head. None if no
+/// frame begins so.
 #[tactic(auto, unfolding(crate::specs::Frames::len_in), using(crate::proofs::FitLemmas::within_parts))]
 pub(crate) fn frame_len(bytes: &[u8], out: &mut Vec<u8>) -> Option<usize>
     requires room { MAX_HEAD ≤ vec_capacity out.old }
@@ -88,7 +89,7 @@ pub(crate) fn frame_len(bytes: &[u8], out: &mut Vec<u8>) -> Option<usize>
     Some(out.len() + DIGEST_LEN + head.size + 2)
 }
 
-/// The record in the bytes of a frame; that these spell it is not looked at.
+/// The log record in the bytes of a frame; whether the bytes encode it is not tested.
 #[tactic(auto, unfolding(crate::specs::Frames::entry_in))]
 pub(crate) fn record_in(bytes: &[u8]) -> Option<Record<'_>>
     ensures { option_map as_entry result ≡ spec.entry_in bytes.now }
@@ -103,7 +104,7 @@ pub(crate) fn record_in(bytes: &[u8]) -> Option<Record<'_>>
     })
 }
 
-/// So many bytes before the last one.
+/// That many bytes before the last one.
 #[tactic(auto, unfolding(crate::specs::Frames::body_in))]
 fn body_in(size: usize, bytes: &[u8]) -> Option<&[u8]>
     ensures { option_copied result ≡ spec.body_in size bytes.now }
@@ -115,8 +116,8 @@ fn body_in(size: usize, bytes: &[u8]) -> Option<&[u8]>
     }
 }
 
-/// Whether the bytes are the frame of the record behind the digest `before`, and the digest of that frame; `out`
-/// is emptied, and needs room for what stands before the record's bytes.
+/// Whether the bytes are the frame of the record after the digest `before`, and the digest of that frame; `out` is
+/// cleared, and needs capacity for what precedes the record's bytes.
 pub(crate) fn frame_digest(
     before: u64,
     entry: &Record<'_>,
@@ -139,7 +140,7 @@ pub(crate) fn frame_digest(
     }
 }
 
-/// Writes what stands before the bytes of a record; answers the digest of the frame.
+/// Writes what precedes the bytes of a record; returns the digest of the frame.
 fn write_front(before: u64, entry: &Record<'_>, out: &mut Vec<u8>) -> u64
     requires fit { IsTrue (is_fit (as_entry entry.now)) }
     requires room { vec_len out.old + FRONT_ROOM ≤ vec_capacity out.old }
@@ -156,7 +157,7 @@ fn write_front(before: u64, entry: &Record<'_>, out: &mut Vec<u8>) -> u64
     digest
 }
 
-/// The bytes from a place on.
+/// The bytes from a position on.
 fn behind(at: usize, bytes: &[u8]) -> &[u8]
     requires { at ≤ length bytes.now }
     ensures { result.now ≡ drop at bytes.now }
@@ -164,7 +165,7 @@ fn behind(at: usize, bytes: &[u8]) -> &[u8]
     &bytes[at..]
 }
 
-/// Whether the whole is the three parts, one behind the other.
+/// Whether the whole is the three parts, one after the other.
 fn is_joined(whole: &[u8], first: &[u8], second: &[u8], third: &[u8]) -> bool
     ensures { IsTrue result ↔ (whole.now ≡ first.now ++ (second.now ++ third.now)) }
 {

@@ -1,4 +1,4 @@
-//! Groups of frames, written to a disk behind the closed gate that ends the journal.
+//! Commit groups: frames, written to a disk after the unset commit byte that ends the journal.
 ghost use Rattle.std.specs.Prelude.{◌≡◌, ◌⊎◌, ◌+◌, ◌++◌, ◌<◌, ◌^◌, ℕ, List, length, OnOk, IfErr};
 ghost use Rattle.sqlite_disk.specs.Disk.{Only, Torn};
 ghost use Rattle.oai_journal.specs.Files as spec;
@@ -9,21 +9,21 @@ ghost use Rattle.oai_journal.specs.declared.journals.JournalFault.TheVariants as
 use crate::journals::JournalFault;
 use sqlite_disk::Disk;
 
-/// The gate that begins a group that counts.
+/// The commit byte that begins a committed group.
 pub(crate) const OPEN_GATE: u8 = b'+';
 
-/// The gate of a further frame of a group.
+/// The commit byte of a further frame of a group.
 pub(crate) const FURTHER_GATE: u8 = b'&';
 
-/// Whether a frame behind the gate counts.
+/// Whether the commit byte is set, so that the frame after it is committed.
 pub(crate) fn is_open(gate: u8) -> bool
     ensures { result ≡ spec.is_open gate }
 {
     gate == OPEN_GATE || gate == FURTHER_GATE
 }
 
-/// Writes a group behind the closed gate at `end`: its bytes, of which the last is a closed gate, then syncs; then
-/// the open gate, and syncs.
+/// Writes a group after the unset commit byte at `end`: first the group's bytes, the last of which is an unset commit
+/// byte, and syncs; then sets the commit byte at `end`, and syncs.
 pub(crate) fn write_group<D: Disk>(
     disk: &mut D,
     end: usize,
@@ -43,7 +43,7 @@ pub(crate) fn write_group<D: Disk>(
     write_synced(disk, end, &[OPEN_GATE])
 }
 
-/// Writes bytes and syncs. Failed where the disk fails, or has failed.
+/// Writes bytes and syncs. The error: Failed if the disk fails, or has failed.
 pub(crate) fn write_synced<D: Disk>(
     disk: &mut D,
     at: usize,

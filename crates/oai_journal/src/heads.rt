@@ -9,13 +9,13 @@ ghost use Rattle.oai_journal.specs.Numbers.{moment_of, number_in};
 use crate::records::Kind;
 use itoa::Buffer;
 
-/// How many bytes a head has at most: 20 for each number, 7 for the kind, the name, and a space behind each.
+/// The maximum length of a head in bytes: 20 for each number, 7 for the kind, the name, and a space after each.
 pub(crate) const MAX_HEAD: usize = 83;
 
-/// What begins no number here, though `parse` takes it.
+/// A sign that no number here begins with, though `parse` takes it.
 const PLUS: &[u8] = b"+";
 
-/// What a head says: the fields of a record, with the length of its bytes in their place.
+/// What a head says: the fields of a log record, with the length of its bytes in their place.
 #[derive(Clone, Copy)]
 pub(crate) struct Head<'a> {
     pub moment: i64,
@@ -24,7 +24,7 @@ pub(crate) struct Head<'a> {
     pub size: usize,
 }
 
-/// Writes a head into room that is there.
+/// Writes a head into reserved space.
 #[tactic(auto, unfolding(crate::specs::Heads::head_front, crate::specs::Heads::plain))]
 pub(crate) fn write_head(head: &Head<'_>, out: &mut Vec<u8>)
     requires name { length head.now.name.now ≤ MAX_NAME }
@@ -44,7 +44,7 @@ pub(crate) fn write_head(head: &Head<'_>, out: &mut Vec<u8>)
     put(b" ", out);
 }
 
-/// Writes into room that is there.
+/// Writes into reserved space.
 pub(crate) fn put(bytes: &[u8], out: &mut Vec<u8>)
     requires { vec_len out.old + length bytes.now ≤ vec_capacity out.old }
     ensures items { out.new.items ≡ out.old.items ++ bytes.now }
@@ -54,7 +54,7 @@ pub(crate) fn put(bytes: &[u8], out: &mut Vec<u8>)
     out.extend_from_slice(bytes).unwrap()
 }
 
-/// Reads the fields of the head in front of bytes; that these spell them is not looked at.
+/// Reads the fields of the head with which bytes begin; whether the bytes are their encoding is not tested.
 #[tactic(auto, unfolding(crate::specs::Heads::head_in))]
 pub(crate) fn parse_head(bytes: &[u8]) -> Option<Head<'_>>
     ensures { option_map spec.fields_of_head result ≡ spec.head_in bytes.now }
@@ -74,7 +74,7 @@ pub(crate) fn parse_head(bytes: &[u8]) -> Option<Head<'_>>
     })
 }
 
-/// The kind of a word.
+/// The kind with that word.
 #[tactic(auto, unfolding(crate::specs::Heads::kind_in))]
 fn read_kind(word: &[u8]) -> Option<Kind>
     ensures { result ≡ spec.kind_in word.now }
@@ -103,7 +103,7 @@ fn read_kind(word: &[u8]) -> Option<Kind>
     None
 }
 
-/// What stands before the first space, and what stands after it; all and nothing where none does.
+/// What precedes the first space, and what follows it; everything and nothing if there is none.
 fn cut(text: &[u8]) -> (&[u8], &[u8])
     ensures front { result.0.now ≡ spec.part text.now }
     ensures back { result.1.now ≡ spec.rest text.now }
@@ -116,7 +116,7 @@ fn cut(text: &[u8]) -> (&[u8], &[u8])
     }
 }
 
-/// How many bytes stand before the first space.
+/// The number of bytes before the first space.
 fn front_len(text: &[u8]) -> usize
     ensures length { result ≡ position_or_len spec.is_separator text.now }
     ensures within { result ≤ length text.now }
@@ -127,7 +127,7 @@ fn front_len(text: &[u8]) -> usize
     }
 }
 
-/// The place of the first space.
+/// The position of the first space.
 fn first_space(text: &[u8]) -> Option<usize>
     ensures { result ≡ position spec.is_separator text.now }
 {

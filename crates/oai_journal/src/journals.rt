@@ -7,13 +7,13 @@ use crate::records::Record;
 use std::alloc::{AllocError, AllocFailed};
 use thiserror::Error;
 
-/// Why a journal did not do what it was asked for.
+/// Why a call of a journal failed.
 #[derive(Clone, Copy, Debug, PartialEq, Eq, Error)]
 pub enum JournalFault {
-    /// Memory was refused, or the file would be longer than 2^64 bytes.
+    /// Out of memory, or the file would be longer than 2^64 bytes.
     #[error("out of memory")]
     NoRoom,
-    /// Its disk failed, now or earlier. It takes no further records to the disk.
+    /// The disk failed, in this call or earlier. No further records are written to it.
     #[error("the disk failed")]
     Failed,
 }
@@ -34,25 +34,26 @@ impl<T: Drop> From<AllocFailed<T>> for JournalFault {
     }
 }
 
-/// A list of records, of which so many, from the first on, are durable. At each moment, within a call too, a crash
-/// leaves a prefix of the list that has all durable ones. (Within a call it is a crash after one that failed.)
+/// A list of log records, of which that many, from the first on, are durable. At each moment, within a call too, a
+/// crash leaves a prefix of the list that has all durable ones. (A crash within a call is one after a call that
+/// failed.)
 pub trait Journal: Drop {
-    /// These are its records, and so many of them are durable.
+    /// Its records, and how many of them are durable.
     ghost holds: { Self → List Entry → ℕ → Type 0 };
 
     /// A crash at this moment may leave these records.
     ghost may_leave: { Self → List Entry → Type 0 };
 
-    /// There is room for a record of so many bytes.
+    /// Space is reserved for a record of that many bytes.
     ghost has_room: { Self → ℕ → Type 0 };
 
-    /// Makes room for a record of so many bytes. NoRoom where memory is refused; nothing has changed then.
+    /// Reserves space for a record of that many bytes. The error is NoRoom, out of memory; nothing has changed then.
     fn reserve(&mut self, bytes: usize) -> Result<(), JournalFault>
         ensures room { OnOk result (has_room self.new bytes) }
         ensures same { (entries : List Entry) (durable : ℕ) → holds self.old entries durable
             → holds self.new entries durable };
 
-    /// Adds a record behind the others, into room that is there. It takes no memory and does not fail.
+    /// Appends a record, into reserved space. It allocates nothing and cannot fail.
     fn append(&mut self, entry: &Record<'_>)
         requires fit { IsTrue (is_fit (as_entry entry.now)) }
         requires kind { is_first_kind entry.now.kind ≡ false }
@@ -60,17 +61,21 @@ pub trait Journal: Drop {
         ensures { (entries : List Entry) (durable : ℕ) → holds self.old entries durable
             → holds self.new (entries ++ as_entry entry.now ∷ []) durable };
 
-    /// Makes all records durable. Failed where the disk fails, and then for ever; as many are durable then as
-    /// before, or all.
+    /// Makes all records durable. The error is Failed if the disk fails, and from then on always; then as many are
+    /// durable as before, or all.
     fn commit(&mut self) -> Result<(), JournalFault>
         ensures ok { OnOk result ((entries : List Entry) (durable : ℕ) → holds self.old entries durable
             → holds self.new entries (length entries)) }
         ensures err { OnErr result ((entries : List Entry) (durable : ℕ) → holds self.old entries durable
             → holds self.new entries durable) };
 
-    /// Room for a record is room for a shorter one.
+    /// Space for a record is space for a shorter one.
     ghost less_room: { (journal : Self) (bytes less : ℕ) → less ≤ bytes → has_room journal bytes
         → has_room journal less };
+
+    /// A crash leaves some records.
+    ghost stays: { (journal : Self) (entries : List Entry) (durable : ℕ) → holds journal entries durable
+        → (found : List Entry) × may_leave journal found };
 
     /// What a crash leaves is a prefix of the records that has all durable ones.
     ghost left: { (journal : Self) (entries : List Entry) (durable : ℕ) (found : List Entry)

@@ -1,5 +1,5 @@
-//! A journal: records, one behind the other, of which a crash leaves a prefix that has all durable ones; and its
-//! file, of frames in groups that no crash can tear.
+//! A journal, a write-ahead log: records that are only appended, of which a crash leaves a prefix that has all durable
+//! ones; and its file, of frames in commit groups that no crash can tear.
 #![tactic(auto)]
 
 mod changes;

@@ -1,4 +1,4 @@
-//! Frames, read from a disk one at a time, each into a buffer that grows to the longest of them.
+//! Reads frames from a disk one at a time, each into a buffer that grows to the longest of them.
 ghost use Rattle.std.specs.Prelude.{◌≡◌, ◌+◌, ◌<◌, ◌≤◌, ℕ, List, Option, Some, length, take, drop, vec_capacity, IsTrue, OnOk, IfOk, IfSome};
 ghost use Rattle.sqlite_disk.specs.Disk.{Only};
 ghost use Rattle.oai_journal.specs.Frames.{entry_in};
@@ -10,7 +10,7 @@ use crate::journals::JournalFault;
 use crate::records::Record;
 use sqlite_disk::Disk;
 
-/// Reads the gate at that place; None where the file ends there.
+/// Reads the commit byte at that position; None if the file ends there.
 pub(crate) fn read_gate<D: Disk>(
     disk: &mut D,
     len: usize,
@@ -31,10 +31,10 @@ pub(crate) fn read_gate<D: Disk>(
     Ok(Some(frame[0]))
 }
 
-/// Reads the frame that stands at that place behind the digest `before`, of the first record of a journal or of
-/// another one; answers its digest, or None where none does. Its bytes are then in `frame`. `out` needs room for
-/// what stands before a record's bytes. Of a frame that is cut short, or whose head is of another form or has too
-/// great a length, no more is read than that head.
+/// Reads the frame at that position after the digest `before`, of the first record of a journal or of another one;
+/// returns its digest, or None if there is none. Its bytes are then in `frame`. `out` needs capacity for what precedes
+/// a record's bytes. Of a frame that is cut short, whose head is malformed or whose length is too great, only the head
+/// is read.
 pub(crate) fn read_frame<D: Disk>(
     disk: &mut D,
     len: usize,
@@ -62,7 +62,7 @@ pub(crate) fn read_frame<D: Disk>(
     }
 }
 
-/// How many bytes the frame has that begins at that place, and None where none does. They are within the file.
+/// The length of the frame that begins at that position, or None if none does. The frame is within the file.
 fn read_len<D: Disk>(
     disk: &mut D,
     len: usize,
@@ -90,7 +90,8 @@ fn read_len<D: Disk>(
     }
 }
 
-/// Reads so many bytes at that place. Failed where the disk fails, or has failed; NoRoom where memory is refused.
+/// Reads that many bytes at that position. The errors: Failed if the disk fails, or has failed; NoRoom if out of
+/// memory.
 pub(crate) fn read_bytes<D: Disk>(
     disk: &mut D,
     at: usize,
@@ -116,8 +117,8 @@ pub(crate) fn read_bytes<D: Disk>(
     }
 }
 
-/// Whether the bytes are the frame of a record behind the digest `before`, of the first one of a journal or of
-/// another; its digest.
+/// Whether the bytes are the frame of a record after the digest `before`, of the first one of a journal or of another;
+/// its digest.
 fn check_frame(first: bool, before: u64, bytes: &[u8], out: &mut Vec<u8>) -> Option<u64>
     requires room { FRONT_ROOM ≤ vec_capacity out.old }
     ensures checked { Checks first before bytes.now result }
@@ -129,7 +130,7 @@ fn check_frame(first: bool, before: u64, bytes: &[u8], out: &mut Vec<u8>) -> Opt
     }
 }
 
-/// Whether the bytes in which that record was read are its frame.
+/// Whether the bytes from which that record was read are its frame.
 fn check_record(
     first: bool,
     before: u64,
@@ -152,7 +153,7 @@ fn check_record(
     frame_digest(before, entry, bytes, out)
 }
 
-/// Syncs the file; answers how many bytes it has.
+/// Syncs the file; returns its length in bytes.
 pub(crate) fn open_len<D: Disk>(disk: &mut D) -> Result<usize, JournalFault>
     ensures len { IfOk result (λ len. IsTrue (D.Disk.is_clean disk.new) → len ≡ length (D.Disk.seen disk.old)) }
     ensures durable { OnOk result (Only (D.Disk.seen disk.new) (D.Disk.may_leave disk.new)) }

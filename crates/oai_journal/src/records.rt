@@ -2,16 +2,16 @@ ghost use Rattle.std.specs.Prelude.{◌≡◌, length};
 ghost use Rattle.std.specs.List.{list_all};
 ghost use Rattle.oai_journal.specs.Records as spec;
 
-/// How many bytes a record may have, but for the first one.
+/// The maximum length of a record in bytes, except for the first one.
 pub const MAX_BODY: usize = 2_097_152;
 
-/// How many bytes the first record may have.
+/// The maximum length of the first record in bytes.
 pub const MAX_FIRST_BODY: usize = 67_108_864;
 
-/// How many bytes the name in a record may have.
+/// The maximum length of the name in a record, in bytes.
 pub const MAX_NAME: usize = 32;
 
-/// What a record is about.
+/// The kind of a log record.
 #[derive(Clone, Copy, Debug, PartialEq, Eq)]
 pub enum Kind {
     /// The first record of a journal, and no other: the version and the configuration.
@@ -20,7 +20,7 @@ pub enum Kind {
     Oai,
     /// The lines of a deposit.
     Deposit,
-    /// That time went on, and nothing else.
+    /// A tick: only the clock moved.
     Tick,
     /// A repository of a checkpoint begins: its next list number.
     Begin,
@@ -30,21 +30,21 @@ pub enum Kind {
     Item,
 }
 
-/// A record of a journal.
+/// A log record.
 #[derive(Clone, Copy, Debug)]
 pub struct Record<'a> {
     /// The moment, in seconds from 1970 on.
     pub moment: i64,
-    /// What it is about.
+    /// Its kind.
     pub kind: Kind,
-    /// The name of a repository: at most `MAX_NAME` ASCII characters that can be seen.
+    /// The name of a repository: at most `MAX_NAME` visible ASCII characters.
     pub name: &'a [u8],
     /// Its bytes.
     pub body: &'a [u8],
 }
 
 impl Kind {
-    /// The word that a head has for the kind.
+    /// The word for the kind in a head.
     pub fn word(self) -> &'static str
         ensures { result.now ≡ spec.word_of self }
     {
@@ -69,7 +69,7 @@ impl Kind {
         }
     }
 
-    /// How many bytes a record of the kind may have.
+    /// The maximum length of a record of the kind, in bytes.
     pub fn max_body(self) -> usize
         ensures { result ≡ spec.most_bytes self }
     {
@@ -89,7 +89,7 @@ impl Record<'_> {
     }
 }
 
-/// Whether a record of the kind may have that name and so many bytes.
+/// Whether a record of the kind may have that name and that many bytes.
 #[tactic(auto, unfolding(crate::specs::Records::is_within))]
 pub(crate) fn is_within(kind: Kind, name: &[u8], size: usize) -> bool
     ensures { result ≡ spec.is_within kind name.now size }
@@ -97,7 +97,7 @@ pub(crate) fn is_within(kind: Kind, name: &[u8], size: usize) -> bool
     has_name_bytes(name) && name.len() <= MAX_NAME && size <= kind.max_body()
 }
 
-/// Whether each byte is an ASCII character that can be seen.
+/// Whether each byte is a visible ASCII character.
 fn has_name_bytes(name: &[u8]) -> bool
     ensures { result ≡ list_all spec.is_visible_ascii name.now }
 {

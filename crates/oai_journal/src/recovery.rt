@@ -1,4 +1,4 @@
-//! A journal's file, read from its first byte on, a record at a time.
+//! Crash recovery: reads a journal's file from its first byte on, a record at a time.
 ghost use Rattle.std.specs.Prelude.{◌≡◌, ◌⊎◌, ◌<◌, ◌≤◌, ◌+◌, ◌++◌, [], ◌∷◌, ℕ, List, Some, true, false, length, drop, IsTrue, IfOk, IfErr, IfSome, OnOk};
 ghost use Rattle.oai_journal.specs.Changes.{IsChangedAt, IsUndamaged};
 ghost use Rattle.oai_journal.specs.Kept.{HoldsRecords, Survives};
@@ -21,10 +21,10 @@ use thiserror::Error;
 /// Why a journal is not read on.
 #[derive(Clone, Copy, Debug, PartialEq, Eq, Error)]
 pub enum RecoveryFault {
-    /// The file is no journal, by what stands at that byte.
+    /// The file is no journal, because of what it has at that byte.
     #[error("damaged at byte {0}")]
     Damaged(usize),
-    /// Memory was refused, or the disk failed.
+    /// Out of memory, or the disk failed.
     #[error("{0}")]
     Stopped(JournalFault),
 }
@@ -37,15 +37,15 @@ impl From<JournalFault> for RecoveryFault {
     }
 }
 
-/// What stands at a place of a journal at which a gate has to stand.
+/// What a journal has at a position of a commit byte.
 pub(crate) enum Step {
-    /// A closed gate, which ends the journal.
+    /// An unset commit byte, which ends the journal.
     End,
-    /// A closed gate that was open: behind it the journal goes on.
+    /// An unset commit byte that was set: the journal continues after it.
     Changed,
-    /// An open gate and a frame, with that digest.
+    /// A set commit byte and a frame, with that digest.
     Frame(u64),
-    /// No gate, or an open one and no frame.
+    /// No commit byte, or a set one without a frame.
     Damage,
 }
 
@@ -55,15 +55,15 @@ pub(crate) enum Step {
 pub struct Recovery<D: Disk> {
     alloc: Global,
     disk: D,
-    /// How many bytes the file has.
+    /// The length of the file in bytes.
     len: usize,
-    /// Where the gate stands that is read next.
+    /// The position of the commit byte that is read next.
     at: usize,
     /// The digest of the frame that was read last.
     digest: u64,
     /// Its bytes.
     frame: Vec<u8>,
-    /// Whether the gate that is read next is the closed one that ends the journal.
+    /// Whether the commit byte that is read next is the unset one that ends the journal.
     ended: bool,
 }
 
@@ -85,8 +85,8 @@ impl<D: Disk + Drop> Recovery<D> {
         }
     }
 
-    /// Syncs the file, so that what is read of it is durable, and reads the first record. Damaged at byte 0 where the
-    /// file does not begin with an open gate and the frame of a first record.
+    /// Syncs the file, so that what is read of it is durable, and reads the first record. Damaged at byte 0 if the file
+    /// does not begin with a set commit byte and the frame of a first record.
     pub fn begin(&mut self) -> Result<(), RecoveryFault>
         ensures begun { OnOk result (IsTrue (D.Disk.is_clean (disk_of self.new)) → (first : Entry)
             × HasRecovered D.Disk.seen D.Disk.may_leave self.new first [] × (current self.new ≡ Some first)) }
@@ -106,8 +106,9 @@ impl<D: Disk + Drop> Recovery<D> {
         Ok(())
     }
 
-    /// Reads the next record; false where there is none, since the journal ends. Damaged at the byte of the gate where
-    /// none stands, or an open one with no frame behind it, or a closed one behind which the journal goes on.
+    /// Reads the next record; returns false if there is none, since the journal ends. Damaged at the position of the
+    /// commit byte if there is none, if it is set and no frame follows, or if it is unset and the journal continues
+    /// after it.
     pub fn advance(&mut self) -> Result<bool, RecoveryFault>
         ensures next { IfOk result (λ more. IsTrue (D.Disk.is_clean (disk_of self.new))
             → (first : Entry) (entries : List Entry)
@@ -152,24 +153,24 @@ impl<D: Disk + Drop> Recovery<D> {
         }
     }
 
-    /// The record that was read last; None where none was.
+    /// The record that was read last; None before the first.
     pub fn record(&self) -> Option<Record<'_>>
         ensures { option_map as_entry result ≡ current self.now }
     {
         record_in(&self.frame)
     }
 
-    /// Where the gate stands that is read next, in bytes.
+    /// The position of the commit byte that is read next, in bytes.
     pub fn position(&self) -> usize {
         self.at
     }
 
-    /// How many bytes the file has.
+    /// The length of the file in bytes.
     pub fn file_len(&self) -> usize {
         self.len
     }
 
-    /// The journal, once its end was read, and None before that. All its records are durable.
+    /// The journal, once its end was read; None before that. All its records are durable.
     pub fn into_journal(self) -> Option<FileJournal<D>>
         ensures { IfSome result (λ journal. (first : Entry) (entries : List Entry)
             → HasRecovered D.Disk.seen D.Disk.may_leave self first entries
@@ -182,7 +183,7 @@ impl<D: Disk + Drop> Recovery<D> {
     }
 }
 
-/// Reads the first record of the journal; None where the file does not begin with an open gate and its frame.
+/// Reads the first record of the journal; None if the file does not begin with a set commit byte and its frame.
 fn read_first<D: Disk>(
     alloc: Global,
     disk: &mut D,
@@ -221,14 +222,14 @@ impl<D: Crash + Drop> FileJournal<D> {
     }
 }
 
-/// What a closed gate is, behind which the journal goes on or not.
+/// The result for an unset commit byte, after which the journal continues or not.
 fn closed_step(on: bool) -> Step
     ensures { result ≡ step_of on }
 {
     if on { Step::Changed } else { Step::End }
 }
 
-/// Reads what stands at a place at which a gate has to stand.
+/// Reads what the journal has at a position of a commit byte.
 fn read_step<D: Disk>(
     alloc: Global,
     disk: &mut D,

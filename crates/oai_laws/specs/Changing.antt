@@ -1,4 +1,4 @@
--- What a change that is accepted has made of what is held. OAI-PMH 2.0, sections 2.3 to 2.6; that deleted items go when a purge is asked for is
+-- What an accepted change does to what is held. OAI-PMH 2.0, sections 2.3 to 2.6; that a purge removes deleted items is
 -- this repository's own.
 use Rattle.std.specs.Prelude.{◌≡◌, ◌≢◌, ◌≤ℤ◌, ◌↔◌, ◌⊎◌, ℕ, ℤ, true, List, [], ◌∷◌, ◌++◌, Option, Some, None}
 use Rattle.std.specs.List.{Contains}
@@ -15,27 +15,28 @@ use Rattle.oai_settings.specs.Config.{Config}
 use Rattle.oai_repo.specs.Changes.{stamp_at}
 use Rattle.oai_repo.specs.State.{Holdings, RepoState}
 
--- under the identifier stands that item, or none; under each other identifier stands what stood there; and the sets are as they were
+-- the identifier has that item, or none; each other identifier has what it had; and the sets are unchanged
 pub record IsReplaced (identifier : List ℕ) (item : Option ItemState) (old new : Holdings) : Type 0 where
   pub named : item_named identifier new.items ≡ item
   pub others : (other : List ℕ) → other ≢ identifier → item_named other new.items ≡ item_named other old.items
   pub same_sets : new.sets ≡ old.sets
 
--- what is kept of an item that is deleted: nothing, or the deleted item, with its sets and prefixes and that datestamp (section 2.5.1)
+-- what is kept of a deleted item: nothing, or the tombstone, with its sets and prefixes and that datestamp (section
+-- 2.5.1)
 abbrev pub left_over : DeletedRecord → ℤ → ItemState → Option ItemState
 left_over No stamp item = None
 left_over Transient stamp item = Some (tombstone_of stamp item)
 left_over Persistent stamp item = Some (tombstone_of stamp item)
 
--- the item of the identifier is deleted: it was there, and live; and what is kept of it is there now
+-- the item with the identifier is deleted: it was there, and live; and what is kept of it is there now
 pub record IsDeleted (policy : DeletedRecord) (stamp : ℤ) (identifier : List ℕ) (old new : Holdings) : Type 0 where
   pub item : ItemState
   pub there : item_named identifier old.items ≡ Some item
   pub lived : item.live ≡ true
   pub replaced : IsReplaced identifier (left_over policy stamp item) old new
 
--- the repository is purged of deleted items: it may forget them; and just those stay that are live, or whose datestamp is not before the day
--- or the second that the text stands for
+-- the repository is purged of deleted items: its policy allows it; and exactly those items stay that are live, or whose
+-- datestamp is not before the day or the second that the text stands for
 pub record IsPurged (policy : DeletedRecord) (text : List ℕ) (old new : Holdings) : Type 0 where
   pub forgetful : policy ≡ Transient
   pub bound : Bound
@@ -43,15 +44,16 @@ pub record IsPurged (policy : DeletedRecord) (text : List ℕ) (old new : Holdin
   pub members : (item : ItemState) → Contains new.items item ↔ (Contains old.items item × ((item.live ≡ true) ⊎ (lower_of bound ≤ℤ item.stamp)))
   pub same_sets : new.sets ≡ old.sets
 
--- the change, with that datestamp, has made the second of the first: the item of a deposit is live, in the sets and with the records that were
--- given, of which the setSpecs that cover another one are left out; a set stands behind the others
+-- the change, with that datestamp, has made the second of the first: the item of a deposit is live, in the given sets
+-- and with the given records, without the setSpecs that cover another one; a set is the last one
 abbrev pub Makes : Config → ℤ → Change → Holdings → Holdings → Type 0
 Makes config stamp (change.Deposit identifier sets records) old new = IsReplaced identifier (Some (live_item identifier stamp (reduced sets) records)) old new
 Makes config stamp (change.Delete identifier) old new = IsDeleted config.deleted stamp identifier old new
 Makes config stamp (change.Purge before) old new = IsPurged config.deleted before old new
 Makes config stamp (change.AddSet spec name) old new = (new.items ≡ old.items) × (new.sets ≡ old.sets ++ (spec, name) ∷ [])
 
--- the change was accepted with a datestamp: it is that of the clock (section 2.7.1), and what is held is what the change makes with it
+-- the change was accepted with a datestamp: it is the clock's (section 2.7.1), and what is held is what the change
+-- makes with it
 pub record DoesChange (config : Config) (change : Change) (old new : RepoState) (stamp : ℤ) : Type 0 where
   pub dated : stamp ≡ stamp_at config old.clock
   pub made : Makes config stamp change old.holdings new.holdings

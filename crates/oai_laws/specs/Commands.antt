@@ -1,4 +1,4 @@
--- What commands do to a state, and what is true of every state, as the fields of a law. This repository's own.
+-- What commands do to a state, and what holds of every state, as the fields of a law. This repository's own.
 use Rattle.std.specs.Prelude.{◌≡◌, ℕ, ℤ, true, List, Some}
 use Rattle.oai_names.specs.declared.list_verbs.ListVerb.{ListVerb}
 use Rattle.oai_item.specs.declared.changes.Change.{Change}
@@ -12,15 +12,15 @@ use Rattle.oai_laws.specs.Effects.{Effect, IsEffected, IsPossible, IsSound, effe
 use Rattle.oai_laws.specs.Following.{IsContinued, answer_in, next_request}
 use Rattle.oai_laws.specs.Waiting.{IsRetriedLater}
 
--- a repository begins in a sound state, is in one whenever its clock moves, and after all that can be done to it
+-- a repository begins in a sound state, and is in one whenever its clock moves, and after all that can be done to it
 pub record StaysSound (config : Config) : Type 0 where
   pub empty : IsSound config (empty_state config)
   pub moves : (moment : ℤ) (state : RepoState) → IsSound config state → IsSound config (moved moment state)
   pub done : (state : RepoState) (effect : Effect) → IsPossible config state effect → IsSound config state → IsSound config (effected config state effect)
 
--- what a command does to a state: something that can be done to it; a request changes nothing that is held, and a change no open list; a request
--- that is of no list leaves the state, and so does a token that is refused; a token is answered with a page, or refused; and a command that is
--- answered by a time to wait is a request that may be made again
+-- what a command does to a state: something that can be done to it; a request changes nothing that is held, and a
+-- change no open list; a request that is of no list leaves the state, and so does a token that is refused; a token is
+-- answered with a page, or refused; and a command that is answered by a time to wait is a request that may be repeated
 pub record ActsOn (config : Config) (state : RepoState) : Type 0 where
   pub does : (command : Command) → IsSound config state → IsEffected config state (act config state command).1
   pub requests : (request : AskOrError) → (act config state (requesting request)).1.holdings ≡ state.holdings

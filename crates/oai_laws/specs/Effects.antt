@@ -1,4 +1,4 @@
--- What a command can do to a state, and what is true of every state that commands lead to. This repository's own.
+-- What a command can do to a state, and what holds of every state that commands lead to. This repository's own.
 use Rattle.std.specs.Prelude.{◌≡◌, ◌≢◌, ◌≤◌, ℕ, ℤ, pos, ◌+ℤ◌, int_lt, Bool, true, false, ◌&&◌, not, List, [], ◌∷◌, ◌++◌, length, filter, Option, None, Some, is_some, nat_lt}
 use Rattle.std.specs.List.{list_all}
 use Rattle.oai_lists.specs.declared.lists.TheConstants.{LAST_NUMBER}
@@ -17,9 +17,9 @@ use Rattle.oai_repo.specs.State.{FrozenList, NamedSet, RepoState}
 
 -- ---- what is done to a state
 
--- nothing; an item comes in place of the one of its identifier, if there is one; the item of an identifier goes, and nothing of it is
--- kept; the deleted items below a limit go; a set comes behind the others; the open list of a number stays open from now on, and a token with a
--- cursor is handed out, where there is one; or a list is opened
+-- nothing; an item replaces the one with its identifier, if there is one; the item with an identifier is removed,
+-- without a tombstone; the tombstones below a limit are removed; a set is added as the last one; the open list with a
+-- number is renewed, and a token with a cursor is handed out, if there is one; or a list is opened
 pub data Effect : Type 0 where
   unchanged : Effect
   item_put : ItemState → Effect
@@ -33,11 +33,11 @@ pub data Effect : Type 0 where
 abbrev pub holding : RepoState → List ItemState → RepoState
 holding state items = record state { holdings = record state.holdings { items = items } }
 
--- the item goes where deleted ones of datestamps below the limit go
+-- the item is deleted, and its datestamp is below the limit
 abbrev pub goes_below : ℤ → ItemState → Bool
 goes_below limit item = not item.live && int_lt item.stamp limit
 
--- the state then
+-- the state afterwards
 abbrev pub effected : Config → RepoState → Effect → RepoState
 effected config state unchanged = state
 effected config state (item_put item) = holding state (with_new item state.holdings.items)
@@ -49,8 +49,8 @@ effected config state (list_opened list) = record state { open_lists = with_new_
 
 -- ---- when it can be done
 
--- the item is what is left of a live one of its identifier that is there: the same sets and prefixes, no fields, and its own datestamp. No
--- such item comes where nothing is kept of deleted records (section 2.5.1)
+-- the item is the tombstone of a live one with its identifier that is there: the same sets and prefixes, no fields, and
+-- its own datestamp. There is no such item if the policy is to keep no deleted records (section 2.5.1)
 pub record IsLeftOver (config : Config) (state : RepoState) (item : ItemState) : Type 0 where
   pub policy : config.deleted ≢ No
   pub before : ItemState
@@ -58,8 +58,9 @@ pub record IsLeftOver (config : Config) (state : RepoState) (item : ItemState) :
   pub lived : before.live ≡ true
   pub left : item ≡ tombstone_of item.stamp before
 
--- an item is put: it has the datestamp of the clock and is as the repository keeps its items; it has a record in each format in which
--- the one that it replaces has one; where it replaces none there is room for it; and a deleted one is what is left of a live one
+-- an item is put: it has the datestamp of the clock and satisfies the repository's invariants; it has a record in each
+-- format in which the replaced item has one; if it replaces none there is room for it; and a deleted one is the
+-- tombstone of a live one
 pub record IsPut (config : Config) (state : RepoState) (item : ItemState) : Type 0 where
   pub dated : item.stamp ≡ stamp_at config state.clock
   pub well : is_well_kept config state.holdings.sets item ≡ true
@@ -71,7 +72,7 @@ pub record IsPut (config : Config) (state : RepoState) (item : ItemState) : Type
 abbrev pub has_known_records : Config → ItemState → Bool
 has_known_records config item = list_all (has_format config.formats) item.formats && list_all (has_known_fields config.formats) item.formats
 
--- each item of the list, as it was, has only records that the repository can show
+-- each item of the list's snapshot has only records that the repository can show
 abbrev pub is_formed : Config → FrozenList → Bool
 is_formed config list = list_all (has_known_records config) list.items
 
@@ -79,7 +80,8 @@ is_formed config list = list_all (has_known_records config) list.items
 abbrev pub is_of_format : Config → FrozenList → Bool
 is_of_format config list = is_some (format_named list.prefix config.formats)
 
--- a list is opened: nothing keeps it waiting, it gets the next number, it is open for its lifetime, and it is such a list
+-- a list is opened: nothing keeps it waiting, it gets the next number, it is open for its lifetime, and it satisfies
+-- the above
 pub record IsOpened (config : Config) (state : RepoState) (list : FrozenList) : Type 0 where
   pub admitted : wait_at config state.clock state.open_lists ≡ None
   pub number : list.number ≡ state.open_lists.next
@@ -87,7 +89,8 @@ pub record IsOpened (config : Config) (state : RepoState) (list : FrozenList) : 
   pub formed : is_formed config list ≡ true
   pub known : is_of_format config list ≡ true
 
--- it can be done. Nothing of an item is forgotten but where the repository keeps nothing of deleted records (section 2.5.1)
+-- it can be done. An item is removed without a tombstone only if the policy is to keep no deleted records (section
+-- 2.5.1)
 abbrev pub IsPossible : Config → RepoState → Effect → Type 0
 IsPossible config state unchanged = Unit {0}
 IsPossible config state (item_put item) = IsPut config state item
@@ -111,7 +114,7 @@ is_of_no_list (asks (ask.List verb prefix from until set)) = false
 is_of_no_list (asks (ask.Resume verb token)) = false
 is_of_no_list request = true
 
--- ---- what is true of every state
+-- ---- what holds of every state
 
 -- the number of the list has been given: it is below that of the next
 abbrev pub is_given : ℕ → FrozenList → Bool
@@ -121,9 +124,9 @@ is_given next list = nat_lt list.number next
 abbrev pub is_live : ItemState → Bool
 is_live item = item.live
 
--- what is held is as a repository keeps it, and where nothing is kept of deleted records no item is a deleted one (section 2.5.1); each open
--- list has a number that was given, items that the repository can show, and a format of the repository; and the last number of 64 bits was not
--- given
+-- what is held satisfies a repository's invariants, without deleted items if the policy is to keep no deleted records
+-- (section 2.5.1); each open list has a number that was given, items that the repository can show, and a format of the
+-- repository; and the last number of 64 bits was not given
 pub record IsSound (config : Config) (state : RepoState) : Type 0 where
   pub kept : AreKept config state.holdings
   pub live : config.deleted ≡ No → list_all is_live state.holdings.items ≡ true

@@ -1,5 +1,5 @@
--- A repository whose open lists are all ended now and then, as a checkpoint ends them. OAI-PMH 2.0, sections 2.7.1 and 3.5; that lists are ended
--- before they expire is this repository's own.
+-- A repository all of whose open lists are ended from time to time, as a checkpoint ends them. OAI-PMH 2.0, sections
+-- 2.7.1 and 3.5; that lists are ended before they expire is this repository's own.
 use Rattle.std.specs.Prelude.{◌≡◌, ◌⊎◌, ◌≤◌, ℕ, List, [], ◌∷◌, ◌++◌, map, Option, None, Some}
 use Rattle.std.specs.List.{AllByRecursion}
 use Rattle.oai_names.specs.declared.list_verbs.ListVerb.{ListVerb}
@@ -15,9 +15,10 @@ use Rattle.oai_laws.specs.Following.{IsChain, IsFollowedThrough, ListRequest, Wa
 use Rattle.oai_laws.specs.Harvests.{Harvest, IsHarvest, IsWholeCopy, datestamp_of, harvested, last_harvest, records_since}
 use Rattle.oai_laws.specs.Runs.{Exchange, IsPart, Throughout, Timed, performed, run}
 
--- ---- eras
+-- ---- eras: an era is what happens between two such ends
 
--- an era begins as all open lists end, and the number of the next one is raised by so many; what is asked in it
+-- an era begins when all open lists end, and the number of the next one is raised by that much; then its commands
+-- follow
 pub record Era : Type 0 where
   pub raise : ℕ
   pub commands : List Timed
@@ -27,7 +28,7 @@ abbrev pub left_behind : Config → RepoState → List Timed → RepoState
 left_behind config state [] = state
 left_behind config state (timed ∷ commands) = left_behind config (performed config state timed).left commands
 
--- the state that an era leaves
+-- the state after an era
 abbrev pub left_by_era : Config → RepoState → Era → RepoState
 left_by_era config state era = left_behind config (ended era.raise state) era.commands
 
@@ -36,7 +37,7 @@ abbrev pub runs : Config → RepoState → List Era → List (List Exchange)
 runs config state [] = []
 runs config state (era ∷ eras) = run config (ended era.raise state) era.commands ∷ runs config (left_by_era config state era) eras
 
--- of all of them, one era after the other
+-- those of all eras, one era after the other
 abbrev pub all_exchanges : List (List Exchange) → List Exchange
 all_exchanges [] = []
 all_exchanges (exchanges ∷ eras) = exchanges ++ all_exchanges eras
@@ -75,21 +76,22 @@ IsHarvestWithin config [] list_request harvest = ⊥
 IsHarvestWithin config (exchanges ∷ eras) list_request harvest =
     (IsPart (harvest.first ∷ []) exchanges × IsHarvest config exchanges list_request harvest) ⊎ IsHarvestWithin config eras list_request harvest
 
--- the first of the harvests begins with the records of `from`, and each other one with those of the datestamp of the one before it
+-- the first of the harvests begins with the records of `from`, and each other one with those of the datestamp of the
+-- one before it
 abbrev pub AreHarvestsWithin : Config → List (List Exchange) → List ℕ → Option (List ℕ) → List Harvest → Type 0
 AreHarvestsWithin config eras prefix from [] = Unit {0}
 AreHarvestsWithin config eras prefix from (harvest ∷ harvests) =
     IsHarvestWithin config eras (records_since prefix from) harvest
     × AreHarvestsWithin config eras prefix (Some (datestamp_of config harvest)) harvests
 
--- a harvest of all records in the metadataPrefix, and others after it, each in one of the eras: each begins later than the one before it and harvests
--- from the datestamp at which that one began
+-- a harvest of all records in the metadataPrefix, and others after it, each in one of the eras: each begins later than
+-- the one before it and harvests from the datestamp at which that one began
 pub record AreSuccessiveWithin (config : Config) (eras : List (List Exchange)) (prefix : List ℕ) (first : Harvest) (others : List Harvest) : Type 0 where
   pub begun : IsPart (map (λ (harvest : Harvest). harvest.first) (first ∷ others)) (all_exchanges eras)
   pub harvests : AreHarvestsWithin config eras prefix None (first ∷ others)
 
--- such harvests miss nothing, where deleted records are kept: a new copy that caught up with them holds just the items that had a record in that
--- metadataPrefix when the last one began
+-- such harvests miss nothing, if deleted records are kept: a new copy, updated with them, holds exactly the items that
+-- had a record in that metadataPrefix when the last one began
 abbrev pub MissNothingWithin : Config → List (List Exchange) → Type 0
 MissNothingWithin config eras =
     (prefix : List ℕ) (first : Harvest) (others : List Harvest)

@@ -62,7 +62,7 @@ offer_in (remains expires extent token) = Some (record { token = token; expires 
 offer_in (completes extent) = None
 offer_in whole = None
 
--- how many records the list has (completeListSize), and how many of them stand before the part (cursor), where the part says so
+-- how many records the list has (completeListSize), and how many of them precede the part (cursor), if the part says so
 abbrev pub extent_in : Continuation → Option Extent
 extent_in (remains expires extent token) = Some extent
 extent_in (completes extent) = Some extent
@@ -104,8 +104,8 @@ abbrev pub AreNext : ListVerb → Exchange → List Exchange → Type 0
 AreNext verb before [] = Unit {0}
 AreNext verb before (next ∷ exchanges) = IsNextRequest verb before next × AreNext verb next exchanges
 
--- a chain among the exchanges of a repository: one that asks for a list which is too long for one page, and which need not wait;
--- and then, whatever else is asked and deposited between, those that follow it by its tokens
+-- a chain among the exchanges of a repository: a request for a list that is too long for one page, and that need not
+-- wait; and then, whatever else is asked and deposited between, those that follow it by its tokens
 pub record IsChain (config : Config) (exchanges : List Exchange) (list_request : ListRequest) (first : Exchange) (others : List Exchange) : Type 0 where
   pub among : IsPart (first ∷ others) exchanges
   pub verb : is_of_records list_request.verb ≡ true
@@ -120,41 +120,41 @@ pub record IsChain (config : Config) (exchanges : List Exchange) (list_request :
 abbrev pub joined : List Page → List ItemState
 joined pages = flat_map (λ (page : Page). page.items) pages
 
--- a page of a list with so many records, and so many before it: it says so; it has some records, and `chunk` of them where it offers a token;
--- and its datestamps are of the repository's granularity
+-- a page of a list with that many records, and that many before it: it says so; it has at least one record, and `chunk`
+-- of them if it offers a token; and its datestamps have the repository's granularity
 pub record IsPageAt (config : Config) (size before : ℕ) (page : Page) : Type 0 where
   pub extent : extent_in page.continuation ≡ Some (record { size = size; cursor = before })
   pub some : page.items ≢ []
   pub full : is_none (offer_in page.continuation) ≡ false → length page.items ≡ config.chunk
   pub dated : page.granularity ≡ config.granularity
 
--- each page stands behind those before it
+-- each page follows those before it
 abbrev pub ArePagesAt : Config → ℕ → ℕ → List Page → Type 0
 ArePagesAt config size before [] = Unit {0}
 ArePagesAt config size before (page ∷ pages) = IsPageAt config size before page × ArePagesAt config size (before + length page.items) pages
 
--- a token expires when the list that it continues ends: its lifetime after the clock at which the page was asked for
+-- a token expires when the list that it continues ends: its lifetime after the clock at which the page was requested
 abbrev pub IsLasting : Config → Exchange → Page → Type 0
 IsLasting config exchange page =
     (offer : TokenOffer) → offer_in page.continuation ≡ Some offer → offer.expires ≡ exchange.found.clock +ℤ pos config.lifetime
 
--- each page is lasting, as the answer to the exchange at its place
+-- each page is lasting, as the answer to the exchange at its position
 abbrev pub AreLasting : Config → List Exchange → List Page → Type 0
 AreLasting config [] [] = Unit {0}
 AreLasting config (exchange ∷ exchanges) (page ∷ pages) = IsLasting config exchange page × AreLasting config exchanges pages
 AreLasting config exchanges pages = ⊥
 
--- one of the pages has the empty token: nothing remains
+-- one of the pages has the empty token: no record remains
 abbrev pub are_complete : List Page → Bool
 are_complete pages = list_any (λ (page : Page). is_none (offer_in page.continuation)) pages
 
--- the first list begins the second
+-- the first list is a prefix of the second
 abbrev pub BeginsList : List ItemState → List ItemState → Type 0
 BeginsList front all = (others : List ItemState) × (front ++ others ≡ all)
 
--- the exchanges are answered with these pages of the selection: each by the verb, and in the format, that was asked for; each page says
--- where it stands, and its token lasts for the lifetime of a list; their records, joined, begin the selection, and are all of it once a
--- page has the empty token; each record once, in order
+-- the exchanges are answered with these pages of the selection: each by the verb, and in the format, of the request;
+-- each page says its position, and its token lasts for the lifetime of a list; their records, joined, are a prefix of
+-- the selection, and all of it once a page has the empty token; each record once, in order
 pub record IsFollowedThrough (config : Config) (list_request : ListRequest) (selection : List ItemState) (exchanges : List Exchange) (pages : List Page) : Type 0 where
   pub format : Format
   pub known : format_named list_request.prefix config.formats ≡ Some format
@@ -166,13 +166,13 @@ pub record IsFollowedThrough (config : Config) (list_request : ListRequest) (sel
   pub ordered : are_in_order (joined pages) ≡ true
   pub apart : are_apart (joined pages) ≡ true
 
--- what a request with a token is answered: a page; or that no list is open which the token continues by the verb
+-- the answer to a request with a token: a page; or that no list is open which the token continues by the verb
 abbrev pub IsContinued : Outcome → Type 0
 IsContinued outcome = (answer_in outcome ≡ Some (fails BadResumptionToken)) ⊎ ((page : Page) × (page_shown outcome ≡ Some page))
 
 -- ---- which tokens were handed out
 
--- what was answered is a page that offers the token
+-- the answer is a page that offers the token
 pub record IsOffered (token : List ℕ) (outcome : Outcome) : Type 0 where
   pub page : Page
   pub offer : TokenOffer
@@ -187,8 +187,8 @@ WasOffered token (exchange ∷ exchanges) = IsOffered token exchange.outcome ⊎
 
 -- ---- a list that is no longer than a page
 
--- a list request is answered with its whole selection: by the verb and in the format that was asked for, in one page without a token, and the
--- state is left as it was
+-- a list request is answered with its whole selection: by its verb and in its format, in one page without a token, and
+-- the state is unchanged
 pub record IsAnsweredWhole (config : Config) (state : RepoState) (list_request : ListRequest) : Type 0 where
   pub format : Format
   pub known : format_named list_request.prefix config.formats ≡ Some format
@@ -199,7 +199,7 @@ pub record IsAnsweredWhole (config : Config) (state : RepoState) (list_request :
   pub told : answer_in (act config state (first_request list_request)).0 ≡ Some (answer_by_verb list_request.verb format page)
   pub left : (act config state (first_request list_request)).1 ≡ state
 
--- it is answered with an error, and the state is left as it was
+-- it is answered with an error, and the state is unchanged
 pub record IsAnsweredNone (config : Config) (state : RepoState) (list_request : ListRequest) : Type 0 where
   pub code : ErrorCode
   pub told : answer_in (act config state (first_request list_request)).0 ≡ Some (fails code)

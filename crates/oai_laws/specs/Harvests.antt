@@ -1,4 +1,4 @@
--- Harvests of a repository, one after the other, by which a harvester keeps a copy. OAI-PMH 2.0, sections 2.7.1 and 3.5.
+-- Successive harvests of a repository, by which a harvester updates a copy. OAI-PMH 2.0, sections 2.7.1 and 3.5.
 use Rattle.std.specs.Prelude.{◌≡◌, ◌⊎◌, ◌↔◌, ℕ, true, List, [], ◌∷◌, map, Option, None, Some}
 use Rattle.std.specs.List.{Contains, flat_map}
 use Rattle.oai_names.specs.declared.list_verbs.ListVerb.TheVariants as list
@@ -16,7 +16,7 @@ use Rattle.oai_copy.specs.Copies.{are_listed}
 
 -- ---- a harvest
 
--- all records in the metadataPrefix, of any set, whose datestamp is not before `from`, where this is given
+-- all records in the metadataPrefix, of any set, whose datestamp is not before `from`, if this is given
 abbrev pub records_since : List ℕ → Option (List ℕ) → ListRequest
 records_since prefix from = record { verb = list.Records; prefix = prefix; from = from; until = None; set = None }
 
@@ -59,21 +59,24 @@ pub record IsHarvest (config : Config) (exchanges : List Exchange) (list_request
   pub asked : harvest.first.command ≡ first_request list_request
   pub answered : IsEmptyHarvest harvest ⊎ (IsWholeHarvest harvest ⊎ IsFollowedHarvest config exchanges list_request harvest)
 
--- ---- harvests, one after the other
+-- ---- successive harvests
 
--- the datestamp of the repository at which the first request of the harvest came, as the repository writes it (section 2.7.1)
+-- the datestamp of the repository at which the first request of the harvest came, as the repository writes it (section
+-- 2.7.1)
 abbrev pub datestamp_of : Config → Harvest → List ℕ
 datestamp_of config harvest = datestamp_text config.granularity (stamp_at config harvest.first.found.clock)
 
--- the first of the harvests begins with the records of `from`, and each other one with those of the datestamp of the one before it
+-- the first of the harvests begins with the records of `from`, and each other one with those of the datestamp of the
+-- one before it
 abbrev pub AreHarvests : Config → List Exchange → List ℕ → Option (List ℕ) → List Harvest → Type 0
 AreHarvests config exchanges prefix from [] = Unit {0}
 AreHarvests config exchanges prefix from (harvest ∷ harvests) =
     IsHarvest config exchanges (records_since prefix from) harvest
     × AreHarvests config exchanges prefix (Some (datestamp_of config harvest)) harvests
 
--- a harvest of all records in the metadataPrefix, and others after it, each of which begins later than the one before it and harvests from the
--- datestamp at which that one began. Whatever else is asked and deposited comes between, and amid them
+-- a harvest of all records in the metadataPrefix, and others after it, each of which begins later than the one before
+-- it and harvests from the datestamp at which that one began. Anything else may be asked and deposited between them,
+-- and during them
 pub record AreSuccessive (config : Config) (exchanges : List Exchange) (prefix : List ℕ) (first : Harvest) (others : List Harvest) : Type 0 where
   pub begun : IsPart (map (λ (harvest : Harvest). harvest.first) (first ∷ others)) exchanges
   pub harvests : AreHarvests config exchanges prefix None (first ∷ others)
@@ -85,7 +88,8 @@ last_harvest harvest (next ∷ harvests) = last_harvest next harvests
 
 -- ---- a copy
 
--- the copy holds just the items, live and deleted, that have a record in the metadataPrefix, as they are in that state
+-- the copy holds exactly the items, live and deleted, that have a record in the metadataPrefix, as they are in that
+-- state
 pub record IsWholeCopy (prefix : List ℕ) (state : RepoState) (copy : List ItemState) : Type 0 where
   pub members : (item : ItemState) → Contains copy item ↔ (Contains state.holdings.items item × (has_record prefix item.formats ≡ true))
   pub listed : are_listed copy ≡ true

@@ -6,31 +6,32 @@ use Rattle.oai_settings.specs.Config.{Config}
 use Rattle.oai_repo.specs.Machine.{Command, Outcome, act_at}
 use Rattle.oai_repo.specs.State.{FrozenList, OpenLists, RepoState, moved}
 
--- a command and the moment at which it comes, in seconds from 1970 on: any moment, also one before those of earlier commands
+-- a command and the moment at which it comes, in seconds from 1970 on: any moment, also one before those of earlier
+-- commands
 pub record Timed : Type 0 where
   pub moment : ℤ
   pub command : Command
 
--- a command that was performed: the state that it found, the clock moved; what it was answered; and the state that it left
+-- a command that was performed: the state that it found, the clock moved; its answer; and the state that it left
 pub record Exchange : Type 0 where
   pub found : RepoState
   pub command : Command
   pub outcome : Outcome
   pub left : RepoState
 
--- a command that is performed in that state
+-- a command, performed in that state
 abbrev pub performed : Config → RepoState → Timed → Exchange
 performed config state timed =
     let done = act_at config state timed.moment timed.command in
     record { found = moved timed.moment state; command = timed.command; outcome = done.0; left = done.1 }
 
--- commands that are performed one after the other, the first in that state
+-- commands, performed one after the other, the first in that state
 abbrev pub run : Config → RepoState → List Timed → List Exchange
 run config state [] = []
 run config state (timed ∷ commands) =
     let exchange = performed config state timed in exchange ∷ run config exchange.left commands
 
--- the first list is the second, or what is left of it without some of its members
+-- the first list is the second, or the second without some of its members
 abbrev pub IsPart : {A : Type 0} → List A → List A → Type 0
 IsPart some [] = some ≡ []
 IsPart some (x ∷ whole) = IsPart some whole ⊎ ((others : List _) × (some ≡ x ∷ others) × IsPart others whole)

@@ -11,7 +11,7 @@ use Rattle.oai_item.specs.Order.{are_in_order}
 use Rattle.oai_settings.specs.Config.{Config}
 use Rattle.oai_laws.specs.Following.{ListRequest}
 
--- ---- what is asked for
+-- ---- what the request asks for
 
 -- the datestamp is not before the day or the second that the text of `from` stands for (section 2.7.1)
 abbrev pub IsFrom : List ℕ → ℤ → Type 0
@@ -25,22 +25,24 @@ IsUntil text stamp = (bound : Bound) → IsBound text bound → stamp ≤ℤ upp
 abbrev pub IsInSet : List ℕ → List (List ℕ) → Type 0
 IsInSet set specs = (spec : List ℕ) × Contains specs spec × Covers set spec
 
--- the item, live or deleted, is asked for: it has a record in the metadataPrefix; and where `from`, `until` or `set` is given, its
--- datestamp is not before the one, not after the other, and it is in the set
+-- the request asks for the item, live or deleted: it has a record in the metadataPrefix; and if `from`, `until` or
+-- `set` is given, its datestamp is not before the one, not after the other, and it is in the set
 pub record IsAskedFor (list_request : ListRequest) (item : ItemState) : Type 0 where
   pub prefix : has_record list_request.prefix item.formats ≡ true
   pub from : IfSome list_request.from (λ text. IsFrom text item.stamp)
   pub until : IfSome list_request.until (λ text. IsUntil text item.stamp)
   pub set : IfSome list_request.set (λ spec. IsInSet spec item.sets)
 
--- the selection has of the items just those that are asked for, each once, in the order of their datestamps and identifiers
+-- the selection has exactly those of the items that are asked for, each once, in the order of their datestamps and
+-- identifiers
 pub record IsSelection (list_request : ListRequest) (items selection : List ItemState) : Type 0 where
   pub members : (item : ItemState) → Contains selection item ↔ (Contains items item × IsAskedFor list_request item)
   pub ordered : are_in_order selection ≡ true
 
 -- ---- datestamps
 
--- the item's datestamp is not before earliestDatestamp (section 4.2), not after the clock, and one of the repository's granularity
+-- the item's datestamp is not before earliestDatestamp (section 4.2), not after the clock, and has the repository's
+-- granularity
 abbrev pub has_granular_stamp : Config → ℤ → ItemState → Bool
 has_granular_stamp config clock item =
     int_le config.earliest item.stamp && int_le item.stamp clock && int_eq (stamp_of config.granularity item.stamp) item.stamp

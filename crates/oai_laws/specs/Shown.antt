@@ -15,7 +15,7 @@ use Rattle.oai_repo.specs.Machine.{Outcome, Output, accepted, documented, later,
 use Rattle.oai_laws.specs.Runs.{Exchange, IsPart, Timed, run}
 use Rattle.oai_repo.specs.State.{empty_state}
 
--- a document of which the bytes show what it answers
+-- a document whose bytes show what it answers
 abbrev pub IsRegularOutcome : Outcome → Type 0
 IsRegularOutcome (documented document) = IsRegular document.answer
 IsRegularOutcome (later seconds) = Unit {0}
@@ -49,7 +49,7 @@ is_followed_to_its_end exchanges = list_any (λ (exchange : Exchange). is_last_p
 abbrev pub bytes_written : Config → List Exchange → List Output
 bytes_written config exchanges = map (λ (exchange : Exchange). outcome_output config.granularity exchange.outcome) exchanges
 
--- what is seen of an item in an answer by the verb: its header, and by ListRecords its record in the format
+-- what an answer by the verb shows of an item: its header, and by ListRecords its record in the format
 abbrev pub seen_by : ListVerb → Granularity → Option Format → ItemState → SeenRecord
 seen_by list.Records granularity (Some format) item = record_seen granularity format item
 seen_by list.Records granularity None item = record { header = header_seen granularity item; metadata = None }

@@ -1,4 +1,5 @@
--- A worked run of one repository, in which a list is followed over three pages. It shows that what the law of following asks for can be met.
+-- A worked run of one repository, in which a list is followed over three pages. It shows that the premises of the law
+-- of following can be met.
 use Rattle.std.specs.Prelude.{◌≡◌, ◌+◌, ℕ, pos, List, [], ◌∷◌, length, codes, map, None, Some}
 use Rattle.oai_names.specs.declared.list_verbs.ListVerb.TheVariants as list
 use Rattle.oai_time.specs.declared.granularity.Granularity.TheVariants.{Second}
@@ -29,7 +30,7 @@ worked_config = record {
   formats = dublin_core ∷ [];
 }
 
--- so many seconds after 2024-01-01T00:00:00Z
+-- that many seconds after 2024-01-01T00:00:00Z
 abbrev pub after : ℕ → Command → Timed
 after seconds command = record { moment = pos (1_704_067_200 + seconds); command = command }
 
@@ -48,10 +49,11 @@ all_records = record { verb = list.Records; prefix = codes "oai_dc"; from = None
 abbrev pub all_headers : ListRequest
 all_headers = record all_records { verb = list.Identifiers }
 
--- Five items are deposited. A list of headers is opened at the first second and never followed; it ends a minute later. At that
--- very second the list of records is opened that is followed; and the token of the other list, which has expired, is asked for. Then an item
--- is deposited and one is deleted; a list is asked for at an earlier moment, while the table is full; the token is asked for by the wrong
--- verb, and then by the right one; an item is deposited anew; and the last page comes at the last second of the second token
+-- Five items are deposited. A list of headers is opened at the first second and never followed; it ends a minute later.
+-- At that very second the list of records is opened that is followed; and a request comes with the token of the other
+-- list, which has expired. Then an item is deposited and one is deleted; a list is requested at an earlier moment,
+-- while the table is full; the token comes with the wrong verb, and then with the right one; an item is deposited anew;
+-- and the last page is requested at the last second of the second token
 abbrev pub worked_commands : List Timed
 worked_commands =
     after 0 (deposit (codes "oai:a:1"))
@@ -79,7 +81,8 @@ worked_run = run worked_config (empty_state worked_config) worked_commands
 abbrev pub identifiers : List ItemState → List (List ℕ)
 identifiers items = map (λ (item : ItemState). item.identifier) items
 
--- these exchanges are a chain of the run, and their three pages give the five records that there were at its first request, in order
+-- these exchanges are a chain of the run, and their three pages give the five records that there were at its first
+-- request, in order
 pub record IsWorked (first : Exchange) (others : List Exchange) : Type 0 where
   pub chain : IsChain worked_config worked_run all_records first others
   pub pages : List Page

@@ -1,4 +1,4 @@
--- A worked run of one repository with three harvests. It shows that what the law of harvests asks for can be met.
+-- A worked run of one repository with three harvests. It shows that the premises of the law of harvests can be met.
 use Rattle.std.specs.Prelude.{◌≡◌, ℕ, pos, ◌+◌, Bool, true, false, List, [], ◌∷◌, codes, map, None, Some}
 use Rattle.oai_names.specs.declared.list_verbs.ListVerb.TheVariants as list
 use Rattle.oai_time.specs.TimeTexts.{datestamp_text}
@@ -19,13 +19,13 @@ archive_b = record worked_config { base = codes "http://host.example/oai/b"; rep
 abbrev pub prefix : List ℕ
 prefix = codes "oai_dc"
 
--- the datestamp that lies so many seconds after 2024-01-01T00:00:00Z
+-- the datestamp that many seconds after 2024-01-01T00:00:00Z
 abbrev pub datestamp : ℕ → List ℕ
 datestamp seconds = datestamp_text Second (pos (1_704_067_200 + seconds))
 
--- Three items are deposited. A harvest of all records begins after five seconds, and gets two of them. Then one of these is deleted, the
--- harvest gets the third, and a fourth is deposited. A second harvest gets what has been deleted and deposited since the first began. A third
--- one finds nothing
+-- Three items are deposited. A harvest of all records begins after five seconds, and gets two of them. Then one of
+-- these is deleted, the harvest gets the third, and a fourth is deposited. A second harvest gets what has been deleted
+-- and deposited since the first began. A third one finds nothing
 abbrev pub harvest_commands : List Timed
 harvest_commands =
     after 0 (deposit (codes "oai:b:1"))
@@ -47,7 +47,7 @@ harvest_run = run archive_b (empty_state archive_b) harvest_commands
 abbrev pub told : List ItemState → List (List ℕ × Bool)
 told items = map (λ (item : ItemState). (item.identifier, item.live)) items
 
--- the three harvests of the run, the items that each got, and what a copy holds that caught up with them
+-- the three harvests of the run, the items that each got, and the copy that they update
 pub record AreWorkedHarvests (first second third : Harvest) : Type 0 where
   pub successive : AreSuccessive archive_b harvest_run prefix first (second ∷ third ∷ [])
   pub by_pages : told (harvested first) ≡ (codes "oai:b:1", true) ∷ (codes "oai:b:2", true) ∷ (codes "oai:b:3", true) ∷ []

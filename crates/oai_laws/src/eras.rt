@@ -1,4 +1,4 @@
-//! What is true of a repository whose open lists are all ended now and then.
+//! What holds of a repository all of whose open lists are ended from time to time.
 
 ghost use Rattle.std.specs.Prelude.{List};
 ghost use Rattle.std.specs.List.{AllByRecursion};
@@ -6,12 +6,13 @@ ghost use Rattle.oai_settings.specs.Config.{Config, IsConfig};
 ghost use Rattle.oai_repo.specs.State.{empty_state};
 ghost use Rattle.oai_laws.specs.Eras.{AreEnded, AreFollowed, Era, HaveNumbers, MissNothingWithin, runs};
 
-/// Lists that end before they expire (OAI-PMH 2.0, sections 2.7.1 and 3.5). A repository may end all its open lists now
-/// and then, and raise the number of the next one, as a checkpoint does; what is asked of it between two such ends is
-/// an era. Whatever is asked and deposited in each, where no number is raised beyond the last one of 64 bits: a list
-/// that is followed within an era is what was selected at its first request; a token that was handed out in one era is
-/// answered with badResumptionToken in every later one; and harvests of which each is made within an era, in whichever
-/// eras, miss nothing, where deleted records are kept.
+/// A token of a list that a checkpoint ended is refused, and harvests still miss nothing (OAI-PMH 2.0, sections 2.7.1
+/// and 3.5). A repository may end all its open lists from time to time, and raise the number of the next one, as a
+/// checkpoint does; an era is what happens between two such ends. The law holds for any requests and deposits in each
+/// era, provided that no number is raised beyond the last one of 64 bits. A list that is followed within an era is what
+/// was selected at its first request. A token that was handed out in one era is answered with badResumptionToken in
+/// every later one. Where deleted records are kept, harvests miss nothing, if each is made within one era, whichever it
+/// is. A theorem, proved by an empty function.
 pub fn ended_lists_law()
     ensures followed { (config : Config) (eras : List Era) → IsConfig config
         → HaveNumbers config (empty_state config) eras

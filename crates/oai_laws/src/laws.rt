@@ -1,5 +1,5 @@
-//! What is true of a repository in the course of time, whatever is asked of it and deposited. These
-//! laws are of the machine by whose definitions the calls of [`Repo`](oai_repo::Repo) are specified.
+//! What holds of a repository in the course of time, whatever it is asked and whatever is deposited. These laws are
+//! about the machine by whose definitions the calls of [`Repo`](oai_repo::Repo) are specified.
 
 ghost use Rattle.std.specs.Prelude.{◌≡◌, ◌≢◌, ◌≤◌, ℕ, ℤ, List, [], ◌∷◌, ◌++◌, length, Some, true};
 ghost use Rattle.std.specs.List.{list_all};
@@ -24,16 +24,17 @@ ghost use Rattle.oai_repo.specs.State.{OpenLists, RepoState, empty_state, still_
 ghost use Rattle.oai_laws.specs.Waiting.{IsWait};
 ghost use Rattle.oai_laws.specs.Worked.{IsWorked, worked_config};
 
-/// What a command can do: in a sound state it leaves the state, puts an item, takes one out, lets the
-/// deleted ones below a limit go, adds a set, lets a list stay open or opens one, and each of these only
-/// where it may be done. A state is sound where what is held is as a repository keeps it, with no deleted
-/// item where nothing is kept of deleted records, and where each open list has a number that was given,
-/// which the last one of 64 bits never is. A repository begins so, and stays so. A request changes
-/// nothing that is held, and leaves the state where it neither begins a list nor continues one, or where
-/// its token is refused; a change leaves the open lists. A request with a token is answered with a page,
-/// or with badResumptionToken. And a command that is answered by a time to wait is a request for which no
-/// further list may begin, since as many are open as may be or no number is left. It leaves the state, and the
-/// time is a second or more; where the table was full, a list has ended by then, and none before.
+/// Each command has one of these effects on a sound state, and leaves it sound. It leaves the state, puts an item,
+/// removes one, removes the tombstones below a limit, adds a set, renews an open list or opens one, and each of these
+/// only under its condition. A state is sound if what is held satisfies a repository's invariants, with no deleted item
+/// if the policy is to keep none, and if each open list has a number that was given, which the last one of 64 bits
+/// never is. A repository begins in a sound state, and stays in one.
+///
+/// A request changes nothing that is held, and leaves the state if it neither begins a list nor continues one, or if
+/// its token is refused; a change leaves the open lists. A request with a token is answered with a page, or with
+/// badResumptionToken. A command that is answered by a time to wait is a request for which no further list may begin,
+/// since as many are open as may be or no number is left. It leaves the state, and the time is at least a second; if
+/// the table was full, a list has ended by then, and none before. A theorem, proved by an empty function.
 pub fn effect_law()
     ensures sound { (config : Config) → StaysSound config }
     ensures acts { (config : Config) (state : RepoState) → ActsOn config state }
@@ -42,12 +43,11 @@ pub fn effect_law()
         → IsWait config clock (still_open clock open_lists) seconds }
 {}
 
-/// What a change does (OAI-PMH 2.0, sections 2.3 to 2.6). One that is accepted is answered with the
-/// datestamp of the clock. With it a deposit puts a live item of what was given in place of the item of
-/// its identifier, if there is one; a deletion takes a live item out, or puts what is left of it in its
-/// place, as the policy on deleted records has it; a purge takes out the deleted items of earlier
-/// datestamps than its bound, all of them and no others; and a set is added. Nothing else is changed, and
-/// nothing at all where the line is refused.
+/// An accepted change does what it asks for, and nothing else (OAI-PMH 2.0, sections 2.3 to 2.6). It is answered with
+/// the datestamp of the clock. With that datestamp a deposit puts a live item with the given parts in place of the item
+/// with its identifier, if there is one; a deletion removes a live item, or puts its tombstone in its place, by the
+/// policy on deleted records; a purge removes exactly the deleted items with earlier datestamps than its bound; and a
+/// set is added. Nothing else is changed; a refused line changes nothing. A theorem, proved by an empty function.
 pub fn change_law()
     ensures accepted { (config : Config) (state : RepoState) (change : Change) (stamp : ℤ)
         → (let done = act config state (changing change) in
@@ -56,9 +56,9 @@ pub fn change_law()
         → (let done = act config state command in done.0 ≡ refused_with cause → done.1 ≡ state) }
 {}
 
-/// The numbers of lists. Whatever a repository is asked from its beginning on, and whenever: each
-/// command finds a sound state and leaves one; the numbers of the lists that are opened rise, so that
-/// none is given twice; and 18446744073709551615 is never given.
+/// No number of a list is given twice. For any commands at any moments from the beginning of a repository on: each
+/// command finds a sound state and leaves one; the numbers of the lists that are opened rise, so none is given twice;
+/// and 18446744073709551615 is never given. A theorem, proved by an empty function.
 pub fn number_law()
     ensures sound { (config : Config) (commands : List Timed)
         → Throughout (λ (exchange : Exchange). IsSound config exchange.found
@@ -69,13 +69,13 @@ pub fn number_law()
         → are_never_last (numbers_given (run config (empty_state config) commands)) ≡ true }
 {}
 
-/// Selective harvesting (OAI-PMH 2.0, sections 2.6, 2.7, 4.3 and 4.5). Whatever a repository is asked
-/// from its beginning on, and whenever, and whatever is deposited and deleted meanwhile: a list request
-/// selects, of the items that are held when it comes, just those that have a record in the metadataPrefix
-/// that it names, have a datestamp that is not before `from` and not after `until`, and are in the set or
-/// in one below it; of these three arguments, as far as they are given. Each stands in the selection
-/// once, in the order of datestamps and identifiers. And every datestamp is one of the repository's
-/// granularity, not before earliestDatestamp and not after the clock.
+/// A list request selects exactly the matching items (OAI-PMH 2.0, sections 2.6, 2.7, 4.3 and 4.5). For any requests at
+/// any moments from the beginning of a repository on, and any deposits and deletions meanwhile: a list request selects,
+/// of the items held when it comes, exactly those that have a record in its metadataPrefix, a datestamp not before
+/// `from` and not after `until`, and are in the set or a descendant of it; of these three arguments, those that are
+/// given. Each occurs in the selection once, in the order of datestamps and identifiers. Every datestamp has the
+/// repository's granularity, and is not before earliestDatestamp and not after the clock. A theorem, proved by an empty
+/// function.
 pub fn selected_law()
     ensures selected { (config : Config) (commands : List Timed) (list_request : ListRequest) → IsConfig config
         → Throughout (λ (exchange : Exchange). IsSelection list_request exchange.found.holdings.items
@@ -85,15 +85,15 @@ pub fn selected_law()
         exchange.left.holdings.items ≡ true) (run config (empty_state config) commands) }
 {}
 
-/// Following a list (OAI-PMH 2.0, section 3.5). Whatever a repository is asked from its beginning on,
-/// and whenever, and whatever is deposited and deleted meanwhile: a list request that selects more
-/// records than a page has and that need not wait, and the requests that follow it, each with the token of
-/// the page before and before this expires, are answered with pages. Each page has a record at least and says
-/// how many records were selected and how many stand before it, and its token expires a lifetime after the
-/// request. The records of the pages, joined, begin the selection at the first request, and are all of it
-/// once a page has the empty token; each record once, in order. A list request that selects some records, and
-/// no more than a page has, is answered with all of them, and opens no list; one that selects none, with an
-/// error.
+/// A list that is followed by its tokens is what was selected at its first request (OAI-PMH 2.0, section 3.5). For any
+/// requests at any moments from the beginning of a repository on, and any deposits and deletions meanwhile: a list
+/// request that selects more records than a page has and need not wait, and the requests that follow it, each with the
+/// token of the page before and before this expires, are answered with pages. Each page has at least one record, says
+/// how many records were selected and how many precede it, and its token expires a lifetime after the request. The
+/// records of the pages, joined, are a prefix of the selection at the first request, and all of it once a page has the
+/// empty token; each record once, in order. A list request that selects some records, at most as many as a page has, is
+/// answered with all of them, and opens no list; one that selects none, with an error. A theorem, proved by an empty
+/// function.
 pub fn following_law()
     ensures followed { (config : Config) (commands : List Timed) (list_request : ListRequest)
         (first : Exchange) (others : List Exchange) → IsConfig config
@@ -108,10 +108,10 @@ pub fn following_law()
         → selection_in state list_request ≡ [] → IsAnsweredNone config state list_request }
 {}
 
-/// Which tokens are answered (OAI-PMH 2.0, section 3.5). Whatever a repository is asked from its beginning
-/// on, and whenever: a token that is answered with a page was handed out before, in a page that this
-/// repository answered. It begins with the number of its list, which no other list has or had
-/// ([`number_law`]); so that page was one of the same list.
+/// Only tokens that were handed out are answered with a page (OAI-PMH 2.0, section 3.5). For any commands at any
+/// moments from the beginning of a repository on: a token that is answered with a page was handed out before, in a page
+/// that this repository answered. It begins with the number of its list, which no other list has or had
+/// ([`number_law`]); so that page was one of the same list. A theorem, proved by an empty function.
 pub fn token_law()
     ensures { (config : Config) (commands : List Timed) (before after : List Exchange)
         (exchange : Exchange) (verb : ListVerb) (token : List ℕ) (page : Page) → IsConfig config
@@ -120,19 +120,18 @@ pub fn token_law()
         → WasOffered token before }
 {}
 
-/// What the law of following asks for can be met: a run of fifteen commands, computed, in which a list
-/// is followed over three pages while items are deposited and deleted, a moment falls, the table is
-/// full, and tokens are refused, one by its verb and one at its end.
+/// The premises of the law of following can be met: a run of fifteen commands, computed, in which a list is followed
+/// over three pages while items are deposited and deleted, a moment falls, the table is full, and tokens are refused,
+/// one by its verb and one at its end.
 pub fn worked_law()
     ensures config { IsConfig worked_config }
     ensures chain { (first : Exchange) × (others : List Exchange) × IsWorked first others }
 {}
 
-/// What the bytes of the answers show (OAI-PMH 2.0, sections 2.5 and 3). Two documents that
-/// repositories answer some time show the same where they are equal byte for byte. And where two lists are
-/// followed, the bytes of their answers are equal, and one of the lists is followed to its end, then the
-/// selections at their first requests show equal headers and records: what a harvester reads determines what
-/// was selected.
+/// Equal bytes show equal records (OAI-PMH 2.0, sections 2.5 and 3). Two documents of repositories that are equal byte
+/// for byte show the same. If two lists are followed, the bytes of their answers are equal, and one of the lists is
+/// followed to its end, then the selections at their first requests show equal headers and records: what a harvester
+/// reads determines what was selected. A theorem, proved by an empty function.
 pub fn shown_law()
     ensures documents { (config other : Config) (a b : Document) → IsSomeAnswer config a
         → IsSomeAnswer other b → document a ≡ document b → document_seen a ≡ document_seen b }

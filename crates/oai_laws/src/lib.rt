@@ -1,5 +1,5 @@
-//! What is true of a repository in the course of time, whatever it is asked and whatever is deposited: lists,
-//! tokens, changes, and what a harvester that harvests it again and again has of it.
+//! What holds of a repository in the course of time, whatever it is asked and whatever is deposited: lists, tokens,
+//! changes, and the copy of a harvester that harvests it repeatedly.
 #![tactic(auto)]
 
 mod eras;

@@ -2,6 +2,6 @@
 use Rattle.oai_lists.specs.OpenLists.{Table}
 use Rattle.oai_lists.specs.declared.lists.Lists.TheInside.{Inside}
 
--- how many may be open, the number of the next, and those that are held
+-- how many may be open, the next number, and the lists that are held
 abbrev pub table_in : Inside → Table
 table_in lists = record { limit = lists.limit; next = lists.next; lists = lists.lists.items }

@@ -9,7 +9,7 @@ use Rattle.oai_lists.specs.declared.open_lists.OpenList.{OpenList}
 use Rattle.oai_lists.specs.declared.lists.OpenFault.{OpenFault}
 use Rattle.oai_lists.specs.declared.lists.OpenFault.TheVariants.{Full, NumbersSpent, NoMemory}
 
--- the lists that are held, in the order in which they were opened, how many may be open, and the number of the next
+-- the lists that are held, in the order in which they were opened, how many may be open, and the next number
 pub record Table : Type 0 where
   pub limit : ℕ
   pub next : ℕ
@@ -27,7 +27,7 @@ has_ended now list = int_le list.end now
 abbrev pub open_ones : ℤ → List OpenList → List OpenList
 open_ones now lists = filter (is_open now) lists
 
--- the lists but the first that has ended
+-- the lists without the first that has ended
 abbrev pub without_ended : ℤ → List OpenList → List OpenList
 without_ended now lists = before_first (has_ended now) lists ++ after_first (has_ended now) lists
 
@@ -35,17 +35,18 @@ without_ended now lists = before_first (has_ended now) lists ++ after_first (has
 abbrev pub has_list_number : ℕ → OpenList → Bool
 has_list_number number list = list.number == number
 
--- the list of that number
+-- the list with that number
 unfoldable pub list_numbered : ℕ → List OpenList → Option OpenList
 list_numbered number lists = find (has_list_number number) lists
 
--- the list of that number, where it is open
+-- the list with that number, if it is open
 unfoldable pub open_numbered : ℕ → ℤ → List OpenList → Option OpenList
 open_numbered number now lists = find (λ list. has_list_number number list && is_open now list) lists
 
 -- ---- opening
 
--- why no list may be opened at that moment: the first cause. The table is full, or no number is left (the last of 64 bits is given to none)
+-- why no list may be opened at that moment: the first cause. The table is full, or no number is left (the last one of
+-- 64 bits is never used)
 unfoldable pub open_fault : Table → ℤ → Option OpenFault
 open_fault table now =
     if nat_le table.limit (length (open_ones now table.lists)) then Some Full
@@ -61,7 +62,7 @@ number_or_fault (Some fault) next = Err fault
 abbrev pub with_opened : Table → OpenList → Table
 with_opened table list = record table { next = table.next + 1; lists = table.lists ++ list ∷ [] }
 
--- the list of these parts, with the next number; the first cursor was given, and nothing is marked
+-- the list with these parts and the next number; the first cursor was given, and there is no mark
 abbrev pub next_list : Table → ListVerb → Filter → ℕ → ℕ → ℤ → ℕ → OpenList
 next_list table verb filter version size end first = record {
   number = table.next;
@@ -74,8 +75,8 @@ next_list table verb filter version size end first = record {
   mark = None;
 }
 
--- what opening the list at that moment answers, and the table then: it is the last one, or the first cause that applies is returned and the table
--- is as it was. Memory may be refused where no cause applies
+-- the result of opening the list at that moment, and the table afterwards: it is the last one, or the first cause that
+-- applies is returned and the table is unchanged. Out of memory is possible if no cause applies
 abbrev pub IsListOpening : Table → ℤ → OpenList → Result ℕ OpenFault → Table → Type 0
 IsListOpening old now list (Ok number) new =
     (open_fault old now ≡ None) × (number ≡ old.next) × (new ≡ with_opened old list)
@@ -84,11 +85,11 @@ IsListOpening old now list (Err fault) new = (open_fault old now ≡ Some fault)
 
 -- ---- changing one list
 
--- the list after that change, where it has that number
+-- the list after that change, if it has that number
 abbrev pub changed_one : ℕ → (OpenList → OpenList) → OpenList → OpenList
 changed_one number change list = if has_list_number number list then change list else list
 
--- the lists, the one of that number after that change
+-- the lists with that change to the one with that number
 abbrev pub with_change : ℕ → (OpenList → OpenList) → List OpenList → List OpenList
 with_change number change lists = map (changed_one number change) lists
 
@@ -96,7 +97,7 @@ with_change number change lists = map (changed_one number change) lists
 abbrev pub open_until : ℤ → OpenList → OpenList
 open_until end list = record list { end = end }
 
--- the list of which that cursor was given too
+-- the list, with that cursor given too
 abbrev pub given_too : ℕ → OpenList → OpenList
 given_too cursor list = record list { given = max list.given cursor }
 
@@ -106,7 +107,7 @@ with_mark mark list = record list { mark = mark }
 
 -- ---- the earliest end
 
--- it is the end of one of the lists, and not above that of any; there is none where there is no list
+-- it is the end of one of the lists, and no list ends earlier; there is none if there is no list
 abbrev pub IsEarliest : List OpenList → Option ℤ → Type 0
 IsEarliest lists end = MatchOption end (lists ≡ [])
     (λ earliest. ((list : OpenList) × Contains lists list × (list.end ≡ earliest))
@@ -122,7 +123,7 @@ list_number list = list.number
 abbrev pub are_numbered_lists : List OpenList → Bool
 are_numbered_lists lists = numbers_rise list_number lists
 
--- no number stands twice, and none is given again: they rise strictly, and the next is above them
+-- numbers are distinct and never used again: they rise strictly, and the next is above them
 pub record IsListTable (table : Table) : Type 0 where
   pub numbered : are_numbered_lists table.lists ≡ true
   pub given : list_all (λ list. nat_lt list.number table.next) table.lists ≡ true

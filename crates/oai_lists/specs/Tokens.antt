@@ -5,11 +5,12 @@ use Rattle.std.specs.Str.{bytes_eq}
 use Rattle.std.specs.Str.Parse.{digits_value}
 use Rattle.oai_lists.specs.declared.tokens.Token.{Token}
 
--- the text of a token: the number of the list and the cursor, both decimal without leading zeros, and a full stop between them
+-- the text of a token: the number of the list and the cursor, both decimal without leading zeros, and a full stop
+-- between them
 unfoldable pub token_text : Token → List ℕ
 token_text token = decimal token.list ++ 46 ∷ decimal token.cursor
 
--- the text is that of the token, of numbers of 64 bits
+-- the text is the token's, whose numbers have 64 bits
 pub record IsToken (text : List ℕ) (token : Token) : Type 0 where
   pub list : token.list < 2 ^ 64
   pub cursor : token.cursor < 2 ^ 64
@@ -19,14 +20,14 @@ pub record IsToken (text : List ℕ) (token : Token) : Type 0 where
 abbrev pub is_full_stop : ℕ → Bool
 is_full_stop b = b == 46
 
--- the numbers that the digits before the first full stop and behind it write
+-- the numbers that the digits before and after the first full stop write
 abbrev pub token_numbers : List ℕ → Token
 token_numbers text = record {
   list = digits_value 10 (before_first is_full_stop text);
   cursor = digits_value 10 (after_first is_full_stop text);
 }
 
--- the token of a text, where the text is that of its numbers, and these have 64 bits
+-- the token of a text, if the text is that of its numbers, and these have 64 bits
 unfoldable pub token_of : List ℕ → Option Token
 token_of text =
     let token = token_numbers text in

@@ -1,5 +1,4 @@
-//! The lists that a repository has begun to answer, and the resumption tokens that continue them
-//! (OAI-PMH 2.0, section 3.5).
+//! The open lists of a repository, and the resumption tokens that continue them (OAI-PMH 2.0, section 3.5).
 #![tactic(auto)]
 
 mod lists;

@@ -15,22 +15,22 @@ use thiserror::Error;
 /// The number that no list gets.
 pub const LAST_NUMBER: u64 = 18_446_744_073_709_551_615;
 
-/// Why no list was opened, in the order in which the causes are looked for.
+/// Why no list was opened, in the order in which the causes are tested.
 #[derive(Clone, Copy, Debug, PartialEq, Eq, Error)]
 pub enum OpenFault {
-    /// As many lists are open as may be.
+    /// As many lists are open as the limit allows.
     #[error("too many lists are open")]
     Full,
     /// No number is left.
     #[error("no number is left for a list")]
     NumbersSpent,
-    /// The list could not be stored.
+    /// Out of memory.
     #[error("out of memory")]
     NoMemory,
 }
 
-/// The lists of a repository that are open, and some that have ended and are still to be dropped, in
-/// the order in which they were opened. Each has a number that no other has had.
+/// The open lists of a repository, and some that have ended and are not dropped yet, in the order in which they were
+/// opened. A number is never used again.
 #[derive(Debug, Drop)]
 pub struct Lists {
     limit: u64,
@@ -53,8 +53,7 @@ impl Model for Lists {
 }
 
 impl Lists {
-    /// No list. As many as `limit` may be open at once, and the first gets the number `next`. It takes
-    /// no memory.
+    /// An empty table. At most `limit` lists are open at once, and the first gets the number `next`. Allocates nothing.
     pub fn new(alloc: Global, limit: u64, next: u64) -> Lists
         ensures { result ≡ record { limit = limit; next = next; lists = [] } }
     {
@@ -66,9 +65,8 @@ impl Lists {
         }
     }
 
-    /// The number that `open` would give at `now`, in seconds from 1970 on, or its refusal, out of
-    /// memory apart. It takes no memory. It looks at the lists only where as many are held as may be
-    /// open, and one of them may have ended.
+    /// The number that `open` would return at `now`, in seconds from 1970 on, or its error, except `NoMemory`.
+    /// Allocates nothing. It scans the lists only if as many are held as may be open, and one of them may have ended.
     #[tactic(auto, unfolding(crate::specs::OpenLists::open_fault))]
     pub fn next(&self, now: i64) -> Result<u64, OpenFault>
         ensures { result ≡ number_or_fault (open_fault self.now now) self.now.next }
@@ -82,11 +80,10 @@ impl Lists {
         Ok(self.next)
     }
 
-    /// Opens a list at `now` and returns its number, which is the next one. The list has `size` records of
-    /// that version, ends at `end`, and has no mark; the highest cursor given in a token of it is `first`.
-    /// Both moments are in seconds from 1970 on. On an error the lists are as before; the errors are those of
-    /// `OpenFault`, the first that applies. It looks at the lists only where `next` does, and takes memory
-    /// for one more list.
+    /// Opens a list at `now` and returns its number, which is the next one. The list has `size` records of that
+    /// version, ends at `end`, and has no mark; `first` is the highest cursor given in a token of it. Both moments are
+    /// in seconds from 1970 on. The error is the first cause of `OpenFault` that applies, and the lists are unchanged.
+    /// It scans the lists only if `next` does, and allocates space for one more list.
     pub fn open(
         &mut self,
         now: i64,
@@ -124,8 +121,8 @@ impl Lists {
         Ok(number)
     }
 
-    /// The list of that number, where its end is above `now`, in seconds from 1970 on. It takes no
-    /// memory. Of n lists it looks at about log n.
+    /// The list with that number, if its end is above `now`, in seconds from 1970 on. Allocates nothing. Binary search,
+    /// O(log n).
     pub fn find(&self, number: u64, now: i64) -> Option<&OpenList>
         ensures found { option_copied result ≡ open_numbered number now self.now.lists }
         ensures held { OnSome result (IsSome (list_numbered number self.now.lists)) }
@@ -140,8 +137,7 @@ impl Lists {
         }
     }
 
-    /// Sets the end of the list of that number, in seconds from 1970 on. It takes no memory. Of n lists
-    /// it looks at about log n.
+    /// Sets the end of the list with that number, in seconds from 1970 on. Allocates nothing. O(log n).
     pub fn renew(&mut self, number: u64, end: i64)
         requires { IsSome (list_numbered number self.old.lists) }
         ensures { self.new
@@ -155,8 +151,8 @@ impl Lists {
         self.earliest = self.earliest.min(end);
     }
 
-    /// Takes note that a token with that cursor was given for the list of that number: where its highest
-    /// cursor given was lower, it is this one. It takes no memory. Of n lists it looks at about log n.
+    /// Notes that a token with that cursor was given for the list with that number: raises its highest cursor given to
+    /// this one. Allocates nothing. O(log n).
     pub fn give(&mut self, number: u64, cursor: u64)
         requires { IsSome (list_numbered number self.old.lists) }
         ensures { self.new
@@ -169,8 +165,7 @@ impl Lists {
         list.given = list.given.max(cursor);
     }
 
-    /// Sets the mark of the list of that number, or removes it, where `mark` is None. It takes no memory. Of
-    /// n lists it looks at about log n.
+    /// Sets the mark of the list with that number, or removes it if `mark` is None. Allocates nothing. O(log n).
     pub fn set_mark(&mut self, number: u64, mark: Option<Mark>)
         requires { IsSome (list_numbered number self.old.lists) }
         ensures { self.new
@@ -183,9 +178,9 @@ impl Lists {
         list.mark = mark;
     }
 
-    /// Drops the first list whose end is not above `now`, in seconds from 1970 on, and returns the number of
-    /// its version, which the caller then releases. None where no list has ended. It takes no memory. It looks
-    /// at the lists only where one of them may have ended.
+    /// Drops the first list whose end is at or below `now`, in seconds from 1970 on, and returns the number of its
+    /// version, which the caller then releases. None if no list has ended. Allocates nothing. It scans the lists only
+    /// if one of them may have ended.
     pub fn expire(&mut self, now: i64) -> Option<u64>
         ensures version { result
             ≡ option_map (λ list. list.version) (find (has_ended now) self.old.lists) }
@@ -203,22 +198,22 @@ impl Lists {
         }
     }
 
-    /// The end of the list that ends first of those that are open at `now`, or None where none is open. Both
-    /// moments are in seconds from 1970 on. It takes no memory. It looks at each list.
+    /// The earliest end among the lists that are open at `now`, or None if none is open. Both moments are in seconds
+    /// from 1970 on. Allocates nothing. O(n).
     pub fn earliest_end(&self, now: i64) -> Option<i64>
         ensures { IsEarliest (open_ones now self.now.lists) result }
     {
         earliest(self.lists.as_slice(), now)
     }
 
-    /// The number that the next list gets; the last of 64 bits is given to none.
+    /// The number that the next list gets; the last one of 64 bits is never used.
     pub fn next_number(&self) -> u64
         ensures { result ≡ self.now.next }
     {
         self.next
     }
 
-    /// How many lists are held. Lists that have ended and were not dropped yet are counted.
+    /// How many lists are held, including those that have ended and are not dropped yet.
     pub fn len(&self) -> usize
         ensures count { result ≡ length self.now.lists }
         ensures valid { IsListTable self.now }
@@ -226,7 +221,7 @@ impl Lists {
         self.lists.len()
     }
 
-    /// Whether as many lists are open at `now` as may be.
+    /// Whether as many lists are open at `now` as the limit allows.
     fn is_full(&self, now: i64) -> bool
         ensures { result ≡ nat_le self.now.limit (length (open_ones now self.now.lists)) }
     {
@@ -241,7 +236,7 @@ impl Lists {
     }
 }
 
-/// At which place the list of that number stands; None where no list has it. The numbers of the lists rise.
+/// The position of the list with that number, by binary search: the numbers rise. None if no list has it.
 fn place_of(lists: &[OpenList], number: u64) -> Option<usize>
     requires { are_numbered_lists lists.now ≡ true }
     ensures { IsListPlace number lists.now result }
@@ -252,14 +247,14 @@ fn place_of(lists: &[OpenList], number: u64) -> Option<usize>
     }
 }
 
-/// At which place the first list stands whose end is not above `now`; None where no list has ended.
+/// The position of the first list whose end is at or below `now`; None if no list has ended.
 fn ended_at(lists: &[OpenList], now: i64) -> Option<usize>
     ensures { result ≡ position (has_ended now) lists.now }
 {
     lists.iter().position(|list| list.end <= now)
 }
 
-/// Drops the list at that place, and returns the number of its version.
+/// Drops the list at that position, and returns the number of its version.
 fn drop_at(lists: &mut Vec<OpenList>, at: usize) -> u64
     requires { at < vec_len lists.old }
     ensures version { (list : Opened) → result ≡ (get_or lists.old.items at list).version }
@@ -268,7 +263,7 @@ fn drop_at(lists: &mut Vec<OpenList>, at: usize) -> u64
     lists.remove(at).version
 }
 
-/// The end of the list that ends first of those whose end is above `now`, or None where there is none.
+/// The earliest end among the lists whose end is above `now`, or None if there is none.
 fn earliest(lists: &[OpenList], now: i64) -> Option<i64>
     ensures { IsEarliest (open_ones now lists.now) result }
 {
@@ -281,7 +276,7 @@ fn earliest(lists: &[OpenList], now: i64) -> Option<i64>
     earliest
 }
 
-/// The lower of two moments, of which the first may be missing.
+/// The earlier of two moments, of which the first may be missing.
 fn earlier(first: Option<i64>, second: i64) -> i64
     ensures { result ≡ earlier first second }
 {

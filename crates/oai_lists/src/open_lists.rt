@@ -1,32 +1,31 @@
 use oai_catalogue::Filter;
 use oai_names::{Identifier, ListVerb};
 
-/// A list that was begun to be answered (OAI-PMH 2.0, section 3.5).
+/// A list whose first part was answered with a resumption token (OAI-PMH 2.0, section 3.5).
 #[derive(Debug, Drop)]
 pub struct OpenList {
-    /// Its number, which no other list of the repository has had.
+    /// Its number, which no other list of the repository has or had.
     pub number: u64,
-    /// The verb by which it was opened.
+    /// The verb that opened it.
     pub verb: ListVerb,
-    /// What was asked for.
+    /// What the request asked for.
     pub filter: Filter,
-    /// The number of the version that holds the items as they were.
+    /// The number of the version that is its snapshot of the items.
     pub version: u64,
-    /// How many records are selected.
+    /// How many records the filter selects.
     pub size: u64,
-    /// The moment from which on it is open no more, in seconds from 1970 on.
+    /// The moment from which on it is no longer open, in seconds from 1970 on.
     pub end: i64,
-    /// The highest cursor that was given in a token: how many records stand before the part that such a
-    /// token asks for.
+    /// The highest cursor given in a token: the number of records before the part that such a token requests.
     pub given: u64,
-    /// Where the part ended that was answered last, or None where this is not kept.
+    /// The position after the part that was answered last, or None if it is not known.
     pub mark: Option<Mark>,
 }
 
-/// A place in a list, behind one of its records.
+/// A position in a list, after one of its records.
 #[derive(Debug, Drop)]
 pub struct Mark {
-    /// How many records of the list stand before the place.
+    /// The number of records of the list before this position.
     pub cursor: u64,
     /// The datestamp of the last of them, in seconds from 1970 on.
     pub stamp: i64,

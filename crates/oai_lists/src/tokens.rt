@@ -9,18 +9,18 @@ use oai_names::Sequence;
 use std::alloc::{AllocError, Global};
 use std::fmt;
 
-/// What a resumption token says (OAI-PMH 2.0, section 3.5).
+/// The contents of a resumption token (OAI-PMH 2.0, section 3.5).
 #[derive(Clone, Copy, Debug, PartialEq, Eq)]
 pub struct Token {
     /// The number of the open list.
     pub list: u64,
-    /// How many of its records come before the page that is asked for.
+    /// The number of its records before the requested part.
     pub cursor: u64,
 }
 
 impl Token {
-    /// The token of that text, or None where there is none: a number, a full stop and a number, both
-    /// decimal without leading zeros and below 2^64. It takes no memory.
+    /// The token with that text, or None if there is none: a number, a full stop and a number, both decimal without
+    /// leading zeros and below 2^64. Allocates nothing.
     pub fn read(text: &str) -> Option<Token>
         ensures found { IfSome result (λ token. IsToken text.now token) }
         ensures only { (token : TokenData) → IsToken text.now token → result ≡ Some token }
@@ -32,7 +32,7 @@ impl Token {
         }
     }
 
-    /// The text of the token, the one that is read as it. The error is out of memory.
+    /// The text of the token, which `read` reads back. The error is out of memory.
     #[tactic(auto, unfolding(crate::specs::Tokens::token_text))]
     pub fn write(&self, alloc: Global) -> Result<Sequence<u8>, AllocError>
         ensures { IfOk result (λ text. IsToken text self.now) }
@@ -55,7 +55,7 @@ impl fmt::Display for Token {
     }
 }
 
-/// The token of the two numbers that are spelled so.
+/// The token of the two numbers that these texts spell.
 fn read_numbers(list: &str, cursor: &str) -> Option<Token>
     ensures found { IfSome result (λ token. AreNumbers list.now cursor.now token) }
     ensures only { (token : TokenData)
@@ -67,7 +67,7 @@ fn read_numbers(list: &str, cursor: &str) -> Option<Token>
     }
 }
 
-/// The number below 2^64 that is spelled so, decimal without leading zeros.
+/// The number below 2^64 that the text spells, decimal without leading zeros.
 fn read_number(text: &str) -> Option<u64>
     ensures found { IfSome result (λ n. text.now ≡ decimal n) }
     ensures only { (n : ℕ) → n < 2 ^ 64 → text.now ≡ decimal n → result ≡ Some n }

@@ -1,5 +1,5 @@
--- Words of the code's own: no public contract names them.
-use Rattle.std.specs.Prelude.{ℕ, Bool, true, ◌==◌, ◌&&◌, not, List, [], ◌∷◌}
+-- Definitions of the code's own: no public contract cites them.
+use Rattle.std.specs.Prelude.{ℕ, Bool, true, ◌==◌, ◌&&◌, ◌||◌, not, List, [], ◌∷◌}
 use Rattle.std.specs.Int.{is_in_range}
 use Rattle.oai_names.specs.Names.{is_colon}
 
@@ -8,10 +8,10 @@ abbrev pub ends_part : List ℕ → Bool
 ends_part [] = true
 ends_part (b ∷ bytes) = is_colon b
 
--- the byte is a character of ASCII from the space on, all of which documents may hold
+-- the byte is an ASCII character that documents may hold: one from the space on, tab, LF or CR
 abbrev pub is_plain_byte : ℕ → Bool
-is_plain_byte b = is_in_range 0x20 0x7F b
+is_plain_byte b = is_in_range 0x20 0x7F b || b == 0x9 || b == 0xA || b == 0xD
 
--- the byte stands for itself in an element: it is no markup, and no CR
+-- the byte stands for itself in an element: it is neither markup nor CR
 abbrev pub is_bare_byte : ℕ → Bool
 is_bare_byte b = not (b == 38) && not (b == 60) && not (b == 62) && not (b == 13)

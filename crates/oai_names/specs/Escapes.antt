@@ -1,10 +1,10 @@
--- How a text is spelled where it stands in a document. XML 1.0, sections 2.4, 2.11 and 3.3.3.
+-- How a text is escaped where it stands in a document. XML 1.0, sections 2.4, 2.11 and 3.3.3.
 use Rattle.std.specs.Prelude.{ℕ, ◌==◌, if◌then◌else◌, List, [], ◌∷◌, codes}
 use Rattle.std.specs.List.{flat_map}
 use Rattle.oai_names.specs.declared.escapes.Place.{Place}
 use Rattle.oai_names.specs.declared.escapes.Place.TheVariants.{Element, Attribute}
 
--- a byte in the text of an element: markup is escaped, and CR, which a reader would take for a line end
+-- a byte in the text of an element: markup is escaped, and so is CR, which a reader would take for a line end
 abbrev pub text_spelling : ℕ → List ℕ
 text_spelling b =
     if b == 38 then codes "&amp;"
@@ -13,7 +13,7 @@ text_spelling b =
     else (if b == 13 then codes "&#13;"
     else b ∷ [])))
 
--- a byte in the value of an attribute: also the quote, and the white space that a reader would make a space
+-- a byte in the value of an attribute: also the quote, and the white space that a reader would turn into a space
 abbrev pub attribute_spelling : ℕ → List ℕ
 attribute_spelling b =
     if b == 34 then codes "&quot;"

@@ -11,12 +11,12 @@ use Rattle.oai_names.specs.declared.readings.NameFault.TheVariants.{Syntax, TooL
 abbrev pub is_one_of : List ℕ → ℕ → Bool
 is_one_of numbers n = list_any (λ m. m == n) numbers
 
--- one or more bytes that pass
+-- one or more bytes that pass the test
 abbrev pub is_some_of : (ℕ → Bool) → List ℕ → Bool
 is_some_of passes bytes = not (length bytes == 0) && list_all passes bytes
 
--- a character of a metadataPrefix: [A-Za-z0-9\-_\.!~\*'\(\)] (OAI-PMH 2.0, section 3.4, and its schema: the unreserved characters of
--- RFC 2396, section 2.3)
+-- a character of a metadataPrefix: [A-Za-z0-9\-_\.!~\*'\(\)] (OAI-PMH 2.0, section 3.4, and its schema: the unreserved
+-- characters of RFC 2396, section 2.3)
 abbrev pub is_prefix_byte : ℕ → Bool
 is_prefix_byte b = is_ascii_alphanumeric b || is_one_of (codes "-_.!~*'()") b
 
@@ -46,9 +46,9 @@ unfoldable pub is_identifier : List ℕ → Bool
 is_identifier text =
     is_scheme (before_first is_colon text) && is_some_of is_uri_byte (after_first is_colon text)
 
--- ---- names that are kept: of a grammar, and not too long (the lengths are this repository's own)
+-- ---- names that are stored: of a grammar, and not too long (the lengths are this repository's own)
 
--- a text of the grammar, of at most so many bytes
+-- a text of the grammar, of at most that many bytes
 abbrev pub is_name_of : (List ℕ → Bool) → ℕ → List ℕ → Bool
 is_name_of grammar most text = grammar text && nat_le (length text) most
 
@@ -60,7 +60,7 @@ may_be_prefix text = is_name_of is_prefix MAX_PREFIX_BYTES text
 abbrev pub may_be_identifier : List ℕ → Bool
 may_be_identifier text = is_name_of is_identifier MAX_IDENTIFIER_BYTES text
 
--- what reading a name of the grammar, of at most so many bytes, answers: the first cause that applies
+-- the result of reading a name of the grammar, of at most that many bytes: the first cause that applies
 abbrev pub IsReading : (List ℕ → Bool) → ℕ → List ℕ → Result (List ℕ) NameFault → Type 0
 IsReading grammar most text (Ok name) = (name ≡ text) × (is_name_of grammar most text ≡ true)
 IsReading grammar most text (Err Syntax) = grammar text ≡ false

@@ -1,5 +1,5 @@
--- Things that have numbers, in the order of their numbers, as lists that are open and connections are. This repository's own. The function
--- `number_of` gives the number of a thing.
+-- Things with numbers, in the order of their numbers, such as open lists and connections. This repository's own. The
+-- function `number_of` gives the number of a thing.
 use Rattle.std.specs.Prelude.{◌≡◌, ◌+◌, ◌<◌, ℕ, Bool, true, not, ◌&&◌, ◌==◌, nat_lt, List, [], ◌∷◌, length, take, drop, Option, MatchOption}
 use Rattle.std.specs.List.{HoldsAt, list_all}
 
@@ -20,7 +20,7 @@ numbers_rise number_of (x ∷ xs) = list_all (is_lower number_of x) xs && number
 abbrev pub none_has : {A : Type 0} → (A → ℕ) → ℕ → List A → Type 0
 none_has number_of number xs = list_all (λ x. not (has_number number_of number x)) xs ≡ true
 
--- where the thing of that number is: there, and nowhere else
+-- the position of the thing with that number: there, and nowhere else
 abbrev pub IsPlaceOf : {A : Type 0} → (A → ℕ) → ℕ → List A → Option ℕ → Type 0
 IsPlaceOf number_of number xs place = MatchOption place (none_has number_of number xs)
     (λ at. (at < length xs) × HoldsAt (λ x. has_number number_of number x ≡ true) xs at

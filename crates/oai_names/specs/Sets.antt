@@ -7,8 +7,8 @@ use Rattle.oai_names.specs.declared.limits.TheConstants.{MAX_SET_SPEC_BYTES, MAX
 use Rattle.oai_names.specs.declared.set_trees.SetFault.{SetFault}
 use Rattle.oai_names.specs.declared.set_trees.SetFault.TheVariants.{Exists, NoParent, TooMany, NoMemory}
 
--- a setSpec is the colon-separated path from a root of the hierarchy (section 2.6): each part is of the characters of a metadataPrefix, one or
--- more
+-- a setSpec is the colon-separated path from a root of the hierarchy (section 2.6): each part is of the characters of a
+-- metadataPrefix, one or more
 unfoldable pub is_set_spec : List ℕ → Bool
 is_set_spec text = list_all is_prefix (slice_split is_colon text)
 
@@ -24,24 +24,25 @@ Covers s t = (t ≡ s) ⊎ ((rest : List ℕ) × (t ≡ s ++ 58 ∷ rest))
 unfoldable pub covers : List ℕ → List ℕ → Bool
 covers s t = bytes_eq s t || starts_with nat_eq t (s ++ 58 ∷ [])
 
--- the setSpec of the set right above: everything before the last colon. A set of one part is a root, with none above it
+-- the setSpec of the parent: everything before the last colon. A set of one part is a root, and has no parent
 unfoldable pub parent_of : List ℕ → Option (List ℕ)
 parent_of spec = if list_any is_colon spec then Some (before_last is_colon spec) else None
 
--- some of the sets, each its setSpec and its setName, has this setSpec
+-- one of the sets, each a setSpec and a setName, has this setSpec
 abbrev pub has_set : List (List ℕ × List ℕ) → List ℕ → Bool
 has_set sets spec = list_any (λ set. bytes_eq spec set.0) sets
 
--- there is no setSpec, or some of the sets has it
+-- there is no setSpec, or one of the sets has it
 abbrev pub is_none_or_has : List (List ℕ × List ℕ) → Option (List ℕ) → Bool
 is_none_or_has sets None = true
 is_none_or_has sets (Some spec) = has_set sets spec
 
--- the set right above this one, if it is no root, is one of the sets
+-- the parent of this set, unless it is a root, is one of the sets
 abbrev pub has_parent : List (List ℕ × List ℕ) → List ℕ → Bool
 has_parent sets spec = is_none_or_has sets (parent_of spec)
 
--- the sets of a repository in order of addition: the setSpecs are distinct, each set's parent stands before it, and there are not too many
+-- the sets of a repository in order of addition: the setSpecs are distinct, each set's parent stands before it, and
+-- there are not too many
 pub record IsSetTree (sets : List (List ℕ × List ℕ)) : Type 0 where
   pub distinct : (i : ℕ) (set : List ℕ × List ℕ)
       → slice_get sets i ≡ Some set → has_set (take i sets) set.0 ≡ false
@@ -49,17 +50,19 @@ pub record IsSetTree (sets : List (List ℕ × List ℕ)) : Type 0 where
       → slice_get sets i ≡ Some set → has_parent (take i sets) set.0 ≡ true
   pub few : length sets ≤ MAX_SETS
 
--- the law of the hierarchy: where a set's last part follows another setSpec and a colon, a set of that setSpec stands before it
+-- the law of the hierarchy: if a set's last part follows another setSpec and a colon, a set with that setSpec stands
+-- before it
 abbrev pub HasParentsBefore : List (List ℕ × List ℕ) → Type 0
 HasParentsBefore sets = (i : ℕ) (parent last name : List ℕ)
     → slice_get sets i ≡ Some (parent ++ 58 ∷ last, name)
     → list_any is_colon last ≡ false → has_set (take i sets) parent ≡ true
 
--- and above it: where a set lies in another one, that one is a set too
+-- and for every ancestor: if a set lies in another one, that one is a set too
 abbrev pub HasSetsAbove : List (List ℕ × List ℕ) → Type 0
 HasSetsAbove sets = (above spec : List ℕ) → has_set sets spec ≡ true → Covers above spec → has_set sets above ≡ true
 
--- the result of adding a set, and the sets then: it is the last one; or the first cause that applies is returned, and they are as they were
+-- the result of adding a set, and the sets afterwards: it is the last one; or the first cause that applies is returned,
+-- and the sets are unchanged
 abbrev pub IsAdding : List (List ℕ × List ℕ) → List ℕ → List ℕ
     → Result (Unit {0}) SetFault → List (List ℕ × List ℕ) → Type 0
 IsAdding old spec name (Ok _) new =

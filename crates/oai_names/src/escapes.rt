@@ -10,19 +10,18 @@ ghost use Rattle.oai_names.specs.declared.escapes.Place.TheVariants.{Attribute, 
 use memchr::{memchr, memchr3};
 use std::alloc::AllocError;
 
-/// The most bytes of the text of an element that are passed over at once.
+/// The most bytes of an element's text that are scanned at once.
 const MAX_RUN: usize = 256;
 
-/// Where a text stands in a document.
+/// Where in a document a text stands.
 #[derive(Clone, Copy, PartialEq, Eq)]
 enum Place {
     Element,
     Attribute,
 }
 
-/// Appends the text as it is spelled in an element: `&amp;` for `&`, `&lt;` for `<`, `&gt;` for `>`
-/// and `&#13;` for CR, everything else as it is (XML 1.0, sections 2.4 and 2.11). Where memory is
-/// refused, the buffer is left as it was.
+/// Appends the text as it is spelled in an element: `&amp;` for `&`, `&lt;` for `<`, `&gt;` for `>` and `&#13;` for CR,
+/// everything else as it is (XML 1.0, sections 2.4 and 2.11). Out of memory, the buffer is unchanged.
 pub fn escape_text(text: &str, out: &mut Vec<u8>) -> Result<(), AllocError>
     ensures ok { OnOk result (out.new.items ≡ out.old.items ++ spec.escaped_text text.now) }
     ensures err { OnErr result (out.new.items ≡ out.old.items) }
@@ -33,9 +32,8 @@ pub fn escape_text(text: &str, out: &mut Vec<u8>) -> Result<(), AllocError>
     escape(Place::Element, text, out)
 }
 
-/// Appends the text as it is spelled in the value of an attribute: as in an element, and `&quot;`
-/// for a quote, `&#9;` for tab and `&#10;` for LF (XML 1.0, section 3.3.3). Where memory is
-/// refused, the buffer is left as it was.
+/// Appends the text as it is spelled in the value of an attribute: as in an element, and `&quot;` for a quote, `&#9;`
+/// for tab and `&#10;` for LF (XML 1.0, section 3.3.3). Out of memory, the buffer is unchanged.
 pub fn escape_attr(text: &str, out: &mut Vec<u8>) -> Result<(), AllocError>
     ensures ok { OnOk result (out.new.items ≡ out.old.items ++ spec.escaped_attribute text.now) }
     ensures err { OnErr result (out.new.items ≡ out.old.items) }
@@ -43,10 +41,10 @@ pub fn escape_attr(text: &str, out: &mut Vec<u8>) -> Result<(), AllocError>
     escape(Place::Attribute, text, out)
 }
 
-/// What escaping keeps. But for the `&` of its entities, no byte is left that a reader would take for
-/// markup, or change: in an element `<` and CR (XML 1.0, sections 2.4 and 2.11); in the value of an
-/// attribute these, the quote, tab and LF (section 3.3.3). And two texts that are spelled alike are one.
-/// A theorem, proved by an empty function.
+/// Escaped texts hold no markup, and two texts with the same escaped form are equal. Apart from the `&` of its
+/// entities, no byte is left that a reader would take for markup or would change: in an element `<` and CR (XML 1.0,
+/// sections 2.4 and 2.11); in the value of an attribute these, the quote, tab and LF (section 3.3.3). A theorem, proved
+/// by an empty function.
 pub fn escape_law()
     ensures element { (text : List ℕ)
         → list_any (is_one_of (60 ∷ 13 ∷ [])) (spec.escaped_text text) ≡ false }
@@ -58,9 +56,8 @@ pub fn escape_law()
         → spec.escaped_attribute value ≡ spec.escaped_attribute other → value ≡ other }
 {}
 
-/// Whether each byte stands for itself in an element, as in most texts: such a text is appended in one
-/// piece. The loop has no other end than the last byte, and what it finds is handed out of a function of
-/// its own, so that many bytes are tested at a time.
+/// Whether each byte stands for itself in an element, as in most texts: such a text is appended in one piece. The loop
+/// ends only at the last byte, and a separate function returns what it finds, so that the loop can be vectorized.
 #[inline(never)]
 fn is_bare(bytes: &[u8]) -> bool
     ensures { result ≡ list_all is_bare_byte bytes.now }
@@ -72,7 +69,7 @@ fn is_bare(bytes: &[u8]) -> bool
     bare
 }
 
-/// Whether the byte stands for itself in an element. All four are compared, so that there is no branch.
+/// Whether the byte stands for itself in an element. All four comparisons are made, so that there is no branch.
 fn is_bare_byte(b: u8) -> bool
     ensures { result ≡ is_bare_byte b }
 {
@@ -92,7 +89,7 @@ fn escape(place: Place, text: &str, out: &mut Vec<u8>) -> Result<(), AllocError>
     written
 }
 
-/// As `escape`, but what was appended before memory was refused stays.
+/// As `escape`, but what was appended before memory ran out stays.
 #[tactic(auto, unfolding(crate::specs::Escapes::escaped))]
 fn append(place: Place, text: &[u8], out: &mut Vec<u8>) -> Result<(), AllocError>
     ensures ok { OnOk result (out.new.items ≡ out.old.items ++ spec.escaped place text.now) }
@@ -110,7 +107,7 @@ fn append(place: Place, text: &[u8], out: &mut Vec<u8>) -> Result<(), AllocError
     }
 }
 
-/// How many bytes at the front are spelled as they are.
+/// The number of leading bytes that are spelled as they are.
 fn run_len(place: Place, bytes: &[u8]) -> usize
     ensures within { result ≤ length bytes.now }
     ensures run { spec.escaped place (take result bytes.now) ≡ take result bytes.now }
@@ -121,8 +118,8 @@ fn run_len(place: Place, bytes: &[u8]) -> usize
     }
 }
 
-/// How many bytes at the front are spelled as they are in an element. Texts of elements are long, and
-/// most of their bytes stand for themselves: so these are passed over many at a time.
+/// The number of leading bytes that are spelled as they are in an element. Texts of elements are long, and most of
+/// their bytes stand for themselves, so these are skipped many at a time.
 fn element_run_len(bytes: &[u8]) -> usize
     ensures within { result ≤ length bytes.now }
     ensures run { spec.escaped Element (take result bytes.now) ≡ take result bytes.now }
@@ -131,8 +128,8 @@ fn element_run_len(bytes: &[u8]) -> usize
     len_before_cr(&bytes[..unmarked])
 }
 
-/// How many bytes stand before the first `&`, `<` or `>` of the next 256. It looks no further,
-/// since what stands behind a CR is looked at again.
+/// The number of bytes before the first `&`, `<` or `>` among the next 256. It looks no further, since the bytes after
+/// a CR are scanned again.
 fn unmarked_len(bytes: &[u8]) -> usize
     ensures within { result ≤ length bytes.now }
     ensures before { (k : ℕ) → k < result → is_byte3 38 60 62 (slice_index bytes.now k) ≡ false }
@@ -141,7 +138,7 @@ fn unmarked_len(bytes: &[u8]) -> usize
     memchr3(b'&', b'<', b'>', near).unwrap_or(near.len())
 }
 
-/// How many bytes stand before the first CR.
+/// The number of bytes before the first CR.
 fn len_before_cr(bytes: &[u8]) -> usize
     ensures within { result ≤ length bytes.now }
     ensures before { (k : ℕ) → k < result → slice_index bytes.now k ≢ 13 }
@@ -149,7 +146,7 @@ fn len_before_cr(bytes: &[u8]) -> usize
     memchr(b'\r', bytes).unwrap_or(bytes.len())
 }
 
-/// How many bytes at the front are spelled as they are in the value of an attribute.
+/// The number of leading bytes that are spelled as they are in the value of an attribute.
 #[tactic(auto, unfolding(crate::specs::Escapes::escaped))]
 fn attribute_run_len(bytes: &[u8]) -> usize
     ensures within { result ≤ length bytes.now }
@@ -175,7 +172,7 @@ fn append_byte(place: Place, b: u8, out: &mut Vec<u8>) -> Result<(), AllocError>
     Ok(())
 }
 
-/// The one table of spellings: what stands for a byte, where it does not stand for itself.
+/// The one table of spellings: the escape of a byte, or `None` where it stands for itself.
 fn escape_of(place: Place, b: u8) -> Option<&'static str>
     ensures { unwrap_or (option_copied result) (b ∷ []) ≡ spec.spelling place b }
 {

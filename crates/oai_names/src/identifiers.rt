@@ -64,7 +64,7 @@ impl Identifier {
         self.text.as_str()
     }
 
-    /// An equal identifier. The error is out of memory.
+    /// A copy of the identifier. The error is out of memory.
     pub fn copy(&self, alloc: Global) -> Result<Identifier, AllocError>
         ensures { IfOk result (λ copy. copy ≡ self.now) }
     {
@@ -74,7 +74,7 @@ impl Identifier {
     }
 }
 
-/// Whether the text may be an identifier: it has the syntax of one, and at most 512 bytes. It takes no memory.
+/// Whether the text may be an identifier: it has the syntax of one, and at most 512 bytes. Allocates nothing.
 pub fn may_be_identifier(text: &str) -> bool
     ensures { result ≡ may_be_identifier text.now }
 {

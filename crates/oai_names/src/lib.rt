@@ -1,6 +1,5 @@
-//! The texts of OAI-PMH: which characters a document may hold, the grammars of names, the sets and
-//! their tree, and how a text is spelled in a document; `Text` and `Sequence`, which contracts see as
-//! plain lists.
+//! The texts of OAI-PMH: which characters a document may hold, the grammars of names, the sets and their tree, and how
+//! a text is escaped in a document; `Text` and `Sequence`, which contracts see as plain lists.
 #![tactic(auto)]
 
 mod escapes;

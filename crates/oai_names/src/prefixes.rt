@@ -62,7 +62,7 @@ impl Prefix {
         self.text.as_str()
     }
 
-    /// An equal prefix. The error is out of memory.
+    /// A copy of the prefix. The error is out of memory.
     pub fn copy(&self, alloc: Global) -> Result<Prefix, AllocError>
         ensures { IfOk result (λ copy. copy ≡ self.now) }
     {
@@ -72,7 +72,7 @@ impl Prefix {
     }
 }
 
-/// Whether the text may be a prefix: it has the syntax of one, and at most 64 bytes. It takes no memory.
+/// Whether the text may be a prefix: it has the syntax of one, and at most 64 bytes. Allocates nothing.
 pub fn may_be_prefix(text: &str) -> bool
     ensures { result ≡ may_be_prefix text.now }
 {

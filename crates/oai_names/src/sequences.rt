@@ -20,7 +20,7 @@ impl<T> Model for Sequence<T> {
 }
 
 impl<T> Sequence<T> {
-    /// The list of these values. It takes no memory.
+    /// The list of these values. Allocates nothing.
     pub fn new(items: Vec<T>) -> Sequence<T>
         ensures { result ≡ items.items }
     {
@@ -48,7 +48,7 @@ impl<T> Sequence<T> {
         self.items.is_empty()
     }
 
-    /// Goes over the values, in order.
+    /// Iterates over the values, in order.
     pub fn iter(&self) -> Iter<'_, T>
         ensures values { iter_rest result ≡ self.now }
         ensures bound { length (iter_rest result) < 2 ^ 64 }
@@ -58,7 +58,7 @@ impl<T> Sequence<T> {
         self.items.iter()
     }
 
-    /// The values as a vector. It takes no memory.
+    /// The values as a vector. Allocates nothing.
     pub fn into_vec(self) -> Vec<T>
         ensures { result.items ≡ self }
     {

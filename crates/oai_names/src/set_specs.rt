@@ -9,9 +9,9 @@ use crate::readings::NameFault;
 use std::alloc::{AllocError, Global};
 use std::marker::Model;
 
-/// A setSpec, the name of a set: the path from a root of the hierarchy of sets, one or more parts
-/// joined by colons, each of them one or more ASCII letters, digits and `- _ . ! ~ * ' ( )`, at
-/// most 256 bytes in all (OAI-PMH 2.0, section 2.6).
+/// A setSpec, the name of a set: the path from a root of the set hierarchy, one or more parts joined by colons. Each
+/// part is one or more ASCII letters, digits and `- _ . ! ~ * ' ( )`; the whole has at most 256 bytes (OAI-PMH 2.0,
+/// section 2.6).
 #[derive(Debug, Drop)]
 pub struct SetSpec {
     text: String,
@@ -65,7 +65,7 @@ impl SetSpec {
         self.text.as_str()
     }
 
-    /// An equal setSpec. The error is out of memory.
+    /// A copy of the setSpec. The error is out of memory.
     pub fn copy(&self, alloc: Global) -> Result<SetSpec, AllocError>
         ensures { IfOk result (λ copy. copy ≡ self.now) }
     {
@@ -74,9 +74,9 @@ impl SetSpec {
         })
     }
 
-    /// Whether the other set is this one or lies below it in the hierarchy: its setSpec equals
-    /// this one, or begins with this one followed by a colon. An item in the other set is then in
-    /// this one too (OAI-PMH 2.0, section 2.6). It takes no memory.
+    /// Whether the other set is this one or a descendant of it in the hierarchy: its setSpec equals this one, or begins
+    /// with this one followed by a colon. An item in the other set is then in this one too (OAI-PMH 2.0, section 2.6).
+    /// Allocates nothing.
     pub fn covers(&self, other: &SetSpec) -> bool
         ensures test { result ≡ covers self.now other.now }
         ensures relation { IsTrue result ↔ Covers self.now other.now }
@@ -84,8 +84,8 @@ impl SetSpec {
         other.lies_in(self.as_str())
     }
 
-    /// Whether this set is the one of that setSpec, which may be of any length, or lies below it, as
-    /// `covers` says it. It takes no memory.
+    /// Whether this set is the set of that setSpec, which may have any length, or a descendant of it, in the sense of
+    /// `covers`. Allocates nothing.
     pub fn lies_in(&self, set: &str) -> bool
         ensures test { result ≡ covers set.now self.now }
         ensures relation { IsTrue result ↔ Covers set.now self.now }
@@ -94,8 +94,8 @@ impl SetSpec {
     }
 }
 
-/// Whether the other text is this one, or begins with this one followed by a colon: of setSpecs, that
-/// the other set is this one or lies below it, as `SetSpec::covers` says it. It takes no memory.
+/// Whether the other text is this one, or begins with this one followed by a colon: for setSpecs, whether the other set
+/// is this one or a descendant of it, in the sense of `SetSpec::covers`. Allocates nothing.
 pub fn covers(set: &str, other: &str) -> bool
     ensures test { result ≡ covers set.now other.now }
     ensures relation { IsTrue result ↔ Covers set.now other.now }
@@ -107,7 +107,7 @@ pub fn covers(set: &str, other: &str) -> bool
     }
 }
 
-/// Whether the text may be a setSpec: it has the syntax of one, and at most 256 bytes. It takes no memory.
+/// Whether the text may be a setSpec: it has the syntax of one, and at most 256 bytes. Allocates nothing.
 pub fn may_be_set_spec(text: &str) -> bool
     ensures { result ≡ may_be_set_spec text.now }
 {

@@ -12,29 +12,29 @@ use std::collections::BTreeSet;
 use std::marker::Model;
 use thiserror::Error;
 
-/// Why a set was not added, in the order in which the causes are looked for.
+/// Why a set was not added, in the order in which the causes are tested.
 #[derive(Clone, Copy, Debug, PartialEq, Eq, Error)]
 pub enum SetFault {
-    /// A set of this setSpec is there.
+    /// A set with this setSpec exists.
     #[error("the set exists")]
     Exists,
-    /// The setSpec has two or more parts, and without its last part it is no set.
+    /// The setSpec has two or more parts, and no set has the setSpec without the last part.
     #[error("the set has no parent")]
     NoParent,
-    /// There are 10,000 sets.
+    /// There are 10,000 sets already.
     #[error("there are too many sets")]
     TooMany,
-    /// The set could not be stored.
+    /// Out of memory.
     #[error("out of memory")]
     NoMemory,
 }
 
-/// The sets of a repository, each with its setSpec and its name, in order of addition (OAI-PMH 2.0,
-/// section 2.6). The setSpecs are distinct, and where a setSpec has two or more parts, the set that
-/// it names without its last part, its parent, stands before it. There are at most 10,000 sets.
+/// The sets of a repository, each with its setSpec and its name, in order of addition (OAI-PMH 2.0, section 2.6). The
+/// setSpecs are distinct. The parent of a set, whose setSpec is the same without the last part, stands before it. There
+/// are at most 10,000 sets.
 ///
-/// A sorted index of the setSpecs, a B-tree, stands beside the list: a look-up among 10,000 sets
-/// compares a few dozen setSpecs, and takes time in the logarithm of the number of sets.
+/// A B-tree over the setSpecs stands beside the list: a look-up takes O(log n) comparisons, a few dozen among 10,000
+/// sets.
 #[derive(Debug, Drop)]
 pub struct SetTree {
     sets: Vec<(SetSpec, Text)>,
@@ -56,8 +56,7 @@ impl Model for SetTree {
 }
 
 impl SetTree {
-    /// A repository without sets. It takes no memory; the sets that are added later are kept in
-    /// memory of this allocator.
+    /// A repository without sets. Allocates nothing; sets that are added later are stored in memory of this allocator.
     pub fn new(alloc: Global) -> SetTree
         ensures { result ≡ [] }
     {
@@ -67,10 +66,9 @@ impl SetTree {
         }
     }
 
-    /// Adds a set of this setSpec and name, as the last one. The errors, in this order: `Exists`
-    /// where a set of this setSpec is there, `NoParent` where the setSpec has two or more parts and
-    /// no set is named by it without its last part, `TooMany` where 10,000 sets are there,
-    /// `NoMemory`. After each of them the tree is as it was.
+    /// Adds a set with this setSpec and name, as the last one. The errors, in this order: `Exists` if a set has this
+    /// setSpec, `NoParent` if the setSpec has two or more parts and no set has the setSpec without the last part,
+    /// `TooMany` if there are 10,000 sets, `NoMemory`. After an error the tree is unchanged.
     pub fn add(&mut self, spec: &SetSpec, name: &str) -> Result<(), SetFault>
         ensures { IsAdding self.old spec.now name.now result self.new }
     {
@@ -89,16 +87,15 @@ impl SetTree {
         }
     }
 
-    /// Whether a set of this setSpec is there. The time is that of a search in the index.
+    /// Whether a set with this setSpec exists. O(log n) by the index.
     pub fn has(&self, spec: &SetSpec) -> bool
         ensures { result ≡ has_set self.now spec.now }
     {
         self.has_text(spec.as_str())
     }
 
-    /// The setSpec of the set of that setSpec, where it is there. A set that is not there has none that
-    /// lies in it. The time is that of a search in the index, and where the set is there, of a look
-    /// along the list.
+    /// The setSpec of the set with that setSpec, if it exists; a set that does not exist has no descendants. O(log n)
+    /// by the index; if the set exists, also a scan of the list.
     pub fn find(&self, spec: &str) -> Option<&SetSpec>
         ensures found { option_copied result
             ≡ (if has_set self.now spec.now then Some spec.now else None) }
@@ -111,8 +108,8 @@ impl SetTree {
         spec_among(sets, spec)
     }
 
-    /// The setSpec and the name of the set that was added after `i` others; `None` where there are
-    /// no more than `i` sets. The parent of a set of two or more parts stands before it.
+    /// The setSpec and the name of the set at position `i`, counted from 0 in order of addition; `None` if there are at
+    /// most `i` sets. The parent of a set of two or more parts stands before it.
     #[tactic(auto, using(crate::proofs::Parents::parents_stand_before))]
     pub fn get(&self, i: usize) -> Option<(&SetSpec, &str)>
         ensures set { option_map (λ set. (set.0.now, set.1.now)) result ≡ slice_get self.now i }
@@ -125,7 +122,7 @@ impl SetTree {
         }
     }
 
-    /// The sets in order of addition, each its setSpec and its name.
+    /// The sets in order of addition, each with its setSpec and its name.
     pub fn as_slice(&self) -> &[(SetSpec, Text)]
         ensures { result.now ≡ self.now }
     {
@@ -139,7 +136,7 @@ impl SetTree {
         self.sets.len()
     }
 
-    /// Whether the setSpec is that of a root, or its parent is there.
+    /// Whether the setSpec is that of a root, or its parent exists.
     fn has_parent(&self, spec: &SetSpec) -> bool
         ensures { result ≡ has_parent self.now spec.now }
     {
@@ -149,14 +146,14 @@ impl SetTree {
         }
     }
 
-    /// Whether a set of that setSpec is there.
+    /// Whether a set with that setSpec exists.
     fn has_text(&self, spec: &str) -> bool
         ensures { result ≡ has_set self.now spec.now }
     {
         self.specs.contains(spec)
     }
 
-    /// Adds a set that has a place. What may fail comes before the first change that shows.
+    /// Adds a set that has a place in the tree. All that may fail comes before the first visible change.
     fn push(&mut self, spec: &SetSpec, name: &str) -> Result<(), AllocError>
         requires apart { has_set self.old spec.now ≡ false }
         requires parent { has_parent self.old spec.now ≡ true }
@@ -174,7 +171,7 @@ impl SetTree {
     }
 }
 
-/// A set of this setSpec and name.
+/// A set with copies of this setSpec and name.
 fn copied(alloc: Global, spec: &SetSpec, name: &str) -> Result<(SetSpec, Text), AllocError>
     ensures { IfOk result (λ set. set ≡ (spec.now, name.now)) }
 {
@@ -182,7 +179,7 @@ fn copied(alloc: Global, spec: &SetSpec, name: &str) -> Result<(SetSpec, Text), 
     Ok((spec, Text::new(alloc, name)?))
 }
 
-/// The setSpec of the set of that setSpec, where it is among these.
+/// The setSpec of the set with that setSpec, if it is among these.
 fn spec_among<'a>(sets: &'a [(SetSpec, Text)], spec: &str) -> Option<&'a SetSpec>
     ensures { option_copied result ≡ (if has_set sets.now spec.now then Some spec.now else None) }
 {
@@ -192,16 +189,15 @@ fn spec_among<'a>(sets: &'a [(SetSpec, Text)], spec: &str) -> Option<&'a SetSpec
     }
 }
 
-/// The set of that setSpec, where it is among these.
+/// The set with that setSpec, if it is among these.
 fn set_among<'a>(sets: &'a [(SetSpec, Text)], spec: &str) -> Option<&'a (SetSpec, Text)>
     ensures { option_copied result ≡ find (λ set. bytes_eq spec.now set.0) sets.now }
 {
     sets.iter().find(|set| spec == set.0.as_str())
 }
 
-/// The setSpec of the set right above this one in the hierarchy, everything before the last colon;
-/// `None` where there is no colon, and the set is a root (OAI-PMH 2.0, section 2.6). It takes no
-/// memory.
+/// The setSpec of the parent, everything before the last colon; `None` if there is no colon, so that the set is a root
+/// (OAI-PMH 2.0, section 2.6). Allocates nothing.
 pub fn parent_of(spec: &str) -> Option<&str>
     ensures { option_copied result ≡ parent_of spec.now }
 {

@@ -7,8 +7,8 @@ ghost use Rattle.oai_names.specs.ByteTests.{is_plain_byte};
 use std::alloc::{AllocError, Global};
 use std::marker::Model;
 
-/// Whether each character of the text may stand in an XML document: everything but U+0000 to
-/// U+001F without tab, LF and CR, and but U+FFFE and U+FFFF (XML 1.0, section 2.2).
+/// Whether each character of the text may stand in an XML document: all but U+0000 to U+001F without tab, LF and CR,
+/// and but U+FFFE and U+FFFF (XML 1.0, section 2.2).
 pub fn is_xml_text(text: &str) -> bool
     ensures { result ≡ spec.is_xml_text text.now }
 {
@@ -23,17 +23,25 @@ fn are_xml_chars(text: &str) -> bool
     text.chars().all(is_xml_char)
 }
 
-/// Whether each byte is that of a character of ASCII from the space on, as in most texts. Such a text
-/// needs no decoding: all of these characters are XML's. The loop has no other end than the last byte,
-/// so that many bytes are tested at a time.
+/// Whether each byte is an ASCII character from the space on, or tab, LF or CR, as in most texts. Such a text needs no
+/// decoding: all of these are characters of XML. The loop ends only at the last byte, and stands in a function of its
+/// own, so that it can be vectorized.
+#[inline(never)]
 fn are_plain(bytes: &[u8]) -> bool
     ensures { result ≡ list_all is_plain_byte bytes.now }
 {
     let mut plain = true;
     for b in bytes {
-        plain = plain & (*b >= b' ' && *b <= 0x7f);
+        plain = plain & is_plain_byte(*b);
     }
     plain
+}
+
+/// Whether the byte is a character of ASCII that XML allows. All are compared, so that there is no branch.
+fn is_plain_byte(b: u8) -> bool
+    ensures { result ≡ is_plain_byte b }
+{
+    ((b >= b' ') & (b <= 0x7f)) | (b == b'\t') | (b == b'\n') | (b == b'\r')
 }
 
 /// The production `Char` of XML 1.0, section 2.2.
@@ -43,7 +51,7 @@ fn is_xml_char(c: char) -> bool
     matches!(c, '\t' | '\n' | '\r' | ' '..='\u{D7FF}' | '\u{E000}'..='\u{FFFD}' | '\u{10000}'..='\u{10FFFF}')
 }
 
-/// A text that its holder owns. Contracts see its bytes, in UTF-8.
+/// An owned text. Contracts see its bytes, in UTF-8.
 #[derive(Debug, Drop)]
 pub struct Text {
     text: String,
@@ -68,7 +76,7 @@ impl Text {
         })
     }
 
-    /// The text that was made. It takes no memory.
+    /// The text of this string. Allocates nothing.
     pub fn from_string(text: String) -> Text
         ensures { result ≡ string_bytes text }
     {
@@ -82,14 +90,14 @@ impl Text {
         self.text.as_str()
     }
 
-    /// Another text of the same bytes. The error is out of memory.
+    /// A copy of the text. The error is out of memory.
     pub fn copy(&self, alloc: Global) -> Result<Text, AllocError>
         ensures { IfOk result (λ copy. copy ≡ self.now) }
     {
         Text::new(alloc, self.as_str())
     }
 
-    /// The text, to be changed. It takes no memory.
+    /// The text as a `String`. Allocates nothing.
     pub fn into_string(self) -> String
         ensures { string_bytes result ≡ self }
     {

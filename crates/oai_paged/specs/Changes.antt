@@ -1,4 +1,4 @@
--- What a call does to a directory, and to the pages of its places.
+-- What a call does to a directory, and to the pages of its leaves.
 use Rattle.std.specs.Prelude.{◌≡◌, ◌+◌, ◌<◌, ◌≤◌, ℕ, ℤ, Bool, true, List, [], ◌++◌, take, drop, is_some, IfNone, IfOk, IfSome, IsTrue, Option, Result, OnErr, OnOk, Vec, vec_capacity, vec_len}
 use Rattle.oai_catalogue.specs.Store.{Spends}
 use Rattle.oai_item.specs.Item.{ItemState}
@@ -16,24 +16,25 @@ use Rattle.std.specs.List.{AllByRecursion}
 use Rattle.std.specs.declared.alloc.Global.{Global}
 use Rattle.oai_places.specs.Calls.{Renames}
 
--- it leaves a directory and its pages as they were
+-- it leaves a directory and its pages unchanged
 pub record ChangesNothing {P : Type 0} (g : Ghosts P) (before after : List PlaceState) (old new : P) : Type 0 where
   pub places : after ≡ before
   pub names : Renames g [] [] old new
 
--- it changes a directory, by at most so many new pages; where it fails, directory and pages are as they were
+-- it changes a directory, by at most that many new pages; if it fails, directory and pages are unchanged
 pub record Changes {P A : Type 0} (g : Ghosts P) (numbers : ℕ) (result : Result A Fault) (before after : List PlaceState) (old new : P) : Type 0 where
   pub directory : OnOk result (IsDirectory (g.pages new) after)
   pub names : OnOk result (Renames g before after old new)
   pub err : OnErr result (ChangesNothing g before after old new)
   pub pool : Spends g.room g.failures g.honest numbers result old new
 
--- it adds the pages of entries: three and the overflow pages of one item at most, and one at most where all of them fit on one
+-- it adds the pages of entries: at most three and the overflow pages of one item, and at most one if all of them fit on
+-- one
 pub record AddsPages {P A : Type 0} (g : Ghosts P) (entries : List ItemState) (result : Result A Fault) (old new : P) : Type 0 where
   pub pool : Spends g.room g.failures g.honest (3 + MAX_OVERFLOW_PAGES) result old new
   pub few : fit_one entries ≡ true → Spends g.room g.failures g.honest 1 result old new
 
--- pages of their own were added for the items, and named by these places
+-- new pages were added for the items, and these leaves reference them
 pub record Adds {P : Type 0} (g : Ghosts P) (added : List ItemState) (places : List PlaceState) (old new : P) : Type 0 where
   pub placed : AllByRecursion (IsSoundPlace (g.pages new)) places
   pub items : items_on (g.pages new) places ≡ added
@@ -41,7 +42,8 @@ pub record Adds {P : Type 0} (g : Ghosts P) (added : List ItemState) (places : L
   pub fresh : (n : ℕ) → 0 < count_of (g.counts old) n → named_in places n ≡ 0
   pub names : Renames g [] places old new
 
--- so many places from `at` on were put in for those of a directory that are gone, whose pages are still named; put back, these make it what it was
+-- that many leaves from `at` on were swapped in for those of a directory that are gone, whose pages are still
+-- referenced; swapped back, these make it what it was
 pub record Stages {P : Type 0} (g : Ghosts P) (at len : ℕ) (gone before after : List PlaceState) (old new : P) : Type 0 where
   pub stands : StandsIn g new after
   pub back : take at after ++ (gone ++ drop (at + len) after) ≡ before
@@ -49,14 +51,14 @@ pub record Stages {P : Type 0} (g : Ghosts P) (at len : ℕ) (gone before after 
   pub traded : (n : ℕ) → named_in after n + named_in gone n ≡ named_in before n + named_in (take len (drop at after)) n
   pub within : (n : ℕ) → named_in gone n ≤ named_in before n
 
--- the places that are gone can be put back for the new ones, so many from `at` on of those that stand there now: each of the two has room
--- for the other's
+-- the leaves that are gone can be swapped back for the new ones, that many from `at` on of those that are there now:
+-- each of the two has the capacity for the other's
 pub record HasWayBack (at len stand room gone gone_room : ℕ) : Type 0 where
   pub within : at + len ≤ stand
   pub there : stand + gone ≤ room
   pub back : gone + len ≤ gone_room
 
--- they are the places of these items, in the place of so many from `at` on
+-- they are the leaves of these items, in place of that many from `at` on
 pub record IsDirectoryChanged {P : Type 0} (g : Ghosts P) (items : List ItemState) (at len new_at new_len : ℕ) (gone before after : List PlaceState) (old new : P) : Type 0 where
   pub place : new_at ≡ at
   pub taken : gone ≡ take len (drop at before)
@@ -64,13 +66,14 @@ pub record IsDirectoryChanged {P : Type 0} (g : Ghosts P) (items : List ItemStat
   pub added : Adds g items (take new_len (drop new_at after)) old new
   pub staged : Stages g new_at new_len gone before after old new
 
--- the item of a datestamp and identifier was taken out, where there was one
+-- the item with a datestamp and identifier was removed, if there was one
 pub record IsRemoved (stamp : ℤ) (identifier : List ℕ) (found : Bool) (old new : List ItemState) : Type 0 where
   pub was : found ≡ is_some (item_at stamp identifier old)
   pub left : new ≡ without_at stamp identifier old
 
--- the item is put in, by at most so many new pages as it may need, and the pages of the places that are gone are still named; where it fails, directory
--- and pages are as they were. The places lose no room, and what was known of groups of them is known of the new ones
+-- the item is inserted, by at most as many new pages as it may need, and the pages of the leaves that are gone are
+-- still referenced; if it fails, directory and pages are unchanged. The leaves lose no capacity, and the statistics of
+-- groups are those of the new ones
 pub record PutsItem {P : Type 0} (g : Ghosts P) (item : ItemState) (result : Result Changed Fault) (before after : Vec PlaceState Global) (known known_after : List GroupState) (old new : P) : Type 0 where
   pub list : OnOk result (IsTrue (g.honest old) → items_on (g.pages new) after.items ≡ with_item item (items_on (g.pages old) before.items))
   pub staged : IfOk result (λ changed. Stages g changed.at changed.len changed.gone.items before.items after.items old new)
@@ -79,9 +82,9 @@ pub record PutsItem {P : Type 0} (g : Ghosts P) (item : ItemState) (result : Res
   pub pool : Spends g.room g.failures g.honest (3 + MAX_OVERFLOW_PAGES) result old new
   pub groups : AreGroups before.items known → AreGroups after.items known_after
 
--- the item of a datestamp and identifier is taken out, where there is one, by one new page at most, and the pages that it was on are still named; where
--- there is none or it fails, directory and pages are as they were. The change can be taken back, and what was known of groups of places is known of the
--- new ones
+-- the item with a datestamp and identifier is removed, if there is one, by at most one new page, and the pages that it
+-- was on are still referenced; if there is none or it fails, directory and pages are unchanged. The change can be
+-- undone, and the statistics of groups are those of the new leaves
 pub record TakesItemOut {P : Type 0} (g : Ghosts P) (stamp : ℤ) (identifier : List ℕ) (result : Result (Option Changed) Fault) (before after : Vec PlaceState Global) (known known_after : List GroupState) (old new : P) : Type 0 where
   pub list : IfOk result (λ changed. IsTrue (g.honest old) → IsRemoved stamp identifier (is_some changed) (items_on (g.pages old) before.items) (items_on (g.pages new) after.items))
   pub staged : IfOk result (λ changed. IfSome changed (λ some. Stages g some.at some.len some.gone.items before.items after.items old new))

@@ -1,4 +1,4 @@
--- No definition: that the lists of a store are in order is one fact, by which a law of its trait is shown.
+-- No definition: the lists of a store are in order, one fact, which shows a law of its trait.
 use Rattle.std.specs.Prelude.{◌≡◌, ℕ, zero, suc, true, List, [], ◌∷◌, Option, None, Some, option_map, unwrap_or}
 use Rattle.std.proofs.Common.{refl}
 use Rattle.oai_catalogue.specs.Store.{AreInOrder, list_at}

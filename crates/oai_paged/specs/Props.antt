@@ -1,4 +1,4 @@
--- No definition: that places stand on pages of their own is one fact, by which the ghost field of a store is shown.
+-- No definition: leaves do not share pages, one fact, which shows the ghost field of a store.
 use Rattle.std.proofs.Common.{List}
 use Rattle.std.specs.List.{AllByRecursion, AllByRecursion-prop}
 use Rattle.std.proofs.Props as std

@@ -18,20 +18,21 @@ Directories = List (Option (List PlaceState))
 abbrev pub directory_at : Directories → ℕ → Option (List PlaceState)
 directory_at slots v = slice_index_or slots v None
 
--- the lists of items that they stand for
+-- the lists of items that they hold
 abbrev pub lists_on : Pages → Directories → Lists
 lists_on pages slots v = option_map (items_on pages) (directory_at slots v)
 
--- how often the places of a slot name a number
+-- how often the leaves of a slot reference a number
 abbrev pub named_at : ℕ → Option (List PlaceState) → ℕ
 named_at n None = 0
 named_at n (Some places) = named_in places n
 
--- how often all places of all directories name a number
+-- how often all leaves of all directories reference a number
 unfoldable pub named_by_all : Directories → ℕ → ℕ
 named_by_all slots n = sum_by (named_at n) slots
 
--- each page is counted as often as the places of all directories name it, and each directory is one
+-- the reference count of each page is the number of references by the leaves of all directories, and each directory is
+-- one
 pub record AreShelved (counts : List ℕ) (pages : Pages) (slots : Directories) : Type 0 where
   pub counted : (n : ℕ) → count_of counts n ≡ named_by_all slots n
   pub directories : (v : ℕ) (places : List PlaceState) → directory_at slots v ≡ Some places → IsDirectory pages places
@@ -45,7 +46,7 @@ most_of (count ∷ counts) = max count (most_of counts)
 abbrev pub MAX_ADDED : ℕ
 MAX_ADDED = 68
 
--- how many calls are sure to find room: pages, and further names of each page
+-- how many calls are sure to find room: pages, and further references to each page
 abbrev pub calls_left : ℕ → List ℕ → ℕ
 calls_left pages_left counts = min (pages_left / MAX_ADDED) (MAX_PAGES - most_of counts)
 
@@ -54,8 +55,8 @@ unfoldable pub items_below : ℕ → Lists → ℕ
 items_below zero lists = 0
 items_below (suc v) lists = length (list_at lists v) + items_below v lists
 
--- the item stands on pages that are named: they are the pages of some items, of which it is one. These stand whole on one page; or it is alone, and
--- has as many overflow pages as it needs
+-- the item is stored on referenced pages: they are the pages of some items, of which it is one. These are complete on
+-- one page; or it is alone, and has as many overflow pages as it needs
 pub record StandsOnPages (counts : List ℕ) (pages : Pages) (item : ItemState) : Type 0 where
   pub numbers : List ℕ
   pub items : List ItemState

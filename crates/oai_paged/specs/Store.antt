@@ -1,4 +1,4 @@
--- What is seen of a store of versions over a pool.
+-- What clauses see of a store of versions over a pool.
 use Rattle.std.specs.Prelude.{◌≡◌, ◌+◌, ◌≤◌, ℕ, List, [], Option, Some, unwrap_or}
 use Rattle.oai_pool.specs.Counts.{count_of}
 use Rattle.oai_pool.specs.declared.pools.PagePool.{Ghosts}
@@ -12,23 +12,23 @@ module _ {P : Type 0} {g : Ghosts P} where
   abbrev pub pool_of : VersionsOver P g → P
   pool_of store = store.pool
 
-  -- the directory that each version names
+  -- the directory of each version
   abbrev pub directories_of : VersionsOver P g → Directories
   directories_of store = directories_named store.versions.slots store.directories.slots
 
-  -- the places of a version
+  -- the leaves of a version
   abbrev pub places_at : VersionsOver P g → ℕ → List PlaceState
   places_at store v = unwrap_or (directory_at (directories_of store) v) []
 
-  -- the number of the directory that a version names
+  -- the number of the directory of a version
   abbrev pub named_by : VersionsOver P g → ℕ → Option ℕ
   named_by store v = number_at store.versions.slots v
 
-  -- how many versions name a directory
+  -- how many versions refer to a directory
   abbrev pub named_times : VersionsOver P g → ℕ → ℕ
   named_times store number = names_of number store.versions.slots
 
--- the version alone names the directory of that number, and no page is named more often than before but by that
+-- the version alone has the directory with that number, and that alone may have added references to pages
 pub record IsOwn {P : Type 0} {g : Ghosts P} (v number : ℕ) (old new : VersionsOver P g) : Type 0 where
   pub named : named_by new v ≡ Some number
   pub alone : named_times new number ≡ 1

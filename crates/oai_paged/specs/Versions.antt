@@ -1,9 +1,9 @@
--- The versions of a store: each names a directory, and several may name one.
+-- The versions of a store: each refers to a directory, and several may share one.
 use Rattle.std.specs.Prelude.{◌≡◌, ◌==◌, if◌then◌else◌, ◌<◌, ℕ, List, Option, None, Some, map, option_map, slice_index_or, sum_by}
 use Rattle.oai_places.specs.Places.{PlaceState}
 use Rattle.oai_paged.specs.Shelves.{Directories, directory_at}
 
--- a directory, and how many versions name it
+-- a directory, and how many versions refer to it
 pub record DirectoryState : Type 0 where
   pub places : List PlaceState
   pub versions : ℕ
@@ -16,7 +16,7 @@ Shelves = List (Option DirectoryState)
 abbrev pub Versions : Type 0
 Versions = List (Option ℕ)
 
--- the number that a version names
+-- the number to which a version refers
 abbrev pub number_at : Versions → ℕ → Option ℕ
 number_at versions v = slice_index_or versions v None
 
@@ -24,38 +24,39 @@ number_at versions v = slice_index_or versions v None
 abbrev pub shelf_at : Shelves → ℕ → Option DirectoryState
 shelf_at shelves d = slice_index_or shelves d None
 
--- the places of a directory, where there is one
+-- the leaves of a directory, if there is one
 abbrev pub places_in : Option DirectoryState → Option (List PlaceState)
 places_in shelf = option_map (λ (directory : DirectoryState). directory.places) shelf
 
--- the places of all directories
+-- the leaves of all directories
 abbrev pub places_of : Shelves → Directories
 places_of shelves = map places_in shelves
 
--- the directory that is named, where one is
+-- the directory with the number, if there is one
 abbrev pub directory_named : Shelves → Option ℕ → Option (List PlaceState)
 directory_named shelves None = None
 directory_named shelves (Some d) = directory_at (places_of shelves) d
 
--- at each version the directory that it names
+-- for each version its directory
 abbrev pub directories_named : Versions → Shelves → Directories
 directories_named versions shelves = map (directory_named shelves) versions
 
--- how often a version names the directory
+-- how often a version refers to the directory
 abbrev pub names_at : ℕ → Option ℕ → ℕ
 names_at d None = 0
 names_at d (Some number) = if d == number then 1 else 0
 
--- how many versions name the directory
+-- how many versions refer to the directory
 unfoldable pub names_of : ℕ → Versions → ℕ
 names_of d versions = sum_by (names_at d) versions
 
--- how many versions a directory says to be named by, where there is one
+-- the reference count of a directory, if there is one
 abbrev pub told_at : Option DirectoryState → ℕ
 told_at None = 0
 told_at (Some directory) = directory.versions
 
--- each directory is named by as many versions as it says, and by one at least; each version names a directory
+-- the reference count of each directory is the number of versions that refer to it, at least one; each version refers
+-- to a directory
 pub record AreShared (versions : Versions) (shelves : Shelves) : Type 0 where
   pub counted : (d : ℕ) → names_of d versions ≡ told_at (shelf_at shelves d)
   pub named : (d : ℕ) (directory : DirectoryState) → shelf_at shelves d ≡ Some directory → 0 < directory.versions

@@ -1,5 +1,5 @@
-//! A directory changed where it stands: pages of new entries are added, and then their places put in for old ones, by steps that cannot
-//! fail.
+//! Changes a directory in place, copy-on-write: adds leaf pages of new entries, then swaps their leaves in for old
+//! ones, by steps that cannot fail.
 ghost use Rattle.std.specs.Prelude.{◌≡◌, ◌+◌, ◌*◌, ◌<◌, ◌≤◌, ◌++◌, ◌∷◌, ℕ, List, [], true, length, take, drop, vec_capacity, vec_len, IfOk, OnErr, OnOk};
 ghost use Rattle.oai_catalogue.specs.Store.{Spares, Spends};
 ghost use Rattle.oai_item.specs.Item.{ItemState};
@@ -23,22 +23,24 @@ use oai_sums::SetNames;
 use std::alloc::{AllocError, Global};
 use std::rc::Rc;
 
-/// To how many pages the entries of one go at most where one more is put among them.
+/// The most pages to which the entries of one are split when an item is inserted.
 const MAX_PARTS: usize = 3;
 
-/// A change of a directory: so many places from `at` on are new, and stand in for those that are gone, whose pages are still named.
+/// A change of a directory: `len` leaves from `at` on are new, and replace those in `gone`, whose pages are still
+/// referenced.
 #[derive(Drop)]
 pub(crate) struct Changed {
-    /// Where the new places begin.
+    /// The position of the first new leaf.
     pub(crate) at: usize,
-    /// How many they are.
+    /// The number of new leaves.
     pub(crate) len: usize,
-    /// The places that are gone.
+    /// The replaced leaves.
     pub(crate) gone: Vec<SharedPlace>,
 }
 
-/// Puts pages of the entries, which are cut at these places, in the place of so many places from `at` on, at most three: three pages and the overflow
-/// pages of one item at most, and one at most where the entries fit on one. Any fault but `Damaged` may come; directory and pages are then as before.
+/// Adds pages of the entries, split at these cuts, and swaps their leaves in for `len` leaves from `at` on, at most
+/// three: at most three pages and the overflow pages of one item, and at most one if the entries fit on one. Any fault
+/// but `Damaged` may come; directory and pages are then unchanged.
 pub(crate) fn change<P: PagePool>(
     alloc: Global,
     pages: &mut P,
@@ -82,8 +84,8 @@ pub(crate) fn change<P: PagePool>(
     }
 }
 
-/// Takes a change back: the places that are gone stand where they stood, and the new ones are gone, with the names of their pages. It takes no
-/// memory and cannot fail.
+/// Undoes a change: the replaced leaves are back, the new ones are gone, and the references of their pages are dropped.
+/// It allocates nothing and cannot fail.
 pub(crate) fn undo<P: PagePool>(
     pages: &mut P,
     places: &mut Vec<SharedPlace>,
@@ -106,8 +108,8 @@ pub(crate) fn undo<P: PagePool>(
     drop_all(pages, others);
 }
 
-/// Adds the pages of the entries, which are cut at these places, and returns their places. Any fault but `Damaged` may come; the pages are then as
-/// before.
+/// Adds the pages of the entries, split at these cuts, and returns their leaves. Any fault but `Damaged` may come; the
+/// pages are then unchanged.
 fn add_all<P: PagePool>(
     alloc: Global,
     pages: &mut P,
@@ -132,8 +134,8 @@ fn add_all<P: PagePool>(
     }
 }
 
-/// Adds the pages of the entries, which are cut at these places, and puts their places behind the others. Any fault but `Damaged` may come; some of
-/// the pages are then added.
+/// Adds the pages of the entries, split at these cuts, and appends their leaves to the others. Any fault but `Damaged`
+/// may come; some of the pages are then added.
 fn add_parts<P: PagePool>(
     alloc: Global,
     pages: &mut P,
@@ -166,7 +168,7 @@ fn add_parts<P: PagePool>(
     add_part(alloc, pages, names, entries, cuts.second, len, near, added)
 }
 
-/// Adds the pages of the entries from the one place up to the other, where there are any, and puts their place behind the others. Any fault but
+/// Adds the pages of the entries in the range, if there are any, and appends their leaf to the others. Any fault but
 /// `Damaged` may come.
 fn add_part<P: PagePool>(
     alloc: Global,
@@ -200,8 +202,8 @@ fn add_part<P: PagePool>(
     Ok(())
 }
 
-/// Adds the pages of the entries from the one place up to the other, and returns their place. Any fault but `Damaged` may come; the pages are then as
-/// before.
+/// Adds the pages of the entries in the range, and returns their leaf. Any fault but `Damaged` may come; the pages are
+/// then unchanged.
 fn add_page<P: PagePool>(
     alloc: Global,
     pages: &mut P,
@@ -244,8 +246,8 @@ fn add_page<P: PagePool>(
     }
 }
 
-/// Prefixes of which the items from the one place up to the other each have a record. Where each has those of the place `near`, and the first no
-/// other, they are the list of that place, which takes no more memory. The error is out of memory.
+/// Prefixes with which each item in the range has a record. If each has those of the leaf `near`, and the first has no
+/// other, they are that leaf's list, shared without allocation. The error is out of memory.
 fn prefixes_near(
     alloc: Global,
     entries: &Entries,
@@ -268,8 +270,8 @@ fn prefixes_near(
     Ok(Rc::new(alloc, entries.prefixes(alloc, from, to)?)?)
 }
 
-/// Adds the pages of the entries from the one place up to the other, and returns their numbers. Any fault but `Damaged` may come; the pages are then
-/// as before.
+/// Adds the pages of the entries in the range, and returns their numbers. Any fault but `Damaged` may come; the pages
+/// are then unchanged.
 fn add_numbers<P: PagePool>(
     alloc: Global,
     pages: &mut P,
@@ -302,7 +304,7 @@ fn add_numbers<P: PagePool>(
     Ok(numbers)
 }
 
-/// Of what kind the pages of entries are that need so many overflow pages.
+/// The kind of the pages of entries with that many overflow pages.
 fn kind_for(overflow: usize) -> PageKind
     ensures { result ≡ kind_for overflow }
 {

@@ -13,13 +13,14 @@ use oai_pool::PagePool;
 use std::alloc::Global;
 use std::marker::Model;
 
-/// The places of the items of the versions that name it, in the order of the items.
+/// A page directory: the leaves of the items of the versions that refer to it, in the order of the items. A leaf is a
+/// page of items, and what is known of them without reading it.
 #[derive(Drop)]
 pub(crate) struct Directory {
     pub(crate) places: Vec<SharedPlace>,
-    /// What is known of places that follow one another.
+    /// Statistics of consecutive leaves.
     pub(crate) groups: Groups,
-    /// How many versions name it.
+    /// How many versions refer to it.
     pub(crate) versions: usize,
     ghost sound: { AreGroups places.items groups } by { Prim.hlevel group_props },
 }
@@ -33,7 +34,7 @@ impl Model for Directory {
 }
 
 impl Directory {
-    /// The directory of no items, which one version names. It takes no memory.
+    /// The directory of no items, to which one version refers. Allocates nothing.
     pub(crate) fn new(alloc: Global) -> Directory
         ensures { result ≡ record { places = []; versions = 1 } }
     {
@@ -44,8 +45,9 @@ impl Directory {
         }
     }
 
-    /// A copy, which one version names. The pages of its places, which are named, and none by two of them, are each named once more. `NoMemory`;
-    /// `TooManyPages`, where one is named 4,294,967,295 times. Each is then named as often as before.
+    /// A copy, to which one version refers. Increments the reference count of each page of its leaves; these are
+    /// referenced, and no two leaves share one. The errors: `NoMemory`; `TooManyPages` if a count is 4,294,967,295.
+    /// After an error each count is unchanged.
     pub(crate) fn copy<P: PagePool>(&self, alloc: Global, pages: &mut P) -> Result<Directory, Fault>
         requires named { (n : ℕ) → named_in self.now.places n ≤ count_of (P.counts pages.old) n }
         requires once { (n : ℕ) → named_in self.now.places n ≤ 1 }
@@ -66,21 +68,21 @@ impl Directory {
         }
     }
 
-    /// The places.
+    /// The leaves.
     pub(crate) fn places(&self) -> &[SharedPlace]
         ensures { result.now ≡ self.now.places }
     {
         self.places.as_slice()
     }
 
-    /// The groups of its places.
+    /// The groups of its leaves.
     pub(crate) fn groups(&self) -> &Groups
         ensures { AreGroups self.now.places result.now }
     {
         &self.groups
     }
 
-    /// Finds out what is not known of the groups of its places, as far as there is memory.
+    /// Rebuilds the missing statistics of the groups of its leaves, as far as memory is available.
     pub(crate) fn tend(&mut self, alloc: Global)
         ensures { self.new ≡ self.old }
     {

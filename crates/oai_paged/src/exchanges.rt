@@ -1,4 +1,4 @@
-//! Places of a directory exchanged for others, where they stand.
+//! Swaps leaves of a directory for others, in place.
 ghost use Rattle.std.specs.Prelude.{◌≡◌, ◌+◌, ◌-◌, ◌≤◌, ◌++◌, take, drop, vec_len, vec_capacity, OnOk};
 ghost use Rattle.oai_places.specs.declared.sizes.TheConstants.{MAX_REPLACED};
 
@@ -6,8 +6,8 @@ use oai_places::{MAX_REPLACED, SharedPlace};
 use std::alloc::AllocError;
 use std::mem;
 
-/// Makes the room in which `exchange` of at most three places for the others cannot fail, and neither can the exchange of
-/// these for those. The error is out of memory.
+/// Reserves the space in which `exchange` of at most three leaves for the others cannot fail, and neither can the
+/// exchange back. The error is out of memory.
 pub(crate) fn reserve(
     places: &mut Vec<SharedPlace>,
     others: &mut Vec<SharedPlace>,
@@ -24,8 +24,8 @@ pub(crate) fn reserve(
     others.reserve(MAX_REPLACED)
 }
 
-/// Puts the others in the place of so many places from `at` on, which are the others then. It takes no memory,
-/// and moves the places behind only where their number changes.
+/// Swaps `len` leaves from `at` on for the others, which are the old ones then. It allocates nothing, and moves the
+/// leaves behind only if the number of leaves changes.
 pub(crate) fn exchange(
     places: &mut Vec<SharedPlace>,
     at: usize,
@@ -53,7 +53,7 @@ pub(crate) fn exchange(
     }
 }
 
-/// Exchanges so many places from `at` on for as many others, the first ones.
+/// Swaps `count` leaves from `at` on for as many others, the first ones.
 fn swap_all(places: &mut Vec<SharedPlace>, at: usize, others: &mut Vec<SharedPlace>, count: usize)
     requires within { at + count ≤ vec_len places.old }
     requires others_within { count ≤ vec_len others.old }
@@ -71,7 +71,7 @@ fn swap_all(places: &mut Vec<SharedPlace>, at: usize, others: &mut Vec<SharedPla
     }
 }
 
-/// Puts the others from `from` on in before the place at `at`.
+/// Inserts the others from `from` on before the leaf at `at`.
 fn move_in(places: &mut Vec<SharedPlace>, at: usize, others: &mut Vec<SharedPlace>, from: usize)
     requires within { at ≤ vec_len places.old }
     requires others_within { from ≤ vec_len others.old }
@@ -90,7 +90,7 @@ fn move_in(places: &mut Vec<SharedPlace>, at: usize, others: &mut Vec<SharedPlac
     }
 }
 
-/// Takes so many places from `at` on out, and puts them behind the others.
+/// Removes `count` leaves from `at` on, and appends them to the others.
 fn move_out(places: &mut Vec<SharedPlace>, at: usize, count: usize, others: &mut Vec<SharedPlace>)
     requires within { at + count ≤ vec_len places.old }
     requires room { vec_len others.old + count ≤ vec_capacity others.old }

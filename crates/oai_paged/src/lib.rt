@@ -1,5 +1,5 @@
-//! Versions of the items of repositories on the pages of a pool: versions share the pages that they have in
-//! common, so that a frozen version copies no item, and a changed one only the pages that its change touches.
+//! Versions of the items of repositories on the pages of a pool. Versions share pages (copy-on-write): a snapshot
+//! copies no item, and a change only the pages that it touches.
 #![tactic(auto)]
 
 mod changes;

@@ -1,4 +1,4 @@
-//! What is left of a page, put on one page with the items of its neighbours, where all have room there.
+//! Merges what is left of a page with the items of its neighbours, if all fit on one page.
 ghost use Rattle.std.specs.Prelude.{◌≡◌, ◌+◌, ◌<◌, ◌≤◌, length, IsTrue};
 ghost use Rattle.oai_places.specs.Calls.{ReadsPages, returned};
 ghost use Rattle.oai_places.specs.Directory.{MayReplace, StandsIn, items_with_run};
@@ -7,7 +7,7 @@ use oai_places::{Entries, FULL_BYTES, SharedPlace, read_place};
 use oai_pool::PagePool;
 use std::alloc::Global;
 
-/// The entries of one page, and the places of a directory that it is to stand for: so many from `at` on.
+/// The entries of one page, and the leaves of a directory that it replaces: `len` from `at` on.
 #[derive(Drop)]
 pub(crate) struct Merged {
     pub(crate) at: usize,
@@ -15,15 +15,16 @@ pub(crate) struct Merged {
     pub(crate) entries: Entries,
 }
 
-/// Which neighbours of a place are to be on one page with it.
+/// Which neighbours of a leaf are merged with it.
 #[derive(Clone, Copy)]
 struct Neighbours {
     before: bool,
     behind: bool,
 }
 
-/// The entries, which are to stand for the place at `at`, with those of its neighbours, where all fill a page to nine tenths at most. Their pages are read
-/// only then; a neighbour whose page cannot be read, or for which memory is refused, stays as it is.
+/// The entries, which replace the leaf at `at`, with those of its neighbours, if together they fill at most nine tenths
+/// of a page. Their pages are read only then; a neighbour whose page cannot be read, or for which memory runs out, is
+/// not merged.
 pub(crate) fn merge<P: PagePool>(
     alloc: Global,
     pages: &mut P,
@@ -48,8 +49,8 @@ pub(crate) fn merge<P: PagePool>(
     with_behind(alloc, pages, places, two, neighbours.behind)
 }
 
-/// Which neighbours of the place at `at` have room with so many bytes on a page that is filled to nine tenths at most: both, or else the one before it, or
-/// else the one behind it. For no bytes both are wanted or none.
+/// Which neighbours of the leaf at `at` fit with `size` bytes on a page that is filled to nine tenths at most: both, or
+/// else the one before it, or else the one after it. For 0 bytes both or none.
 fn neighbours_of(places: &[SharedPlace], at: usize, size: usize) -> Neighbours
     requires { at < length places.now }
 {
@@ -77,7 +78,7 @@ fn neighbours_of(places: &[SharedPlace], at: usize, size: usize) -> Neighbours
     }
 }
 
-/// How many bytes the entries of the place have: more than any page has, where there is none, or it has overflow pages.
+/// The bytes of the leaf's entries: more than any page has, if there is no leaf, or it has overflow pages.
 fn bytes_of(place: Option<&SharedPlace>) -> usize {
     match place {
         Some(place) => {
@@ -91,7 +92,7 @@ fn bytes_of(place: Option<&SharedPlace>) -> usize {
     }
 }
 
-/// The same with the items of the place before, where that is wanted, and as far as it can be read and there is memory.
+/// The same with the items of the leaf before, if that is wanted, and as far as it can be read and memory is available.
 fn with_before<P: PagePool>(
     alloc: Global,
     pages: &mut P,
@@ -128,7 +129,7 @@ fn with_before<P: PagePool>(
     }
 }
 
-/// The same with the items of the place behind, where that is wanted, and as far as it can be read and there is memory.
+/// The same with the items of the leaf after, if that is wanted, and as far as it can be read and memory is available.
 fn with_behind<P: PagePool>(
     alloc: Global,
     pages: &mut P,

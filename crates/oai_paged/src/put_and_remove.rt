@@ -1,4 +1,4 @@
-//! Items put into a directory, and taken out.
+//! Inserts items into a directory, and removes them.
 ghost use Rattle.std.specs.Prelude.{◌≡◌, ◌+◌, ◌<◌, ◌≤◌, ℕ, [], true, length, take, drop, is_some, HoldsAt, vec_capacity, vec_len, IfOk, IfSome, IsTrue, OnErr, OnOk};
 ghost use Rattle.oai_catalogue.specs.Store.{Spends};
 ghost use Rattle.oai_item.specs.Encoding.{encoded};
@@ -20,8 +20,9 @@ use oai_sums::SetNames;
 use std::alloc::Global;
 use std::cmp::Ordering;
 
-/// Puts the item in, in place of the one of its datestamp and identifier where there is one. Its spelling has at most `MAX_ITEM_BYTES`. It reads one page
-/// at most and adds three, and the overflow pages of the item, at most. Any fault may come; directory and pages are then as before.
+/// Inserts the item, in place of the one with its datestamp and identifier if there is one. The encoded item has at
+/// most `MAX_ITEM_BYTES`. It reads at most one page and adds at most three, and the overflow pages of the item. Any
+/// fault may come; directory and pages are then unchanged.
 pub(crate) fn put<P: PagePool>(
     alloc: Global,
     pages: &mut P,
@@ -42,8 +43,9 @@ pub(crate) fn put<P: PagePool>(
     Ok(())
 }
 
-/// Takes the item of that datestamp, in seconds from 1970 on, and identifier out, and answers whether there was one. It reads three pages and adds one at
-/// most: where what is left of a page and the items of its neighbours fill one to nine tenths at most, they become one. Any fault may come; directory and pages are then as before.
+/// Removes the item with that datestamp, in seconds from 1970 on, and identifier; returns whether there was one. It
+/// reads at most three pages and adds at most one: if what is left of a page and the items of its neighbours together
+/// fill at most nine tenths of one, they are merged. Any fault may come; directory and pages are then unchanged.
 pub(crate) fn remove<P: PagePool>(
     alloc: Global,
     pages: &mut P,
@@ -70,9 +72,10 @@ pub(crate) fn remove<P: PagePool>(
     }
 }
 
-/// Takes the item of that datestamp, in seconds from 1970 on, and identifier out and puts the other item in, as `remove` and then `put` do, and answers
-/// whether there was one to take out. The spelling of the item has at most `MAX_ITEM_BYTES`. It reads four pages and adds four, and the overflow pages of
-/// the item, at most. Any fault may come; directory and pages are then as before.
+/// Removes the item with that datestamp, in seconds from 1970 on, and identifier and inserts the other item, as
+/// `remove` and then `put` do; returns whether there was one to remove. The encoded item has at most `MAX_ITEM_BYTES`.
+/// It reads at most four pages and adds at most four, and the overflow pages of the item. Any fault may come; directory
+/// and pages are then unchanged.
 pub(crate) fn replace<P: PagePool>(
     alloc: Global,
     pages: &mut P,
@@ -109,7 +112,8 @@ pub(crate) fn replace<P: PagePool>(
     }
 }
 
-/// Puts the item in; the pages of the places that are gone are still named. Any fault may come; directory and pages are then as before.
+/// Inserts the item; the pages of the replaced leaves are still referenced. Any fault may come; directory and pages are
+/// then unchanged.
 fn put_in<P: PagePool>(
     alloc: Global,
     pages: &mut P,
@@ -132,8 +136,8 @@ fn put_in<P: PagePool>(
     put_among(alloc, pages, names, places, groups, at, item)
 }
 
-/// Puts the item in among those of the place at `at`, which has one page, and to which it belongs. Any fault may come; directory and pages are then as
-/// before.
+/// Inserts the item among those of the leaf at `at`, which has one page, and to which it belongs. Any fault may come;
+/// directory and pages are then unchanged.
 fn put_among<P: PagePool>(
     alloc: Global,
     pages: &mut P,
@@ -155,8 +159,8 @@ fn put_among<P: PagePool>(
     change(alloc, pages, names, places, groups, at, 1, &entries, cuts)
 }
 
-/// Puts the item in beside the one of the place at `at`, which has overflow pages, and to which the item belongs, or in its place. Nothing is read. Any
-/// fault but `Damaged` may come; directory and pages are then as before.
+/// Inserts the item beside the one of the leaf at `at`, which has overflow pages, and to which the item belongs, or in
+/// its place. Nothing is read. Any fault but `Damaged` may come; directory and pages are then unchanged.
 fn put_by_long<P: PagePool>(
     alloc: Global,
     pages: &mut P,
@@ -178,8 +182,8 @@ fn put_by_long<P: PagePool>(
     }
 }
 
-/// Puts pages of the item alone in the place of so many places from `at` on, at most one, where it belongs. Any fault but `Damaged` may come; directory
-/// and pages are then as before.
+/// Adds pages of the item alone, and swaps their leaf in for `len` leaves from `at` on, at most one, where it belongs.
+/// Any fault but `Damaged` may come; directory and pages are then unchanged.
 fn put_alone<P: PagePool>(
     alloc: Global,
     pages: &mut P,
@@ -200,8 +204,8 @@ fn put_alone<P: PagePool>(
     change(alloc, pages, names, places, groups, at, len, &entries, cuts)
 }
 
-/// Takes the item of that datestamp, in seconds from 1970 on, and identifier out, if there is one; the pages that it was on are still named. It adds one
-/// page at most. Any fault may come; directory and pages are then as before.
+/// Removes the item with that datestamp, in seconds from 1970 on, and identifier, if there is one; the pages that it
+/// was on are still referenced. It adds at most one page. Any fault may come; directory and pages are then unchanged.
 fn take_out<P: PagePool>(
     alloc: Global,
     pages: &mut P,
@@ -224,8 +228,8 @@ fn take_out<P: PagePool>(
     take_out_among(alloc, pages, names, places, groups, at, stamp, identifier)
 }
 
-/// Takes the item out of those of the place at `at`, which has one page, and to which its datestamp and identifier belong. Any fault may come; directory
-/// and pages are then as before.
+/// Removes the item from those of the leaf at `at`, which has one page, and to which its datestamp and identifier
+/// belong. Any fault may come; directory and pages are then unchanged.
 fn take_out_among<P: PagePool>(
     alloc: Global,
     pages: &mut P,
@@ -250,8 +254,8 @@ fn take_out_among<P: PagePool>(
     }
 }
 
-/// Takes the place at `at` out, which has overflow pages, where its item is the one of that datestamp and identifier, which belong to it. It is not
-/// read. Any fault but `Damaged` may come; directory and pages are then as before.
+/// Removes the leaf at `at`, which has overflow pages, if its item is the one with that datestamp and identifier, which
+/// belong to it. It is not read. Any fault but `Damaged` may come; directory and pages are then unchanged.
 fn take_out_long<P: PagePool>(
     alloc: Global,
     pages: &mut P,
@@ -273,8 +277,9 @@ fn take_out_long<P: PagePool>(
     Ok(Some(changed))
 }
 
-/// Has one page of the entries stand for the place at `at`, or no page where there are none, and with them the items of its neighbours, where all fill a
-/// page to nine tenths at most. Any fault but `Damaged` may come; directory and pages are then as before.
+/// Replaces the leaf at `at` by one page of the entries, or by none if there are no entries, merged with the items of
+/// its neighbours if all fill at most nine tenths of a page. Any fault but `Damaged` may come; directory and pages are
+/// then unchanged.
 fn leave<P: PagePool>(
     alloc: Global,
     pages: &mut P,

@@ -26,17 +26,18 @@ use std::alloc::Global;
 /// A store of versions over a pool of pages on a device.
 pub type PagedVersions<D> = VersionsOver<Pool<D>>;
 
-/// A store of versions over the pages of a pool. A version names a directory of the pages that its items stand on; a frozen version
-/// names that of the version that it was made of. A change of a version whose directory others name too is made in a copy, which names the same
-/// pages. A change writes no page again: it adds new pages for those that it changes, and frees the old ones where no other directory names them.
+/// A store of versions over the pages of a pool. A version refers to a directory of the pages that hold its items; a
+/// snapshot refers to that of the version that it was made of. A change of a version whose directory is shared is made
+/// in a copy, which references the same pages. A change never writes a page again (copy-on-write): it adds new pages,
+/// and frees the old ones if no other directory references them.
 #[derive(Drop)]
 pub struct VersionsOver<P: PagePool + Drop> {
     alloc: Global,
     pool: P,
-    /// The setSpecs of the sets that the places count.
+    /// The setSpecs of the sets in the statistics of the leaves.
     names: SetNames,
     directories: Slab<Directory>,
-    /// The number of the directory that each version names.
+    /// The number of the directory of each version.
     versions: Slab<usize>,
     ghost shelved: { AreShelved (P.counts pool) (P.pages pool) (places_of directories.slots) } by { Prim.hlevel shelved_props },
     ghost shared: { AreShared versions.slots directories.slots } by { Prim.hlevel shelved_props },
@@ -68,7 +69,7 @@ impl<P: PagePool + Drop> Versions for VersionsOver<P> {
         let Some(directory) = self.directories.get_mut(number) else {
             unreachable!()
         };
-        // No more versions name a directory than there is room for, so the count fits.
+        // At most as many versions refer to a directory as the slab has capacity for, so the count fits.
         prove!(directory.versions < self.versions.capacity());
         directory.versions += 1;
         Ok(self.versions.insert_reserved(number) as u64)
@@ -228,8 +229,8 @@ impl<P: PagePool + Drop> Versions for VersionsOver<P> {
 impl<P: PagePool + Drop> VersionsOver<P> {
     ghost use Rattle.oai_paged.specs.Store.{IsOwn, directories_of, named_by, named_times, places_at, pool_of};
 
-    /// A store without versions, over a pool in which no page is named. It takes no memory. It has room for one call for each 68 pages that the
-    /// pool has room for.
+    /// A store without versions, over a pool in which no page is referenced. Allocates nothing. It has room for one
+    /// call for each 68 pages that the pool has room for.
     pub fn new(alloc: Global, pool: P) -> VersionsOver<P>
         requires { used_of (P.counts pool) ≡ 0 }
         ensures lists { ⟦<VersionsOver<P> as Versions>⟧.lists result ≡ no_lists }
@@ -248,9 +249,10 @@ impl<P: PagePool + Drop> VersionsOver<P> {
         }
     }
 
-    /// The pool. At most 65 times as many of its pages are named as the versions together hold items. Each item stands, spelled, on a page that is
-    /// named, or on one and its overflow pages, which are named too. The store has room for one call for each 68 pages that the pool has room for.
-    /// Where the page that is named most often can be named only fewer times more, the store has room for that many calls.
+    /// The pool. At most 65 times as many of its pages are referenced as the versions together hold items. Each item is
+    /// encoded on a referenced page, or on one and its overflow pages, which are referenced too. The store has room for
+    /// one call for each 68 pages that the pool has room for; or, if the page with the most references can have only
+    /// fewer more, for that many calls.
     pub fn pool(&self) -> &P
         ensures pool { result.now ≡ pool_of self.now }
         ensures room { ⟦<VersionsOver<P> as Versions>⟧.room self.now ≡ calls_left (P.room result.now) (P.counts result.now) }
@@ -262,7 +264,7 @@ impl<P: PagePool + Drop> VersionsOver<P> {
         &self.pool
     }
 
-    /// The number of the directory that the version names.
+    /// The number of the directory of the version.
     fn number_of(&self, v: u64) -> usize
         requires { IsSome (lists_on (P.pages (pool_of self.now)) (directories_of self.now) v) }
         ensures named { named_by self.now v ≡ Some result }
@@ -275,8 +277,8 @@ impl<P: PagePool + Drop> VersionsOver<P> {
         *number
     }
 
-    /// The number of the directory that the version names. Where others name it too, a copy of it is made, which the version then names alone. Any
-    /// fault of `Directory::copy`; each version then names the directory that it named.
+    /// The number of the directory of the version. If it is shared, a copy of it is made, which the version then has
+    /// alone. Any fault of `Directory::copy`; each version then keeps its directory.
     fn own(&mut self, v: u64) -> Result<usize, Fault>
         requires { IsSome (lists_on (P.pages (pool_of self.old)) (directories_of self.old) v) }
         ensures own { IfOk result (λ number. IsOwn v number self.old self.new) }
@@ -295,8 +297,8 @@ impl<P: PagePool + Drop> VersionsOver<P> {
         self.move_to_copy(v, number)
     }
 
-    /// Has the version name a copy of the directory of that number, which it names now and others too. Any fault of `Directory::copy`; each version then
-    /// names the directory that it named.
+    /// Gives the version a copy of the directory with that number, which it shares now. Any fault of `Directory::copy`;
+    /// each version then keeps its directory.
     fn move_to_copy(&mut self, v: u64, number: usize) -> Result<usize, Fault>
         requires named { named_by self.old v ≡ Some number }
         requires shared { 1 < named_times self.old number }

@@ -19,8 +19,8 @@ pub record ReadsPages {P A : Type 0} (g : Ghosts P) (result : Result A Fault) (o
   pub same : g.pages new ≡ g.pages old
   pub pool : Spends g.room g.failures g.honest 0 result old new
 
--- the pages that the places before named are named once less, and those that the places after name once more; a page that others
--- named too is as it was
+-- the pages that the places before named are named once less, and those that the places after name once more; a page
+-- that others named too is as it was
 pub record Renames {P : Type 0} (g : Ghosts P) (before after : List PlaceState) (old new : P) : Type 0 where
   pub counts : (n : ℕ) → count_of (g.counts new) n + named_in before n ≡ count_of (g.counts old) n + named_in after n
   pub kept : (n : ℕ) → named_in before n < count_of (g.counts old) n → g.pages new n ≡ g.pages old n

@@ -1,4 +1,5 @@
--- The entries of a page in memory. What public functions promise rests on `items_with`, `ends_from` and `ending_by`; all else is for private functions.
+-- The entries of a page in memory. The promises of public functions rest on `items_with`, `ends_from` and `ending_by`;
+-- all else is for private functions.
 use Rattle.std.specs.Prelude.{◌≡◌, ◌+◌, ◌≤◌, nat_le, ℕ, List, [], ◌∷◌, ◌++◌, length, drop, filter, Result, Ok, Err, ⊤}
 use Rattle.oai_item.specs.Encoding.{Spells, encoded}
 use Rattle.oai_item.specs.Item.{ItemState}
@@ -7,7 +8,7 @@ use Rattle.oai_item.specs.declared.decodings.DecodeFault.TheVariants.{Damaged, N
 use Rattle.oai_places.specs.Pages.{AreStorable, between, entries_of, entry_of, items_of_entries, size_of}
 use Rattle.oai_sums.specs.declared.spans.Span.{Span}
 
--- the items of entries, of which each ends at one of the numbers
+-- the items of entries, each of which ends at one of the numbers
 abbrev pub items_with : List ℕ → List ℕ → List ItemState
 items_with bytes ends = items_of_entries (length ends) bytes
 
@@ -22,25 +23,25 @@ pub record AreEntries (bytes ends : List ℕ) : Type 0 where
   pub ending : ends ≡ ends_from 0 (items_with bytes ends)
   pub storable : AreStorable (items_with bytes ends)
 
--- the first so many of the bytes are an entry
+-- the first that many bytes are an entry
 pub record HasEntry (bytes : List ℕ) (len : ℕ) : Type 0 where
   pub item : ItemState
   pub spelled : Spells (encoded item) item
   pub long : len ≡ length (entry_of item)
   pub parts : bytes ≡ entry_of item ++ drop len bytes
 
--- no entry stands in front of the bytes
+-- the bytes do not begin with an entry
 abbrev pub HasNoEntry : List ℕ → Type 0
 HasNoEntry bytes =
     (item : ItemState) (behind : List ℕ) → Spells (encoded item) item → ¬ (bytes ≡ entry_of item ++ behind)
 
--- what reading an entry in front of bytes answers: of how many bytes it is; or that there is none, unless memory was refused
+-- the result of reading the entry at the start of bytes: its length; or that there is none, unless memory ran out
 abbrev pub IsEntryReading : List ℕ → Result ℕ DecodeFault → Type 0
 IsEntryReading bytes (Ok len) = HasEntry bytes len
 IsEntryReading bytes (Err Damaged) = HasNoEntry bytes
 IsEntryReading bytes (Err NoMemory) = ⊤
 
--- so many entries stand in front of the bytes, which end at these numbers, and are of so many bytes together
+-- the bytes begin with that many entries, which end at these numbers, and have that many bytes together
 pub record HasEntries (bytes ends : List ℕ) (count size : ℕ) : Type 0 where
   pub items : List ItemState
   pub storable : AreStorable items
@@ -49,16 +50,16 @@ pub record HasEntries (bytes ends : List ℕ) (count size : ℕ) : Type 0 where
   pub parts : bytes ≡ entries_of items ++ drop size bytes
   pub ending : ends ≡ ends_from 0 items
 
--- a place among so many entries, from another one on or behind the last
+-- a position among that many entries, from another one on or after the last
 pub record IsPlaceFrom (from place len : ℕ) : Type 0 where
   pub above : from ≤ place
   pub within : place ≤ len
 
--- how many of the entries end within the first so many bytes
+-- how many of the entries end within the first that many bytes
 abbrev pub ending_by : ℕ → List ItemState → ℕ
 ending_by byte items = length (filter (λ end. nat_le end byte) (ends_from 0 items))
 
--- the span of the entry of the item at one place among those from another one on
+-- the span of the entry of the item at one position among those from another one on
 pub record IsSpanOfOne (from at : ℕ) (items : List ItemState) (span : Span) : Type 0 where
   pub from_byte : span.from ≡ size_of (between from at items)
   pub to_byte : span.to ≡ size_of (between from (at + 1) items)

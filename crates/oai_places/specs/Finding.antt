@@ -1,5 +1,5 @@
--- What is looked for on a page of which the entries were not tested, for private functions. All of it is said of the items whose page
--- the bytes are; where they are that of none, as they may be over a device that lies, nothing is said.
+-- What is looked for on a page whose entries were not validated, for private functions. The definitions speak of the
+-- items whose page the bytes are, and say nothing if there are none, as over a faulty device.
 use Rattle.std.specs.Prelude.{◌≡◌, ◌+◌, ℕ, ℤ, true, List, ◌++◌, length, Option, Some, None, Result, Ok, Err, ⊤}
 use Rattle.oai_item.specs.Item.{ItemState}
 use Rattle.oai_item.specs.Items.{item_at}
@@ -9,24 +9,26 @@ use Rattle.oai_item.specs.declared.decodings.DecodeFault.TheVariants.{Damaged, N
 use Rattle.oai_places.specs.Pages.{AreStorable, IsPage, entries_of}
 use denote.Ref.{Bor}
 
--- what parting the text from the bytes behind it answers: the text, and these
+-- the result of splitting the text from the remaining bytes: the text, and these
 abbrev pub IsTextParted : List ℕ → List ℕ → Option (Bor (List ℕ) × Bor (List ℕ)) → Type 0
 IsTextParted text behind (Some parts) = (parts.0.now ≡ text) × (parts.1.now ≡ behind)
 IsTextParted text behind None = ⊥
 
--- what reading bytes that spell the item answers: that item; or out of memory
+-- the result of decoding bytes that encode the item: that item; or out of memory
 abbrev pub IsItemRead : ItemState → Result (Option ItemState) DecodeFault → Type 0
 IsItemRead item (Ok read) = read ≡ Some item
 IsItemRead item (Err Damaged) = ⊥
 IsItemRead item (Err NoMemory) = ⊤
 
--- what looking for the item of that datestamp and identifier among the items answers: that item, or that there is none; or out of memory
+-- the result of looking for the item with that datestamp and identifier among the items: that item, or that there is
+-- none; or out of memory
 abbrev pub IsFinding : ℤ → List ℕ → List ItemState → Result (Option ItemState) DecodeFault → Type 0
 IsFinding stamp identifier items (Ok found) = found ≡ item_at stamp identifier items
 IsFinding stamp identifier items (Err Damaged) = ⊥
 IsFinding stamp identifier items (Err NoMemory) = ⊤
 
--- so many of the items are left, the last ones, with their entries in front of the bytes, and the item that is looked for is among them or is none
+-- that many of the items remain, the last ones, with their entries at the start of the bytes, and the wanted item is
+-- among them or does not exist
 pub record IsLeftToFind (stamp : ℤ) (identifier : List ℕ) (items : List ItemState) (left : ℕ) (rest : List ℕ) : Type 0 where
   pub later : List ItemState
   pub behind : List ℕ
@@ -36,7 +38,7 @@ pub record IsLeftToFind (stamp : ℤ) (identifier : List ℕ) (items : List Item
   pub storable : AreStorable later
   pub rising : are_in_order later ≡ true
 
--- behind so many entries of the page of any items these are the bytes, and the others are left
+-- after that many entries of a page of items these are the bytes, and the others remain
 abbrev pub IsSoughtBehind : ℤ → List ℕ → List ℕ → ℕ → List ℕ → Type 0
 IsSoughtBehind stamp identifier page passed rest =
     (items : List ItemState) (left : ℕ) → IsPage page items → left + passed ≡ length items → IsLeftToFind stamp identifier items left rest

@@ -1,4 +1,4 @@
--- What contracts see of the numbers that a place holds. No definition rests on this word.
+-- What contracts see of the numbers of a leaf. No definition rests on this word.
 use Rattle.std.specs.Prelude.{ℕ, List}
 use Rattle.oai_places.specs.declared.page_numbers.HeldNumbers.{HeldNumbers}
 use Rattle.oai_places.specs.declared.page_numbers.HeldNumbers.TheVariants as held

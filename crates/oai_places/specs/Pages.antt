@@ -1,4 +1,4 @@
--- How items are spelled on a page. This spelling is this repository's own, and no part of OAI-PMH.
+-- How items are encoded on a page. This encoding is this repository's own, and no part of OAI-PMH.
 use Rattle.std.specs.Prelude.{◌≡◌, ◌⊎◌, ◌&&◌, ◌+◌, ◌-◌, ◌/◌, ◌^◌, ◌<◌, ◌≤◌, nat_le, if◌then◌else◌, ℕ, zero, suc, ℤ, Bool, true, false, List, [], ◌∷◌, ◌++◌, length, take, drop, replicate, Option, None, Some, IsSome, Result, Ok, Err, ⊤}
 use Rattle.std.specs.List.{AllByRecursion, flat_map, list_all}
 use Rattle.std.specs.Int.{w32, from_be_bytes}
@@ -16,7 +16,7 @@ use Rattle.oai_places.specs.declared.sizes.TheConstants.{FRONT_BYTES, MAX_ENTRY_
 
 -- ---- how a page is written
 
--- the entry of an item: the number of bytes of its spelling, in four bytes, and these
+-- the entry of an item: the length of its encoding, in four bytes, and its encoding
 unfoldable pub entry_of : ItemState → List ℕ
 entry_of item = encoded_text (encoded item)
 
@@ -32,11 +32,11 @@ size_of items = length (entries_of items)
 unfoldable pub written : List ItemState → List ℕ
 written items = encoded_count (length items) ++ entries_of items
 
--- the page of items, with so many bytes behind their number: what is written of them, and zeros behind it
+-- the page of items, with that many bytes after their number: what is written of them, and zeros after it
 unfoldable pub page_spelling : ℕ → List ItemState → List ℕ
 page_spelling room items = written items ++ replicate (room - size_of items) 0
 
--- each item has a spelling that is read again
+-- each item has an encoding that can be decoded
 abbrev pub AreStorable : List ItemState → Type 0
 AreStorable items = AllByRecursion (λ item. Spells (encoded item) item) items
 
@@ -47,52 +47,52 @@ pub record FitPage (items : List ItemState) : Type 0 where
   pub storable : AreStorable items
   pub rising : are_in_order items ≡ true
 
--- the bytes are the page of these items. A page is longer than one of the device where it goes on on overflow pages
+-- the bytes are the page of these items. A page is longer than one of the device if it continues on overflow pages
 pub record IsPage (bytes : List ℕ) (items : List ItemState) : Type 0 where
   pub spelling : bytes ≡ page_spelling (length bytes - NUMBER_BYTES) items
   pub fit : FitPage items
 
--- what reading the items of a page answers: those whose page it is; or that it is the page of none
+-- the result of reading the items of a page: those whose page it is; or that it is the page of none
 abbrev pub IsPageReading : List ℕ → Result (List ItemState) DecodeFault → Type 0
 IsPageReading bytes (Ok items) = IsPage bytes items
 IsPageReading bytes (Err Damaged) = (items : List ItemState) → ¬ (IsPage bytes items)
 IsPageReading bytes (Err NoMemory) = ⊤
 
--- ---- overflow pages: where the page of items is longer than one of the device
+-- ---- overflow pages: if the page of items is longer than one of the device
 
--- the bytes, and zeros behind them up to the end of a page of the device
+-- the bytes, and zeros after them up to the end of a page of the device
 unfoldable pub filled : List ℕ → List ℕ
 filled bytes = bytes ++ replicate (PAGE_BYTES - length bytes) 0
 
--- the bytes on so many pages, one behind the other
+-- the bytes on that many pages, one after the other
 abbrev pub spread : ℕ → List ℕ → List (List ℕ)
 spread zero bytes = []
 spread (suc n) bytes = filled (take PAGE_BYTES bytes) ∷ spread n (drop PAGE_BYTES bytes)
 
--- the spelling of each item is short enough to stand whole in its entry
+-- each encoded item is short enough to fit in its entry
 unfoldable pub are_short : List ItemState → Bool
 are_short items = list_all (λ item. nat_le (length (encoded item)) MAX_WHOLE_BYTES) items
 
--- the items stand on one page, without overflow pages
+-- the items fit on one page, without overflow pages
 unfoldable pub fit_one : List ItemState → Bool
 fit_one items = nat_le (size_of items) MAX_ENTRY_BYTES && are_short items
 
--- how many overflow pages items need: as many as what is not in the front of the first page
+-- how many overflow pages items need: as many as what is not at the start of the first page
 unfoldable pub overflow_of : List ItemState → ℕ
 overflow_of items = if fit_one items then 0 else (size_of items + NUMBER_BYTES - FRONT_BYTES + (PAGE_BYTES - 1)) / PAGE_BYTES
 
--- the pages of items: one with all of them; or one with the front of their bytes, and overflow pages with the rest
+-- the pages of items: one with all of them; or one with the first of their bytes, and overflow pages with the rest
 unfoldable pub pages_of : List ItemState → List (List ℕ)
 pages_of items =
     if fit_one items then filled (written items) ∷ []
     else filled (take FRONT_BYTES (written items)) ∷ spread (overflow_of items) (drop FRONT_BYTES (written items))
 
--- of what kind the pages of items are that need so many overflow pages
+-- the kind of the pages of items with that many overflow pages
 abbrev pub kind_for : ℕ → PageKind
 kind_for zero = Items
 kind_for (suc n) = Bytes
 
--- the bytes of pages: those of one; or, of several, the front of the first and then the others
+-- the bytes of pages: those of one; or, of several, the first bytes of the first and then the others
 abbrev pub joined : List (List ℕ) → List ℕ
 joined [] = []
 joined (page ∷ []) = page
@@ -104,24 +104,24 @@ joined (page ∷ next ∷ others) = take FRONT_BYTES page ++ (next ++ flat_map (
 abbrev pub first_number : List ℕ → ℕ
 first_number bytes = from_be_bytes w32 (take 4 bytes)
 
--- the item, where there is one
+-- the item, if there is one
 abbrev pub as_list : Option ItemState → List ItemState
 as_list None = []
 as_list (Some item) = item ∷ []
 
--- the items of the first so many entries
+-- the items of the first that many entries
 abbrev pub items_of_entries : ℕ → List ℕ → List ItemState
 items_of_entries zero bytes = []
 items_of_entries (suc n) bytes =
     as_list (item_in (take (first_number bytes) (drop 4 bytes))) ++ items_of_entries n (drop (4 + first_number bytes) bytes)
 
--- the items of a page; nothing is said of bytes that are no page
+-- the items of a page; unspecified for bytes that are no page
 unfoldable pub items_in : List ℕ → List ItemState
 items_in bytes = items_of_entries (first_number bytes) (drop 4 bytes)
 
--- ---- how the entries of a page are parted
+-- ---- how the entries of a page are split
 
--- those from the one place up to the other
+-- those in the range
 unfoldable pub between : ℕ → ℕ → List ItemState → List ItemState
 between from to items = drop from (take to items)
 
@@ -130,12 +130,12 @@ abbrev pub begins_at : ℤ → List ℕ → List ItemState → Bool
 begins_at stamp identifier [] = false
 begins_at stamp identifier (item ∷ _) = is_at stamp identifier item
 
--- the items stand on one page, or are one, which may have overflow pages
+-- the items fit on one page, or are one, which may have overflow pages
 abbrev pub FitAlone : List ItemState → Type 0
 FitAlone items = (fit_one items ≡ true) ⊎ (length items ≡ 1)
 
--- cut at these places, the items go on three pages, of which those with no item are left out, and of which the second one may have
--- overflow pages, for one item; where all stand on one, that is the first
+-- split at these positions, the items go on three pages, without those that have no item; the second one may have
+-- overflow pages, for one item; if all fit on one, that is the first
 pub record AreCuts (items : List ItemState) (first second : ℕ) : Type 0 where
   pub first_below : first ≤ second
   pub second_below : second ≤ length items
@@ -144,7 +144,7 @@ pub record AreCuts (items : List ItemState) (first second : ℕ) : Type 0 where
   pub three : fit_one (between second (length items) items) ≡ true
   pub whole : fit_one items ≡ true → first ≡ length items
 
--- the items but that of a datestamp and identifier; or that none has these
+-- the items without that with a datestamp and identifier; or that none has these
 abbrev pub IsRemoval : ℤ → List ℕ → List ItemState → Option (List ItemState) → Type 0
 IsRemoval stamp identifier items (Some left) = IsSome (item_at stamp identifier items) × (left ≡ without_at stamp identifier items)
 IsRemoval stamp identifier items None = item_at stamp identifier items ≡ None

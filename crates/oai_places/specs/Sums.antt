@@ -1,4 +1,4 @@
--- What is known of the items of places that follow one another, and the groups of places of which it is known.
+-- Statistics of the items of consecutive leaves, and the groups of leaves that have them.
 use Rattle.std.specs.Prelude.{◌≡◌, ◌+◌, ◌<◌, ◌≤◌, int_le, ◌<ℤ◌, ◌≤ℤ◌, ◌++◌, ℕ, ℤ, Bool, zero, suc, true, List, length, take, drop, is_some, sum_by, Option, None, Some, option_map}
 use Rattle.std.specs.List.{AllByRecursion, list_all}
 use Rattle.oai_item.specs.Selection.{Filter}
@@ -7,8 +7,8 @@ use Rattle.oai_sums.specs.Sums.{SetTotal, counted_in}
 use Rattle.oai_places.specs.Parts.{EndsBy, IsKnown}
 use Rattle.oai_places.specs.Places.{PlaceState}
 
--- a sum: how many items there are, between which datestamps their places begin, prefixes of which each has a record, and how many are in each
--- set, where that is known
+-- a sum: how many items there are, between which datestamps their leaves begin, prefixes with which each has a record,
+-- and how many are in each set, if it is known
 pub record SumState : Type 0 where
   pub items : ℕ
   pub least : ℤ
@@ -21,16 +21,16 @@ abbrev pub counted_at : List ℕ → Option (List SetTotal) → ℕ
 counted_at set None = 0
 counted_at set (Some totals) = counted_in set totals
 
--- of each place it is known how many of its items are in each set, and together they are so many
+-- it is known of each leaf how many of its items are in each set, and together they are that many
 pub record AreTotals (totals : List SetTotal) (places : List PlaceState) : Type 0 where
   pub known : list_all (λ (place : PlaceState). is_some place.sets) places ≡ true
   pub numbers : (set : List ℕ) → sum_by (λ (place : PlaceState). counted_at set place.sets) places ≡ counted_in set totals
 
--- each of the places has each of the prefixes
+-- each of the leaves has each of the prefixes
 abbrev pub have_prefixes : List (List ℕ) → List PlaceState → Bool
 have_prefixes prefixes places = list_all (λ prefix. list_all (λ (place : PlaceState). is_among place.prefixes prefix) places) prefixes
 
--- the sum is that of the places
+-- the sum is that of the leaves
 pub record IsSum (sum : SumState) (places : List PlaceState) : Type 0 where
   pub items : sum_by (λ (place : PlaceState). place.len) places ≡ sum.items
   pub least : list_all (λ (place : PlaceState). int_le sum.least place.stamp) places ≡ true
@@ -38,12 +38,13 @@ pub record IsSum (sum : SumState) (places : List PlaceState) : Type 0 where
   pub prefixes : have_prefixes sum.prefixes places ≡ true
   pub sets : (totals : List SetTotal) → sum.sets ≡ Some totals → AreTotals totals places
 
--- how many items are known to be in the set, where one is given
+-- how many items are known to be in the set, if one is given
 abbrev pub known_in_sum : SumState → Option (List ℕ) → Option ℕ
 known_in_sum sum None = Some sum.items
 known_in_sum sum (Some set) = option_map (counted_in set) sum.sets
 
--- each item that is in the set, where one is given, is asked for, and stands behind that datestamp and identifier; the next places are these
+-- each item that is in the set, if one is given, passes the filter, and comes after that datestamp and identifier; the
+-- next leaves are these
 pub record IsSumInside (sum : SumState) (next : List PlaceState) (asked : Filter) (stamp : ℤ) (identifier : List ℕ) : Type 0 where
   pub lower : asked.lower ≤ℤ sum.least
   pub behind : stamp <ℤ sum.least
@@ -53,34 +54,35 @@ pub record IsSumInside (sum : SumState) (next : List PlaceState) (asked : Filter
 
 -- ---- groups
 
--- a group: the number of its first place, how many places there are, and their sum, where it is known
+-- a group: the position of its first leaf, how many leaves there are, and their sum, if it is known
 pub record GroupState : Type 0 where
   pub first : ℕ
   pub len : ℕ
   pub sum : Option SumState
 
--- what is known of the group is so
+-- what is known of the group is true
 abbrev pub IsSoundGroup : List PlaceState → GroupState → Type 0
 IsSoundGroup places group = (sum : SumState) → group.sum ≡ Some sum → IsSum sum (take group.len (drop group.first places))
 
--- what is known of the groups is so
+-- what is known of the groups is true
 abbrev pub AreGroups : List PlaceState → List GroupState → Type 0
 AreGroups places groups = AllByRecursion (IsSoundGroup places) groups
 
--- so many places were put in for those from `at` on
+-- that many leaves replaced those from `at` on
 pub record AreExchanged (at len count : ℕ) (before after : List PlaceState) : Type 0 where
   pub added : List PlaceState
   pub many : length added ≡ count
   pub within : at + len ≤ length before
   pub is : after ≡ take at before ++ (added ++ drop (at + len) before)
 
--- of the items of so many places from `at` on so many are known to be asked for, and to stand behind that datestamp and identifier
+-- of the items of that many leaves from `at` on, that many are known to pass the filter, and to come after that
+-- datestamp and identifier
 abbrev pub AreKnown : List PlaceState → Filter → ℤ → List ℕ → ℕ → ℕ → ℕ → Type 0
 AreKnown places asked stamp identifier at zero n = n ≡ 0
 AreKnown places asked stamp identifier at (suc len) n =
     (own : ℕ) × (rest : ℕ) × (n ≡ own + rest) × IsKnown places at asked stamp identifier own × AreKnown places asked stamp identifier (at + 1) len rest
 
--- some places from `at` on are passed over, of whose items so many are wanted
+-- some leaves from `at` on are skipped, of whose items that many are wanted
 pub record IsStretch (places : List PlaceState) (asked : Filter) (stamp : ℤ) (identifier : List ℕ) (at len n : ℕ) : Type 0 where
   pub some : 0 < len
   pub within : at + len ≤ length places

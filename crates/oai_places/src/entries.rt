@@ -188,9 +188,9 @@ impl Entries {
         Ok(item)
     }
 
-    /// The items, which fit on one page, with that one, whose spelling has at most `MAX_ITEM_BYTES` of oai_item, in place
-    /// of the one of its datestamp and identifier where there is one; and where the entries are cut: around the item,
-    /// where it needs overflow pages, or else as `cuts` says for the same `fills`. The error is out of memory.
+    /// The items, which fit on one page, with that one, whose spelling has at most `MAX_ITEM_BYTES` of oai_item, in
+    /// place of the one of its datestamp and identifier where there is one; and where the entries are cut: around the
+    /// item, where it needs overflow pages, or else as `cuts` says for the same `fills`. The error is out of memory.
     pub fn put(
         &self,
         alloc: Global,
@@ -249,7 +249,8 @@ impl Entries {
         self.size() <= MAX_ENTRY_BYTES && self.are_short()
     }
 
-    /// How many overflow pages the entries from the one place up to the other need, which stand on one page, or are one.
+    /// How many overflow pages the entries from the one place up to the other need, which stand on one page, or are
+    /// one.
     pub fn overflow(&self, from: usize, to: usize) -> usize
         requires some { from < to }
         requires within { to ≤ length self.now }
@@ -264,8 +265,9 @@ impl Entries {
         (size + NUMBER_BYTES - FRONT_BYTES + (PAGE_BYTES - 1)) / PAGE_BYTES
     }
 
-    /// Writes the page at that place among the pages of the entries from the one place up to the other, which stand on one
-    /// page, or are one: the page of the entries, and behind it the overflow pages. Nothing is left of what the page was.
+    /// Writes the page at that place among the pages of the entries from the one place up to the other, which stand on
+    /// one page, or are one: the page of the entries, and behind it the overflow pages. Nothing is left of what the
+    /// page was.
     pub fn fill_page(&self, from: usize, to: usize, at: usize, page: &mut Page)
         requires some { from < to }
         requires within { to ≤ length self.now }
@@ -336,9 +338,9 @@ impl Entries {
         all
     }
 
-    /// How many of the items from the one place up to the other are in each set, and where these stand, with setSpecs of
-    /// those names. Of where they stand nothing is promised where their entries have more than `MAX_ENTRY_BYTES` bytes
-    /// together. None where there are too many sets, or memory is refused.
+    /// How many of the items from the one place up to the other are in each set, and where these stand, with setSpecs
+    /// of those names. Of where they stand nothing is promised where their entries have more than `MAX_ENTRY_BYTES`
+    /// bytes together. None where there are too many sets, or memory is refused.
     pub fn set_counts(
         &self,
         alloc: Global,
@@ -391,7 +393,8 @@ impl Entries {
         Ok(Entries { bytes, ends })
     }
 
-    /// These entries and the others behind them, where all stand on one page, in their order; or else None, and where memory is refused.
+    /// These entries and the others behind them, where all stand on one page, in their order; or else None, and where
+    /// memory is refused.
     pub fn joined(&self, alloc: Global, others: &Entries) -> Option<Entries>
         ensures all { IfSome result (λ all. all ≡ self.now ++ others.now) }
         ensures one_page { IfSome result (λ all. fit_one all ≡ true) }

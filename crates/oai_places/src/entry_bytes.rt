@@ -84,8 +84,8 @@ pub(crate) fn first_number(bytes: &[u8]) -> usize
     u32::from_be_bytes(number) as usize
 }
 
-/// How many bytes the entry has that stands in front of the bytes. `Damaged` where none does; `NoMemory`, which is taken
-/// where its item is in many sets.
+/// How many bytes the entry has that stands in front of the bytes. `Damaged` where none does; `NoMemory`, which is
+/// taken where its item is in many sets.
 fn entry_len(alloc: Global, bytes: &[u8]) -> Result<usize, DecodeFault>
     ensures { IsEntryReading bytes.now result }
 {

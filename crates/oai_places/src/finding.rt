@@ -1,4 +1,4 @@
-//! An item that is looked for on a page, of which no other item is decoded.
+//! Looks for an item on a page, without decoding any other item.
 
 ghost use Rattle.std.specs.Prelude.{◌<◌, ◌≤◌, ◌≡◌, ◌==◌, ◌++◌, ◌^◌, ℕ, List, Some, length, IfSome};
 ghost use Rattle.oai_item.specs.Decoding.{item_in};
@@ -14,9 +14,9 @@ use oai_item::{DecodeFault, Item, order_of_spelling};
 use std::alloc::Global;
 use std::cmp::Ordering;
 
-/// The item of that datestamp, in seconds from 1970 on, and identifier of those of the page, or None. The entries in
-/// front of its own are passed over by their lengths, and it alone is decoded. `Damaged` only where the bytes are not
-/// the page of any items; `NoMemory`.
+/// The item with that datestamp, in seconds from 1970 on, and identifier on the page, or None. The entries before it
+/// are skipped by their lengths, and it alone is decoded. The errors: `Damaged` only if the bytes are not a page of
+/// items; `NoMemory`.
 pub(crate) fn find_on_page(
     alloc: Global,
     page: &[u8],
@@ -42,7 +42,7 @@ pub(crate) fn find_on_page(
     Ok(None)
 }
 
-/// Whether the page has so many items.
+/// Whether the page has that many items.
 pub(crate) fn has_items(page: &[u8], len: usize) -> bool
     requires { 4 ≤ length page.now }
     ensures { (items : List ItemState) → IsPage page.now items → result ≡ (length items == len) }
@@ -61,8 +61,8 @@ pub(crate) fn begins_on_page(page: &[u8], stamp: i64, identifier: &str) -> bool
     }
 }
 
-/// Whether the item that the bytes spell has this datestamp, in seconds from 1970 on, and identifier. Where they spell
-/// none, nothing is promised of the answer.
+/// Whether the item that the bytes encode has this datestamp, in seconds from 1970 on, and identifier. If they encode
+/// none, nothing is promised of the result.
 fn is_at(spelling: &[u8], stamp: i64, identifier: &str) -> bool
     ensures { (item : ItemState) → item_in spelling.now ≡ Some item → result ≡ is_at stamp identifier.now item }
 {
@@ -72,8 +72,8 @@ fn is_at(spelling: &[u8], stamp: i64, identifier: &str) -> bool
     }
 }
 
-/// The spelling in the entry in front of the bytes, and the bytes behind it, or None where there is no such entry. The
-/// spelling is not tested.
+/// The encoded item in the entry at the start of the bytes, and the remaining bytes, or None if there is no such entry.
+/// The encoding is not validated.
 pub(crate) fn first_entry(bytes: &[u8]) -> Option<(&[u8], &[u8])>
     ensures fewer { IfSome result (λ parts. length parts.1.now < length bytes.now) }
     ensures parts { (item : ItemState) (behind : List ℕ) → Spells (encoded item) item
@@ -82,8 +82,8 @@ pub(crate) fn first_entry(bytes: &[u8]) -> Option<(&[u8], &[u8])>
     first_text(bytes)
 }
 
-/// The text in front of the bytes, which stands behind its length, and the bytes behind it, or None where there is none.
-/// Any bytes are a text here.
+/// The text at the start of the bytes, which follows its length, and the remaining bytes, or None if there is none. Any
+/// bytes are a text here.
 pub(crate) fn first_text(bytes: &[u8]) -> Option<(&[u8], &[u8])>
     ensures fewer { IfSome result (λ parts. length parts.1.now < length bytes.now) }
     ensures parts { (text behind : List ℕ) → length text < 2 ^ 32
@@ -100,7 +100,7 @@ pub(crate) fn first_text(bytes: &[u8]) -> Option<(&[u8], &[u8])>
     Some(rest.split_at(len))
 }
 
-/// The item that was found, which the bytes spell. `Damaged` where they spell none; `NoMemory`.
+/// The item that was found, decoded from the bytes. The errors: `Damaged` if they encode none; `NoMemory`.
 fn found(alloc: Global, spelling: &[u8]) -> Result<Option<Item>, DecodeFault>
     ensures { (item : ItemState) → Spells spelling.now item → IsItemRead item result }
 {

@@ -1,4 +1,5 @@
-//! Groups of places of a directory that follow one another: what is known of the items of a group spares a look at each of its places.
+//! Groups of places of a directory that follow one another: what is known of the items of a group spares a look at each
+//! of its places.
 ghost use Rattle.std.specs.Prelude.{◌≡◌, ◌+◌, ◌<◌, ◌≤◌, List, [], None, length, drop, IfOk, IfSome, IsTrue};
 ghost use Rattle.oai_places.specs.Places.{PlaceState};
 ghost use Rattle.oai_places.specs.Sums.{AreExchanged, AreGroups, IsStretch, IsSoundGroup, IsSumInside};
@@ -35,8 +36,8 @@ impl Model for Group {
     ghost view = { λ g. record { first = g.first; len = g.len; sum = g.sum } };
 }
 
-/// Groups of the places of a directory that follow one another, in their order: of each, where it is known, how many items
-/// it has, of which datestamps and prefixes, and how many are in each set. A place may be in none.
+/// Groups of the places of a directory that follow one another, in their order: of each, where it is known, how many
+/// items it has, of which datestamps and prefixes, and how many are in each set. A place may be in none.
 #[derive(Drop)]
 pub struct Groups {
     groups: Vec<Group>,
@@ -89,8 +90,8 @@ impl Groups {
         Ok(Groups { groups })
     }
 
-    /// Forgets what is known of the groups of which one of the `len` places from `at` on was exchanged, in whose place `count` others stand now. The
-    /// groups behind are moved.
+    /// Forgets what is known of the groups of which one of the `len` places from `at` on was exchanged, in whose place
+    /// `count` others stand now. The groups behind are moved.
     pub fn exchange(&mut self, at: usize, len: usize, count: usize)
         ensures { (before after : List PlaceState) → AreExchanged at len count before after
             → AreGroups before self.old → AreGroups after self.new }
@@ -100,8 +101,8 @@ impl Groups {
         }
     }
 
-    /// Finds out what is not known of the groups, and makes groups of the places behind the last one, as far as there is memory. Where there are too many
-    /// groups, or one has too many places, all are made anew.
+    /// Finds out what is not known of the groups, and makes groups of the places behind the last one, as far as there
+    /// is memory. Where there are too many groups, or one has too many places, all are made anew.
     pub fn tend(&mut self, alloc: Global, places: &[SharedPlace])
         ensures { AreGroups places.now self.old → AreGroups places.now self.new }
     {
@@ -225,8 +226,8 @@ impl Group {
         })
     }
 
-    /// Forgets what is known of the group where so many places from `at` on were changed, some of them its own, for which so many others were put in:
-    /// they are places of the group in which the first of those stood.
+    /// Forgets what is known of the group where so many places from `at` on were changed, some of them its own, for
+    /// which so many others were put in: they are places of the group in which the first of those stood.
     fn exchange(&mut self, at: usize, len: usize, count: usize)
         ensures { (before after : List PlaceState) → AreExchanged at len count before after
             → IsSoundGroup before self.old → IsSoundGroup after self.new }
@@ -306,8 +307,8 @@ impl Group {
     }
 }
 
-/// Where the place at `first` stands behind a change of so many places from `at` on, for which so many others were put in; None where it is one of
-/// those that were changed, or stands before them.
+/// Where the place at `first` stands behind a change of so many places from `at` on, for which so many others were put
+/// in; None where it is one of those that were changed, or stands before them.
 fn place_after(first: usize, at: usize, len: usize, count: usize) -> Option<usize>
     ensures { IfSome result (λ new. (at + len ≤ first) × (new + len ≡ first + count)) }
 {
@@ -320,7 +321,8 @@ fn place_after(first: usize, at: usize, len: usize, count: usize) -> Option<usiz
     (first - len).checked_add(count)
 }
 
-/// Whether it is known that all items of the places of the sum are wanted that are in the set, where one is asked for. The next places are these.
+/// Whether it is known that all items of the places of the sum are wanted that are in the set, where one is asked for.
+/// The next places are these.
 fn is_inside(sum: &SharedSum, next: &[SharedPlace], wanted: Wanted<'_>) -> bool
     ensures { IsTrue result → IsSumInside sum.now next.now wanted.entry.filter.now wanted.entry.stamp wanted.entry.identifier.now }
 {

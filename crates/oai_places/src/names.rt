@@ -1,4 +1,4 @@
-//! The names that places give to the pages of a pool.
+//! The references of leaves to the pages of a pool.
 ghost use Rattle.std.specs.Prelude.{◌≡◌, ◌<◌, ◌≤◌, ℕ, [], OnErr, OnOk, IfErr, IfOk};
 ghost use Rattle.oai_catalogue.specs.Store.{Spares};
 ghost use Rattle.oai_item.specs.declared.faults.Fault.TheVariants as fault;
@@ -14,7 +14,7 @@ use oai_item::Fault;
 use oai_pool::{PageNo, PagePool};
 use std::alloc::Global;
 
-/// Names each page of the places once less, and lets the places go. It takes no memory and cannot fail.
+/// Drops the leaves and the references to their pages. It allocates nothing and cannot fail.
 pub fn drop_all<P: PagePool>(pages: &mut P, places: Vec<SharedPlace>)
     requires { (n : ℕ) → named_in places.items n ≤ count_of (P.counts pages.old) n }
     ensures names { Renames P.PagePool places.items [] pages.old pages.new }
@@ -25,7 +25,7 @@ pub fn drop_all<P: PagePool>(pages: &mut P, places: Vec<SharedPlace>)
     }
 }
 
-/// Names each of the pages once less. It takes no memory and cannot fail.
+/// Drops one reference to each of the pages. It allocates nothing and cannot fail.
 pub fn drop_numbers<P: PagePool>(pages: &mut P, numbers: &[PageNo])
     requires { (n : ℕ) → times n numbers.now ≤ count_of (P.counts pages.old) n }
     ensures names { Recounts P.PagePool numbers.now [] pages.old pages.new }
@@ -36,7 +36,7 @@ pub fn drop_numbers<P: PagePool>(pages: &mut P, numbers: &[PageNo])
     }
 }
 
-/// Keeps none of the pages in memory. It takes no memory and cannot fail.
+/// Drops the pages from memory. It allocates nothing and cannot fail.
 pub(crate) fn forget_all<P: PagePool>(pages: &mut P, numbers: &[PageNo])
     ensures { Forgets P.PagePool pages.old pages.new }
 {
@@ -45,8 +45,9 @@ pub(crate) fn forget_all<P: PagePool>(pages: &mut P, numbers: &[PageNo])
     }
 }
 
-/// A copy of each of the places, in order, whose pages, which are named, and none by two of them, are each named once more. `NoMemory`; `TooManyPages`,
-/// where one is named 4,294,967,295 times. Each is then named as often as before.
+/// A copy of each of the leaves, in order. Increments the reference count of each of their pages; these are referenced,
+/// and no two leaves share one. The errors: `NoMemory`; `TooManyPages` if a count is 4,294,967,295. After an error each
+/// count is unchanged.
 pub fn share_all<P: PagePool>(
     alloc: Global,
     pages: &mut P,
@@ -73,8 +74,8 @@ pub fn share_all<P: PagePool>(
     Ok(copies)
 }
 
-/// A copy of the place, whose pages, which are named, and none of them twice, are each named once more. `NoMemory`; `TooManyPages`, where one is named
-/// 4,294,967,295 times. Each is then named as often as before.
+/// A copy of the leaf. Increments the reference count of each of its pages, which are referenced and distinct. The
+/// errors: `NoMemory`; `TooManyPages` if a count is 4,294,967,295. After an error each count is unchanged.
 fn share_place<P: PagePool>(pages: &mut P, place: &SharedPlace) -> Result<SharedPlace, Fault>
     requires named { (n : ℕ) → times n place.now.pages ≤ count_of (P.counts pages.old) n }
     requires once { (n : ℕ) → times n place.now.pages ≤ 1 }
@@ -89,8 +90,8 @@ fn share_place<P: PagePool>(pages: &mut P, place: &SharedPlace) -> Result<Shared
     Ok(copy)
 }
 
-/// Names each of the pages, which are named, and none of them twice, once more. `TooManyPages`, where one is named 4,294,967,295
-/// times; each is then named as often as before.
+/// Increments the reference count of each of the pages, which are referenced and distinct. The error is `TooManyPages`
+/// if a count is 4,294,967,295; then each count is unchanged.
 fn share_numbers<P: PagePool>(pages: &mut P, numbers: &[PageNo]) -> Result<(), Fault>
     requires named { (n : ℕ) → times n numbers.now ≤ count_of (P.counts pages.old) n }
     requires once { (n : ℕ) → times n numbers.now ≤ 1 }

@@ -1,22 +1,22 @@
-//! The numbers of the pages of a place.
+//! The numbers of the pages of a leaf.
 ghost use Rattle.std.specs.Prelude.{◌≡◌, IfOk};
 
 use oai_pool::PageNo;
 use std::alloc::{AllocError, Global};
 use std::marker::Model;
 
-/// Numbers of pages, one or more. Nearly each place has one page: its number takes no memory of its own.
+/// Numbers of pages, one or more. Nearly each leaf has one page: its number is not allocated.
 #[derive(Drop)]
 pub(crate) struct PageNumbers {
     held: HeldNumbers,
 }
 
-/// How the numbers are held.
+/// How the numbers are stored.
 #[derive(Drop)]
 enum HeldNumbers {
-    /// One, where it stands.
+    /// One, inline.
     One([PageNo; 1]),
-    /// Any others, in memory of their own.
+    /// Any others, allocated.
     Several(Vec<PageNo>),
 }
 
@@ -30,7 +30,7 @@ impl Model for PageNumbers {
 }
 
 impl PageNumbers {
-    /// These numbers. The error is out of memory, which one number does not take.
+    /// These numbers. The error is out of memory, which one number does not need.
     pub(crate) fn new(alloc: Global, numbers: &[PageNo]) -> Result<PageNumbers, AllocError>
         ensures { IfOk result (λ own. own ≡ numbers.now) }
     {

@@ -147,8 +147,8 @@ fn sets_in(spelling: &[u8]) -> Option<&[u8]>
     }
 }
 
-/// Whether a setSpec of the list in front of the bytes may be that of the set, or lie below it: where one is or does, the
-/// answer is true.
+/// Whether a setSpec of the list in front of the bytes may be that of the set, or lie below it: where one is or does,
+/// the answer is true.
 fn may_have(bytes: &[u8], set: &str) -> bool
     ensures { (sets : List (List ℕ)) (behind : List ℕ) → length bytes.now < 2 ^ 32
         → bytes.now ≡ encoded_list encoded_text sets ++ behind → result ≡ false → is_in set.now sets ≡ false }
@@ -189,9 +189,9 @@ pub(crate) fn sparse_span(place: &SharedPlace, wanted: Wanted<'_>) -> Option<Spa
     Some(span)
 }
 
-/// Adds the wanted items of the place, of which those in the set stand within the span, after the first `skip` to the part,
-/// up to `most`, and answers how many are then left to be skipped. It reads the bytes of the span alone, and tests what may
-/// be in the set. Any fault but `TooManyPages`. Where it is `Damaged`, the page is not kept in memory.
+/// Adds the wanted items of the place, of which those in the set stand within the span, after the first `skip` to the
+/// part, up to `most`, and answers how many are then left to be skipped. It reads the bytes of the span alone, and
+/// tests what may be in the set. Any fault but `TooManyPages`. Where it is `Damaged`, the page is not kept in memory.
 pub(crate) fn pick_at<P: PagePool>(
     alloc: Global,
     pages: &mut P,
@@ -219,8 +219,8 @@ pub(crate) fn pick_at<P: PagePool>(
     }
 }
 
-/// Adds the wanted items of the place, of which those in the set stand within the span, after the first `skip` to the part,
-/// up to `most`, and answers how many are then left to be skipped. Any fault but `TooManyPages`.
+/// Adds the wanted items of the place, of which those in the set stand within the span, after the first `skip` to the
+/// part, up to `most`, and answers how many are then left to be skipped. Any fault but `TooManyPages`.
 fn pick_in<P: PagePool>(
     alloc: Global,
     pages: &mut P,
@@ -247,7 +247,8 @@ fn pick_in<P: PagePool>(
     }
 }
 
-/// The bytes of the entries of the span, on the page of that number, which is named. Any fault but `Damaged` and `TooManyPages`.
+/// The bytes of the entries of the span, on the page of that number, which is named. Any fault but `Damaged` and
+/// `TooManyPages`.
 fn read_span<P: PagePool>(
     alloc: Global,
     pages: &mut P,

@@ -11,7 +11,7 @@ use std::cmp::Ordering;
 use std::marker::Model;
 use std::rc::Rc;
 
-/// Where items that follow one another stand, and what is known of them without reading their page.
+/// A leaf: where consecutive items are stored, and what is known of them without reading their page.
 #[derive(Drop)]
 struct Place {
     pages: PageNumbers,
@@ -19,9 +19,9 @@ struct Place {
     identifier: Identifier,
     len: usize,
     size: usize,
-    /// Many places have the same: these have one list in common, so that it is at hand where many are asked.
+    /// Many leaves have the same: these share one list, which is then in the processor's cache when many are tested.
     prefixes: Rc<Sequence<Prefix>>,
-    /// None where the sets were too many, or memory was refused.
+    /// None if there were too many sets, or memory ran out.
     sets: Option<PackedCounts>,
 }
 
@@ -41,7 +41,7 @@ impl Model for Place {
     } };
 }
 
-/// A place that the directories of several versions may have in common: a copy of it takes no memory of its own.
+/// A leaf that the directories of several versions may share: a copy of it allocates nothing.
 #[derive(Drop)]
 pub struct SharedPlace {
     place: Rc<Place>,
@@ -56,9 +56,9 @@ impl Model for SharedPlace {
 }
 
 impl SharedPlace {
-    /// The place of so many items on the pages of these numbers, of which the first item has this datestamp, in seconds
-    /// from 1970 on, and identifier, and each has a record of each of the prefixes. Their entries have `size` bytes, and so many are in each set,
-    /// where that is known. The error is out of memory.
+    /// The leaf of that many items on the pages with these numbers. The first item has this datestamp, in seconds from
+    /// 1970 on, and identifier, and each has a record with each of the prefixes. Their entries have `size` bytes, and
+    /// that many are in each set, if it is known. The error is out of memory.
     pub fn new(
         alloc: Global,
         pages: &[PageNo],
@@ -93,7 +93,7 @@ impl SharedPlace {
         })
     }
 
-    /// A copy of the place, which is counted. The error is out of memory, where no more copies can be counted.
+    /// A reference-counted copy of the leaf. The error is out of memory, if the count would overflow.
     pub(crate) fn copy(&self) -> Result<SharedPlace, AllocError>
         ensures { IfOk result (λ copy. copy ≡ self.now) }
     {
@@ -102,7 +102,7 @@ impl SharedPlace {
         })
     }
 
-    /// The numbers of its pages: that of the page of its entries, and behind it those of its overflow pages.
+    /// The numbers of its pages: that of the page of its entries, then those of its overflow pages.
     pub(crate) fn pages(&self) -> &[PageNo]
         ensures { result.now ≡ self.now.pages }
     {
@@ -144,21 +144,21 @@ impl SharedPlace {
         self.place.size
     }
 
-    /// The prefixes of which each item is known to have a record: a list that other places may have too.
+    /// The prefixes with which each item is known to have a record: a list that other leaves may share.
     pub fn prefixes(&self) -> &Rc<Sequence<Prefix>>
         ensures { result.now.value ≡ self.now.prefixes }
     {
         &self.place.prefixes
     }
 
-    /// Whether the prefix is one of those of which each item is known to have a record.
+    /// Whether the prefix is one of those with which each item is known to have a record.
     pub(crate) fn has_prefix(&self, prefix: &str) -> bool
         ensures { result ≡ is_among self.now.prefixes prefix.now }
     {
         is_among(self.place.prefixes.as_slice(), prefix)
     }
 
-    /// How many items are in the set, where one is given, or else how many there are; None where that is not known.
+    /// How many items are in the set, if one is given, or else how many there are; None if it is not known.
     pub(crate) fn items_in(&self, set: &Option<SetSpec>) -> Option<usize>
         ensures { result ≡ known_in self.now set.now }
     {
@@ -171,7 +171,7 @@ impl SharedPlace {
         }
     }
 
-    /// Within which span of the entries those stand that are in the set, where one is given, and that is known.
+    /// Within which span of the entries those are that are in the set, if one is given, and it is known.
     pub(crate) fn span_in(&self, set: &Option<SetSpec>) -> Option<Span>
         ensures { result ≡ span_at self.now set.now }
     {
@@ -181,14 +181,14 @@ impl SharedPlace {
         }
     }
 
-    /// How many items are in each set, where that is known.
+    /// How many items are in each set, if it is known.
     pub(crate) fn sets(&self) -> Option<&PackedCounts>
         ensures { option_copied result ≡ self.now.sets }
     {
         self.place.sets.as_ref()
     }
 
-    /// How the first item stands to this datestamp, in seconds from 1970 on, and identifier.
+    /// Compares the first item with this datestamp, in seconds from 1970 on, and identifier.
     pub fn order_to(&self, stamp: i64, identifier: &str) -> Ordering
         ensures { result ≡ first_cmp self.now stamp identifier.now }
     {

@@ -36,8 +36,8 @@ use oai_time::LAST_SECOND;
 use std::alloc::{AllocError, Global};
 use std::cmp::Ordering;
 
-/// What is asked of a directory: the items that pass the filter, of those that stand behind a datestamp, in seconds from
-/// 1970 on, and an identifier.
+/// What is asked of a directory: the items that pass the filter, of those that stand behind a datestamp, in seconds
+/// from 1970 on, and an identifier.
 #[derive(Clone, Copy)]
 pub(crate) struct Wanted<'a> {
     /// What the items pass.
@@ -80,8 +80,8 @@ fn read_page<P: PagePool>(alloc: Global, pages: &mut P, no: PageNo) -> Result<En
     }
 }
 
-/// The entry that goes on on overflow pages, of which these are the numbers, the first that of the page of the entry. All are named. Any fault but
-/// `TooManyPages`.
+/// The entry that goes on on overflow pages, of which these are the numbers, the first that of the page of the entry.
+/// All are named. Any fault but `TooManyPages`.
 fn read_long<P: PagePool>(
     alloc: Global,
     pages: &mut P,
@@ -146,8 +146,8 @@ fn read_more<P: PagePool>(pages: &mut P, no: PageNo, bytes: &mut Vec<u8>) -> Res
     }
 }
 
-/// The entries on the pages of these numbers, which are named: those of a page, or the one that goes on on overflow pages. Any fault but
-/// `TooManyPages`.
+/// The entries on the pages of these numbers, which are named: those of a page, or the one that goes on on overflow
+/// pages. Any fault but `TooManyPages`.
 fn read_entries<P: PagePool>(
     alloc: Global,
     pages: &mut P,
@@ -167,7 +167,8 @@ fn read_entries<P: PagePool>(
     read_page(alloc, pages, numbers[0])
 }
 
-/// The entries of a place. Any fault but `TooManyPages`. Where it is `Damaged`, none of the pages of the place is kept in memory.
+/// The entries of a place. Any fault but `TooManyPages`. Where it is `Damaged`, none of the pages of the place is kept
+/// in memory.
 pub fn read_place<P: PagePool>(
     alloc: Global,
     pages: &mut P,
@@ -236,8 +237,8 @@ fn are_below(entries: &Entries, places: &[SharedPlace]) -> bool
     }
 }
 
-/// The item of that datestamp, in seconds from 1970 on, and identifier, or None. It reads one page, and the overflow pages of an item that it
-/// returns, and decodes no other item. Any fault but `TooManyPages`.
+/// The item of that datestamp, in seconds from 1970 on, and identifier, or None. It reads one page, and the overflow
+/// pages of an item that it returns, and decodes no other item. Any fault but `TooManyPages`.
 pub fn find<P: PagePool>(
     alloc: Global,
     pages: &mut P,
@@ -267,8 +268,8 @@ pub fn find<P: PagePool>(
     }
 }
 
-/// The item of that datestamp, in seconds from 1970 on, and identifier of those of the place, which has one page, or None. Any fault but
-/// `TooManyPages`. Where it is `Damaged`, the page is not kept in memory.
+/// The item of that datestamp, in seconds from 1970 on, and identifier of those of the place, which has one page, or
+/// None. Any fault but `TooManyPages`. Where it is `Damaged`, the page is not kept in memory.
 fn find_at<P: PagePool>(
     alloc: Global,
     pages: &mut P,
@@ -292,7 +293,8 @@ fn find_at<P: PagePool>(
     }
 }
 
-/// Where the fault is `Damaged`, none of the pages of the place is kept in memory, so that each is read from the device again.
+/// Where the fault is `Damaged`, none of the pages of the place is kept in memory, so that each is read from the device
+/// again.
 pub(crate) fn forget_damaged<P: PagePool>(pages: &mut P, place: &SharedPlace, fault: Fault)
     ensures { Forgets P.PagePool pages.old pages.new }
 {
@@ -301,8 +303,8 @@ pub(crate) fn forget_damaged<P: PagePool>(pages: &mut P, place: &SharedPlace, fa
     }
 }
 
-/// The item of that datestamp, in seconds from 1970 on, and identifier of those of the place, which has one page, or None. Any fault but
-/// `TooManyPages`.
+/// The item of that datestamp, in seconds from 1970 on, and identifier of those of the place, which has one page, or
+/// None. Any fault but `TooManyPages`.
 fn find_in<P: PagePool>(
     alloc: Global,
     pages: &mut P,
@@ -334,8 +336,8 @@ fn find_in<P: PagePool>(
     }
 }
 
-/// Whether the place has one item alone, which goes on on overflow pages, and that is not the one of this datestamp, in seconds from 1970 on, and
-/// identifier.
+/// Whether the place has one item alone, which goes on on overflow pages, and that is not the one of this datestamp, in
+/// seconds from 1970 on, and identifier.
 fn is_other(place: &SharedPlace, stamp: i64, identifier: &str) -> bool
     ensures { IsTrue result → (1 < length place.now.pages) × (is_eq (first_cmp place.now stamp identifier.now) ≡ false) }
 {
@@ -345,8 +347,9 @@ fn is_other(place: &SharedPlace, stamp: i64, identifier: &str) -> bool
     false
 }
 
-/// How many items pass the filter. It reads the pages of those places only that are partly within the bounds, or of whose items it is not known that they
-/// have the prefix, or how many are in the set that is asked for. Any fault but `TooManyPages`.
+/// How many items pass the filter. It reads the pages of those places only that are partly within the bounds, or of
+/// whose items it is not known that they have the prefix, or how many are in the set that is asked for. Any fault but
+/// `TooManyPages`.
 pub fn count<P: PagePool>(
     alloc: Global,
     pages: &mut P,
@@ -364,8 +367,9 @@ pub fn count<P: PagePool>(
     count_wanted(alloc, pages, places, groups, Wanted::all(filter))
 }
 
-/// Of the items that pass the filter, in their order, those after the first `skip`, at most `most` of them. It passes over places by the number of their
-/// items, and reads the pages of the items that it answers. Any fault but `TooManyPages`.
+/// Of the items that pass the filter, in their order, those after the first `skip`, at most `most` of them. It passes
+/// over places by the number of their items, and reads the pages of the items that it answers. Any fault but
+/// `TooManyPages`.
 pub fn part<P: PagePool>(
     alloc: Global,
     pages: &mut P,
@@ -392,8 +396,9 @@ pub fn part<P: PagePool>(
     )
 }
 
-/// Of the items that pass the filter, in their order, those that stand behind this datestamp, in seconds from 1970 on, and identifier, at most `most` of
-/// them. It begins with a search, and reads the pages of the items that it answers. Any fault but `TooManyPages`.
+/// Of the items that pass the filter, in their order, those that stand behind this datestamp, in seconds from 1970 on,
+/// and identifier, at most `most` of them. It begins with a search, and reads the pages of the items that it answers.
+/// Any fault but `TooManyPages`.
 pub fn part_after<P: PagePool>(
     alloc: Global,
     pages: &mut P,
@@ -533,7 +538,8 @@ fn known_at(places: &[SharedPlace], at: usize, wanted: Wanted<'_>) -> Option<usi
     None
 }
 
-/// Whether it is known without reading its page that all items of the place are wanted that are in the set, where one is asked for.
+/// Whether it is known without reading its page that all items of the place are wanted that are in the set, where one
+/// is asked for.
 fn is_inside(places: &[SharedPlace], at: usize, wanted: Wanted<'_>) -> bool
     requires { at < length places.now }
     ensures { IsTrue result → IsInside places.now at wanted.entry.filter.now wanted.entry.stamp wanted.entry.identifier.now }
@@ -552,8 +558,8 @@ fn is_inside(places: &[SharedPlace], at: usize, wanted: Wanted<'_>) -> bool
     ends_by(&places[at + 1..], filter.upper)
 }
 
-/// Whether it is known without reading its pages that no item of the place is wanted: it has one alone, which goes on on overflow pages, and that stands
-/// before the lower bound, or not behind the datestamp and identifier.
+/// Whether it is known without reading its pages that no item of the place is wanted: it has one alone, which goes on
+/// on overflow pages, and that stands before the lower bound, or not behind the datestamp and identifier.
 fn is_outside(places: &[SharedPlace], at: usize, wanted: Wanted<'_>) -> bool
     requires { at < length places.now }
     ensures { IsTrue result → IsOutside places.now at wanted.entry.filter.now wanted.entry.stamp wanted.entry.identifier.now }
@@ -579,7 +585,8 @@ pub(crate) fn ends_by(places: &[SharedPlace], upper: i64) -> bool
     }
 }
 
-/// How many items are wanted of some places from `at` on: those of a group, where that is known of it, or else one place.
+/// How many items are wanted of some places from `at` on: those of a group, where that is known of it, or else one
+/// place.
 fn count_from<P: PagePool>(
     alloc: Global,
     pages: &mut P,
@@ -690,8 +697,8 @@ fn passes(item: &Spelling<'_>, filter: &Filter) -> bool
     )
 }
 
-/// Adds the wanted items of some places from `at` on after the first `skip` to the part, up to `most`, and answers how many are then left to be skipped:
-/// those of a group that is passed over, or else one place.
+/// Adds the wanted items of some places from `at` on after the first `skip` to the part, up to `most`, and answers how
+/// many are then left to be skipped: those of a group that is passed over, or else one place.
 fn take_from<P: PagePool>(
     alloc: Global,
     pages: &mut P,
@@ -726,7 +733,8 @@ fn take_from<P: PagePool>(
     Ok(PartStep { places: 1, left })
 }
 
-/// Adds the wanted items of the place after the first `skip` to the part, up to `most`, and answers how many are then left to be skipped.
+/// Adds the wanted items of the place after the first `skip` to the part, up to `most`, and answers how many are then
+/// left to be skipped.
 fn take_at<P: PagePool>(
     alloc: Global,
     pages: &mut P,

@@ -3,8 +3,8 @@ ghost use Rattle.oai_places.specs.Searches.{BelongsAt};
 use crate::places::SharedPlace;
 use std::cmp::Ordering;
 
-/// To which place this datestamp, in seconds from 1970 on, and identifier belong: the last one whose first item does not
-/// stand behind them, or else the first. Of n places it looks at about log n.
+/// The leaf to which this datestamp, in seconds from 1970 on, and identifier belong: the last one whose first item does
+/// not come after them, or else the first. Binary search, O(log n).
 pub fn place_of(places: &[SharedPlace], stamp: i64, identifier: &str) -> usize
     ensures { BelongsAt places.now stamp identifier.now result }
 {

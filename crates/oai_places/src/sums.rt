@@ -54,7 +54,8 @@ impl Model for SharedSum {
 }
 
 impl SharedSum {
-    /// The sum of the places. None where their items are too many to be counted, where they do not stand in order, or memory is refused.
+    /// The sum of the places. None where their items are too many to be counted, where they do not stand in order, or
+    /// memory is refused.
     pub(crate) fn of(alloc: Global, places: &[SharedPlace]) -> Option<SharedSum>
         ensures { IfSome result (λ sum. IsSum sum places.now) }
     {
@@ -180,7 +181,8 @@ fn each_has(places: &[SharedPlace], prefix: &str) -> bool
     places.iter().all(|place| place.has_prefix(prefix))
 }
 
-/// How many items of the places are in each set. None where that is not known of each place, where there are too many sets, or memory is refused.
+/// How many items of the places are in each set. None where that is not known of each place, where there are too many
+/// sets, or memory is refused.
 fn sets_of(alloc: Global, places: &[SharedPlace]) -> Option<PackedCounts>
     ensures { IfSome result (λ totals. AreTotals totals places.now) }
 {

@@ -1,14 +1,14 @@
--- The numbers of a pool: how often each is named, and which are free to be given again. For its private functions.
+-- The numbers of a pool: the reference count of each, and which are free to be reused. For its private functions.
 use Rattle.std.specs.Prelude.{◌-◌, ◌==◌, ℕ, Bool, List, length, count_by, slice_index_or}
 
--- how often the number stands among the numbers
+-- how often the number occurs among the numbers
 unfoldable pub times : ℕ → List ℕ → ℕ
 times n numbers = count_by (λ k. n == k) numbers
 
--- the number was given once and is named no more
+-- the number was used once and is no longer referenced
 unfoldable pub is_free : List ℕ → ℕ → Bool
 is_free counts n = slice_index_or counts n 1 == 0
 
--- the number that is given next: the last one that is free, or one that was never given
+-- the number that is used next: the last one that is free, or one that was never used
 unfoldable pub number_to_give : List ℕ → List ℕ → ℕ
 number_to_give counts free = slice_index_or free (length free - 1) (length counts)

@@ -1,4 +1,4 @@
--- What is seen of a pool.
+-- What clauses see of a pool.
 use Rattle.oai_device.specs.declared.devices.PageDevice.{Ghosts}
 use Rattle.oai_pool.specs.declared.pool.Pool.{Pool}
 

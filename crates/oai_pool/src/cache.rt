@@ -9,7 +9,7 @@ use std::alloc::{AllocError, AllocFailed, Global};
 use std::num::NonZeroUsize;
 use std::rc::Rc;
 
-/// The pages that were used last, at most so many.
+/// The most recently used pages, at most `size`.
 #[derive(Drop)]
 pub struct PageCache {
     pages: LruCache<u32, KeptPage>,
@@ -20,7 +20,7 @@ impl PageCache {
     ghost use Rattle.oai_pool.specs.Held.{held};
     ghost use Rattle.oai_pool.specs.Kinds.{is_of};
 
-    /// A cache of at most `size` pages, which holds none.
+    /// An empty cache of at most `size` pages. The error is out of memory.
     pub fn new(alloc: Global, size: NonZeroUsize) -> Result<PageCache, AllocError>
         ensures size { IfOk result (λ cache. cache.pages.cap ≡ non_zero_usize_get size) }
         ensures empty { IfOk result (λ cache. (n : ℕ) → held cache n ≡ None) }
@@ -29,8 +29,8 @@ impl PageCache {
         Ok(PageCache { pages })
     }
 
-    /// The page of that number, where the cache holds it, it is known to be of that kind, and it can be
-    /// shared once more.
+    /// The page with that number, if it is cached, it is known to be of that kind, and its `Rc` can be cloned once
+    /// more.
     pub fn find(&mut self, no: u32, kind: PageKind) -> Option<Rc<Page>>
         ensures found { IfSome result (λ page. held self.old no ≡ Some page.value) }
         ensures tested { IfSome result (λ page. is_of kind page.value ≡ true) }
@@ -43,9 +43,8 @@ impl PageCache {
         }
     }
 
-    /// Holds the page, which is known to be of that kind, under that number. Where there is no room another
-    /// page, the one that was used longest ago, leaves; where memory is refused, this one is not held.
-    /// Answers the page that is not held.
+    /// Caches the page, which is known to be of that kind, under that number. If the cache is full, the least recently
+    /// used page is evicted; out of memory, this one is not cached. Returns the page that is not in the cache.
     pub fn keep(&mut self, no: u32, page: Rc<Page>, kind: PageKind) -> Option<Rc<Page>>
         requires { is_of kind page.value ≡ true }
         ensures this { (bytes : List ℕ) → held self.new no ≡ Some bytes
@@ -58,7 +57,7 @@ impl PageCache {
         left_over(self.pages.push(no, kept))
     }
 
-    /// Holds no page under that number. Answers the one that it held.
+    /// Removes the page with that number from the cache, and returns it.
     pub fn forget(&mut self, no: u32) -> Option<Rc<Page>>
         ensures this { held self.new no ≡ None }
         ensures others { (n : ℕ) (bytes : List ℕ)
@@ -72,7 +71,7 @@ impl PageCache {
         }
     }
 
-    /// How many pages the cache holds.
+    /// How many pages are cached.
     pub fn len(&self) -> usize
         ensures pages { result ≡ length self.now.pages.entries }
         ensures within { result ≤ self.now.pages.cap }
@@ -81,7 +80,7 @@ impl PageCache {
     }
 }
 
-/// The page that a push into a cache left over.
+/// The page that an insertion into a cache did not keep.
 fn left_over(
     pushed: Result<Option<(u32, KeptPage)>, AllocFailed<(u32, KeptPage)>>,
 ) -> Option<Rc<Page>> {

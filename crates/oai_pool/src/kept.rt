@@ -6,7 +6,7 @@ use crate::kinds::PageKind;
 use oai_device::Page;
 use std::rc::Rc;
 
-/// A page that a cache holds, of that kind.
+/// A cached page, of that kind.
 #[derive(Drop)]
 pub struct KeptPage {
     page: Rc<Page>,
@@ -15,7 +15,7 @@ pub struct KeptPage {
 }
 
 impl KeptPage {
-    /// The page, of which it is known that it is of that kind.
+    /// The page, which is known to be of that kind.
     pub(crate) fn new(page: Rc<Page>, kind: PageKind) -> KeptPage
         requires { is_of kind page.value ≡ true }
         ensures { result.page.value ≡ page.value }
@@ -23,7 +23,7 @@ impl KeptPage {
         KeptPage { page, kind }
     }
 
-    /// The page, shared once more, where it is known to be of that kind.
+    /// A clone of the page's `Rc`, if it is known to be of that kind.
     pub(crate) fn of(&self, kind: PageKind) -> Option<Rc<Page>>
         ensures page { IfSome result (λ page. page.value ≡ self.now.page.value) }
         ensures tested { IfSome result (λ page. is_of kind page.value ≡ true) }

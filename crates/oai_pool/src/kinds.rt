@@ -1,11 +1,11 @@
-//! What a page of a pool holds.
+//! The kinds of pages of a pool.
 
-/// What a page holds, as the one says who adds it or reads it.
+/// What a page holds, according to who adds it or reads it.
 #[derive(Clone, Copy, Debug, PartialEq, Eq)]
 pub enum PageKind {
-    /// Items: how many entries it has, and the entries, each of which spells an item. A page of them is tested when it
-    /// comes from the device.
+    /// Items: the number of its entries, and the entries, each of which encodes an item. Such a page is validated when
+    /// it is read from the device.
     Items,
-    /// Any bytes, which nothing is known of.
+    /// Any bytes, of which nothing is known.
     Bytes,
 }

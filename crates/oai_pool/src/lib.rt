@@ -1,5 +1,5 @@
-//! A pool of pages on a device: each is counted as often as it is named, one that nobody names gives its
-//! number back, and one cache of bounded size spares the device reads.
+//! A pool of pages on a device: pages are reference-counted, an unreferenced page's number is reused, and one cache of
+//! bounded size saves reads of the device.
 #![tactic(auto)]
 
 mod cache;

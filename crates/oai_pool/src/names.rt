@@ -7,8 +7,8 @@ ghost use Rattle.oai_pool.specs.declared.pools.TheConstants.{MAX_PAGES};
 use crate::pools::{MAX_PAGES, PoolFault};
 use std::alloc::Global;
 
-/// How often each number is named, and the numbers that are free to be given again. A number that was never
-/// given is the next one behind the counts.
+/// The reference count of each number, and the numbers that are free to be reused. A number that was never used comes
+/// after the end of the counts.
 #[derive(Drop)]
 pub struct Names {
     counts: Vec<u32>,
@@ -20,7 +20,7 @@ pub struct Names {
 }
 
 impl Names {
-    /// No number is named, nor was one given.
+    /// No number is referenced or was used before.
     pub fn new(alloc: Global) -> Names
         ensures { result.counts.items ≡ [] }
     {
@@ -30,8 +30,8 @@ impl Names {
         }
     }
 
-    /// The number that `name` will name, after the room was made in which `name` works, and later `drop_name`
-    /// on that number. NoMemory, or TooManyPages where each number is named.
+    /// The number that `name` will use; space is reserved for `name`, and for a later `drop_name` of that number. The
+    /// errors: NoMemory, or TooManyPages if each number is referenced.
     pub fn next(&mut self) -> Result<u32, PoolFault>
         ensures counts { self.new.counts.items ≡ self.old.counts.items }
         ensures number { IfOk result (λ no. no ≡ number_to_give self.new.counts.items self.new.free.items) }
@@ -58,7 +58,7 @@ impl Names {
         Ok(no as u32)
     }
 
-    /// Names the number that `next` gave once.
+    /// Sets the reference count of the number that `next` returned to 1.
     pub fn name(&mut self)
         requires room { vec_len self.old.free ≡ 0
             → vec_len self.old.counts < vec_capacity self.old.counts }
@@ -79,7 +79,7 @@ impl Names {
         }
     }
 
-    /// Names a number that is named once more. TooManyPages, where it is named 4,294,967,295 times.
+    /// Increments the reference count of a referenced number. The error is TooManyPages, if it is 4,294,967,295.
     pub fn share(&mut self, no: u32) -> Result<(), PoolFault>
         requires { 0 < count_of self.old.counts.items no }
         ensures counts { OnOk result (AddsName no self.old.counts.items self.new.counts.items) }
@@ -96,7 +96,7 @@ impl Names {
         Ok(())
     }
 
-    /// Names a number that is named once less; whether it is now named no more, and free.
+    /// Decrements the reference count of a referenced number; returns whether it is now 0, and the number free.
     pub fn drop_name(&mut self, no: u32) -> bool
         requires { 0 < count_of self.old.counts.items no }
         ensures counts { AddsName no self.new.counts.items self.old.counts.items }
@@ -111,7 +111,7 @@ impl Names {
         count == 0
     }
 
-    /// How many numbers are named.
+    /// How many numbers are referenced.
     pub fn used(&self) -> usize
         ensures { result ≡ used_of self.now.counts.items }
     {

@@ -13,8 +13,8 @@ use std::alloc::Global;
 use std::num::NonZeroUsize;
 use std::rc::Rc;
 
-/// A pool of pages on a device, with a cache. Beside the pages of its cache it keeps one page more in
-/// memory, for the next one to be read.
+/// A pool of pages on a device, with a cache. Besides the cached pages it holds one spare page in memory, into which
+/// the next one is read.
 #[derive(Drop)]
 pub struct Pool<D: PageDevice> {
     alloc: Global,
@@ -50,9 +50,7 @@ impl<D: PageDevice> PagePool for Pool<D> {
         let no = self.names.next()?;
         store(&mut self.device, no, page)?;
         self.names.name();
-        if let Ok(copy) = copied(self.alloc, self.spare.take(), page) {
-            self.spare = self.cache.keep(no, copy, kind);
-        }
+        self.keep_copy(no, page, kind);
         Ok(no)
     }
 
@@ -76,9 +74,7 @@ impl<D: PageDevice> PagePool for Pool<D> {
         if !is_of(self.alloc, kind, &page[..])? {
             return Err(PoolFault::Damaged);
         }
-        if let Ok(kept) = page.clone() {
-            self.spare = self.cache.keep(no, kept, kind);
-        }
+        self.keep(no, &page, kind);
         Ok(page)
     }
 
@@ -112,10 +108,12 @@ impl<D: PageDevice> PagePool for Pool<D> {
 }
 
 impl<D: PageDevice> Pool<D> {
-    ghost use Rattle.std.specs.Prelude.{◌≡◌, IfOk};
+    ghost use Rattle.std.specs.Prelude.{◌≡◌, ◌<◌, Some, true, IfOk, IsTrue};
+    ghost use Rattle.oai_pool.specs.Counts.{count_of};
+    ghost use Rattle.oai_pool.specs.Kinds.{is_of};
     ghost use Rattle.oai_pool.specs.Pool.{device_of};
 
-    /// A pool of no pages on that device, with a cache of at most `cache_pages` pages. NoMemory.
+    /// An empty pool on that device, with a cache of at most `cache_pages` pages. The error is NoMemory.
     pub fn new(alloc: Global, device: D, cache_pages: usize) -> Result<Pool<D>, PoolFault>
         requires { 0 < cache_pages }
         ensures counts { IfOk result (λ pool. ⟦<Pool<D> as PagePool>⟧.counts pool ≡ []) }
@@ -135,7 +133,35 @@ impl<D: PageDevice> Pool<D> {
         })
     }
 
-    /// The device on which the pages are.
+    /// Stores a copy of the page, which is of that kind, in the cache, if there is memory for one.
+    fn keep_copy(&mut self, no: PageNo, page: &Page, kind: PageKind)
+        requires kind { is_of kind page.now ≡ true }
+        requires named { 0 < count_of self.old.names.counts.items no }
+        requires own { IsTrue (D.honest (device_of self.old)) → D.pages (device_of self.old) no ≡ Some page.now }
+        ensures names { self.new.names ≡ self.old.names }
+        ensures device { device_of self.new ≡ device_of self.old }
+        ensures size { self.new.cache.pages.cap ≡ self.old.cache.pages.cap }
+    {
+        if let Ok(copy) = copied(self.alloc, self.spare.take(), page) {
+            self.spare = self.cache.keep(no, copy, kind);
+        }
+    }
+
+    /// Stores the page, which is of that kind, in the cache, if its reference count can be raised.
+    fn keep(&mut self, no: PageNo, page: &Rc<Page>, kind: PageKind)
+        requires kind { is_of kind page.now.value ≡ true }
+        requires named { 0 < count_of self.old.names.counts.items no }
+        requires own { IsTrue (D.honest (device_of self.old)) → D.pages (device_of self.old) no ≡ Some page.now.value }
+        ensures names { self.new.names ≡ self.old.names }
+        ensures device { device_of self.new ≡ device_of self.old }
+        ensures size { self.new.cache.pages.cap ≡ self.old.cache.pages.cap }
+    {
+        if let Ok(kept) = page.clone() {
+            self.spare = self.cache.keep(no, kept, kind);
+        }
+    }
+
+    /// The device that stores the pages.
     pub fn device(&self) -> &D
         ensures { result.now ≡ device_of self.now }
     {

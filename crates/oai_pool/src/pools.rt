@@ -13,25 +13,25 @@ use std::alloc::{AllocError, AllocFailed};
 use std::rc::Rc;
 use thiserror::Error;
 
-/// How many pages a pool can have, and how often one of them can be named.
+/// The maximum number of pages of a pool, and of references to one of them.
 pub const MAX_PAGES: u32 = 4_294_967_295;
 
 /// The number of a page, from 0 to 4,294,967,294.
 pub type PageNo = u32;
 
-/// Why a call on a pool could not be performed.
+/// Why a call on a pool failed.
 #[derive(Clone, Copy, Debug, PartialEq, Eq, Error)]
 pub enum PoolFault {
-    /// The device failed, and counted it.
+    /// The device failed, and counted the failure.
     #[error("the device failed")]
     Device,
-    /// The page that the device gave is not of the kind that it was added as.
+    /// The page that the device returned is not of the kind with which it was added.
     #[error("a page is damaged")]
     Damaged,
-    /// Memory was refused.
+    /// Out of memory.
     #[error("out of memory")]
     NoMemory,
-    /// The pool has 4,294,967,295 pages, or the page is named that often.
+    /// The pool has 4,294,967,295 pages, or the page has that many references.
     #[error("there are too many pages")]
     TooManyPages,
 }
@@ -52,33 +52,32 @@ impl<T: Drop> From<AllocFailed<T>> for PoolFault {
     }
 }
 
-/// Pages under numbers, each counted as often as it is named. A page is on its device when `add` answers,
-/// and is not written again while it is named. A call that fails leaves every count and every page that is
-/// named as it was.
+/// Reference-counted pages under numbers. A page is on its device when `add` returns, and is not written again while it
+/// is referenced. A call that fails leaves every reference count and every referenced page unchanged.
 pub trait PagePool {
-    /// How often each number is named.
+    /// The reference count of each number.
     ghost counts: { Self → List ℕ };
 
-    /// The page that was added under each number that is named, over any device.
+    /// The page that was added under each referenced number, over any device.
     ghost pages: { Self → ℕ → Option (List ℕ) };
 
-    /// How often the device has failed, up to the last number that can be counted.
+    /// How often the device has failed; the count saturates.
     ghost failures: { Self → ℕ };
 
-    /// Whether the device gives back what was written to it.
+    /// Whether the device returns what was written to it.
     ghost honest: { Self → Bool };
 
     /// How many calls of `add` are sure to find a number.
     ghost room: { Self → ℕ };
 
-    /// How many pages the cache holds.
+    /// How many pages are cached.
     ghost cached_pages: { Self → ℕ };
 
-    /// How many pages the cache may hold.
+    /// The capacity of the cache in pages.
     ghost cache_size: { Self → ℕ };
 
-    /// Adds a page, which is of that kind and then named once, under a number that nobody names. Numbers
-    /// that were named before are given first. Device, NoMemory or TooManyPages.
+    /// Adds a page of that kind under an unreferenced number, and sets its reference count to 1. Freed numbers are
+    /// reused first. The errors: Device, NoMemory or TooManyPages.
     fn add(&mut self, page: &Page, kind: PageKind) -> Result<PageNo, PoolFault>
         requires { is_of kind page.now ≡ true }
         ensures free { IfOk result (λ no. count_of (counts self.old) no ≡ 0) }
@@ -93,8 +92,8 @@ pub trait PagePool {
         ensures named { StaysNamed (counts self.old) (counts self.new) }
         ensures pool { SpendsNumbers room failures cache_size honest 1 result self.old self.new };
 
-    /// Names a page that is named once more. TooManyPages, where it is named 4,294,967,295 times. It takes
-    /// no memory, and calls no device.
+    /// Increments the reference count of a referenced page. The error is TooManyPages, if it is 4,294,967,295. It
+    /// allocates nothing, and calls no device.
     fn share(&mut self, no: PageNo) -> Result<(), PoolFault>
         requires { 0 < count_of (counts self.old) no }
         ensures counts { OnOk result (AddsName no (counts self.old) (counts self.new)) }
@@ -106,8 +105,8 @@ pub trait PagePool {
         ensures named { StaysNamed (counts self.old) (counts self.new) }
         ensures pool { SparesNumbers room failures cache_size honest self.old self.new };
 
-    /// Names a page that is named once less. Where it is then named no more, its number is free to be given
-    /// again, and it leaves the cache. It takes no memory, calls no device, and cannot fail.
+    /// Decrements the reference count of a referenced page. At 0 its number becomes free, and it is dropped from the
+    /// cache. It allocates nothing, calls no device, and cannot fail.
     fn drop_ref(&mut self, no: PageNo)
         requires { 0 < count_of (counts self.old) no }
         ensures counts { AddsName no (counts self.new) (counts self.old) }
@@ -115,9 +114,9 @@ pub trait PagePool {
         ensures kept { KeepsNamed (counts self.new) (pages self.old) (pages self.new) }
         ensures pool { SparesNumbers room failures cache_size honest self.old self.new };
 
-    /// The page of a number that is named, which was of that kind when it was added: over an honest device
-    /// that page, and over any a page of that kind. It is tested when it comes from the device; where it
-    /// fails it is not kept, so that the next call reads it again. Device, NoMemory or Damaged.
+    /// The page with a referenced number, which had that kind when it was added: over an honest device that page, and
+    /// over any a page of that kind. It is validated when it is read from the device; one that is invalid is not
+    /// cached, so that the next call reads it again. The errors: Device, NoMemory or Damaged.
     fn read(&mut self, no: PageNo, kind: PageKind) -> Result<Rc<Page>, PoolFault>
         requires named { 0 < count_of (counts self.old) no }
         requires kind { (bytes : List ℕ) → pages self.old no ≡ Some bytes → is_of kind bytes ≡ true }
@@ -128,9 +127,9 @@ pub trait PagePool {
         ensures same { pages self.new ≡ pages self.old }
         ensures pool { SpendsNumbers room failures cache_size honest 0 result self.old self.new };
 
-    /// Reads as many bytes as `into` has of the page of a number that is named, from byte `from` on, counted
-    /// from 0: over an honest device those of the page that was added. They are not tested, and the page is
-    /// not put into the cache. Device or NoMemory; `into` then holds any bytes.
+    /// Reads `into.len()` bytes of the page with a referenced number, from byte `from` on, counted from 0: over an
+    /// honest device those of the page that was added. They are not validated, and the page is not cached. The errors:
+    /// Device or NoMemory; `into` then holds any bytes.
     fn read_range(&mut self, no: PageNo, from: usize, into: &mut [u8]) -> Result<(), PoolFault>
         requires named { 0 < count_of (counts self.old) no }
         requires within { from + length into.old ≤ PAGE_BYTES }
@@ -140,25 +139,25 @@ pub trait PagePool {
         ensures same { pages self.new ≡ pages self.old }
         ensures pool { SpendsNumbers room failures cache_size honest 0 result self.old self.new };
 
-    /// Keeps no page under that number in memory, so that the next call reads it again. It takes no memory,
-    /// calls no device, and cannot fail.
+    /// Drops the page with that number from memory, so that the next call reads it again. It allocates nothing, calls
+    /// no device, and cannot fail.
     fn forget(&mut self, no: PageNo)
         ensures counts { counts self.new ≡ counts self.old }
         ensures same { pages self.new ≡ pages self.old }
         ensures pool { SparesNumbers room failures cache_size honest self.old self.new };
 
-    /// How many pages are named.
+    /// How many pages are referenced.
     fn used(&self) -> usize
         ensures { result ≡ used_of (counts self.now) };
 
-    /// How many pages the cache holds, at most as many as it may.
+    /// How many pages are cached, at most the capacity of the cache.
     fn cached(&self) -> usize
         ensures pages { result ≡ cached_pages self.now }
         ensures within { result ≤ cache_size self.now };
 
-    /// A page that is named was added.
+    /// A referenced page was added.
     ghost stored: { (p : Self) (n : ℕ) → 0 < count_of (counts p) n → IsSome (pages p n) };
 
-    /// No number at the limit or above it is named.
+    /// No number at the limit or above it is referenced.
     ghost limited: { (p : Self) (n : ℕ) → MAX_PAGES ≤ n → count_of (counts p) n ≡ 0 };
 }

@@ -1,4 +1,4 @@
-//! The test of a page of items.
+//! Validates a page of items.
 ghost use Rattle.std.specs.Prelude.{◌≡◌, ◌≤◌, length, IfOk};
 ghost use Rattle.oai_pool.specs.Kinds.{IsEntryTest, has_items, is_of, number_in};
 
@@ -6,10 +6,10 @@ use crate::kinds::PageKind;
 use oai_item::is_spelling;
 use std::alloc::{AllocError, Global};
 
-/// The bytes of a number on a page.
+/// The length of a number on a page in bytes.
 const NUMBER_BYTES: usize = 4;
 
-/// Whether the page is of that kind. The error is out of memory, which is taken where an item is in many sets.
+/// Whether the page is of that kind. The error is out of memory, which an item in many sets may need.
 pub(crate) fn is_of(alloc: Global, kind: PageKind, page: &[u8]) -> Result<bool, AllocError>
     requires { 4 ≤ length page.now }
     ensures { IfOk result (λ is. is ≡ is_of kind page.now) }
@@ -20,7 +20,7 @@ pub(crate) fn is_of(alloc: Global, kind: PageKind, page: &[u8]) -> Result<bool, 
     }
 }
 
-/// Whether each entry of the page spells an item. The error is out of memory.
+/// Whether each entry of the page encodes an item. The error is out of memory.
 fn has_items(alloc: Global, page: &[u8]) -> Result<bool, AllocError>
     requires { 4 ≤ length page.now }
     ensures { IfOk result (λ has. has ≡ has_items page.now) }
@@ -35,8 +35,8 @@ fn has_items(alloc: Global, page: &[u8]) -> Result<bool, AllocError>
     Ok(true)
 }
 
-/// How many bytes the entry has that stands in front of the bytes and spells an item, or None where none does. The
-/// error is out of memory.
+/// The length of the entry at the start of the bytes, if it encodes an item; otherwise None. The error is out of
+/// memory.
 fn entry_len(alloc: Global, bytes: &[u8]) -> Result<Option<usize>, AllocError>
     ensures { IfOk result (λ len. IsEntryTest bytes.now len) }
 {
@@ -54,7 +54,7 @@ fn entry_len(alloc: Global, bytes: &[u8]) -> Result<Option<usize>, AllocError>
     Ok(Some(NUMBER_BYTES + len))
 }
 
-/// The number in front of the bytes.
+/// The number at the start of the bytes.
 fn number_in(bytes: &[u8]) -> usize
     requires { 4 ≤ length bytes.now }
     ensures { result ≡ number_in bytes.now }

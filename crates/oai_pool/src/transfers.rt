@@ -1,4 +1,4 @@
-//! Pages between a device and memory.
+//! Transfers pages between a device and memory.
 ghost use Rattle.std.specs.Prelude.{◌≡◌, ◌≢◌, ◌≤◌, ◌+◌, length, ℕ, Some, IfErr, IfOk, IsSome, IsTrue, OnOk};
 ghost use Rattle.oai_device.specs.Device.{CountsFailures, range_of};
 ghost use Rattle.oai_device.specs.declared.devices.TheConstants.{PAGE_BYTES};
@@ -9,7 +9,7 @@ use oai_device::{DeviceFault, PAGE_BYTES, Page, PageDevice};
 use std::alloc::{AllocError, Global};
 use std::rc::Rc;
 
-/// Writes the page on the device. Device or NoMemory.
+/// Writes the page on the device. The errors: Device or NoMemory.
 pub(crate) fn store<D: PageDevice>(device: &mut D, no: u32, page: &Page) -> Result<(), PoolFault>
     ensures written { OnOk result (D.pages device.new no ≡ Some page.now) }
     ensures others { (n : ℕ) → n ≢ no → D.pages device.new n ≡ D.pages device.old n }
@@ -25,8 +25,8 @@ pub(crate) fn store<D: PageDevice>(device: &mut D, no: u32, page: &Page) -> Resu
     }
 }
 
-/// The page of that number, read from the device into the page `spare` where nobody else has it, and
-/// otherwise into one of its own. Device or NoMemory; memory is asked for before the device is.
+/// The page with that number, read from the device into the page `spare` if nobody else references it, and otherwise
+/// into a new one. The errors: Device or NoMemory; memory is allocated before the device is called.
 pub(crate) fn load<D: PageDevice>(
     alloc: Global,
     device: &mut D,
@@ -52,7 +52,7 @@ pub(crate) fn load<D: PageDevice>(
     }
 }
 
-/// A copy of the page, in the page `spare` where nobody else has it, and otherwise in one of its own.
+/// A copy of the page, in the page `spare` if nobody else references it, and otherwise in a new one.
 pub(crate) fn copied(
     alloc: Global,
     spare: Option<Rc<Page>>,
@@ -70,7 +70,7 @@ pub(crate) fn copied(
     }
 }
 
-/// The page of that number, read from the device into a page of its own.
+/// The page with that number, read from the device into a new page.
 fn load_anew<D: PageDevice>(alloc: Global, device: &mut D, no: u32) -> Result<Rc<Page>, PoolFault>
     requires { IsSome (D.pages device.old no) }
     ensures value { IfOk result
@@ -88,7 +88,7 @@ fn load_anew<D: PageDevice>(alloc: Global, device: &mut D, no: u32) -> Result<Rc
     }
 }
 
-/// Reads the page from the device. Device or NoMemory.
+/// Reads the page from the device. The errors: Device or NoMemory.
 fn fetch<D: PageDevice>(device: &mut D, no: u32, page: &mut Page) -> Result<(), PoolFault>
     requires { IsSome (D.pages device.old no) }
     ensures value { OnOk result (IsTrue (D.honest device.old) → D.pages device.old no ≡ Some page.new) }
@@ -105,7 +105,7 @@ fn fetch<D: PageDevice>(device: &mut D, no: u32, page: &mut Page) -> Result<(), 
     }
 }
 
-/// Reads as many bytes as `into` has of the page of that number, from byte `from` on. Device or NoMemory.
+/// Reads `into.len()` bytes of the page with that number, from byte `from` on. The errors: Device or NoMemory.
 pub(crate) fn load_range<D: PageDevice>(
     device: &mut D,
     no: u32,
@@ -129,7 +129,7 @@ pub(crate) fn load_range<D: PageDevice>(
     }
 }
 
-/// The spare page, or a new one of zeros, which is made where it stays and not copied there.
+/// The spare page, or a new one of zeros, which is allocated in place and not copied there.
 fn room_for_a_page(alloc: Global, spare: Option<Rc<Page>>) -> Result<Rc<Page>, AllocError> {
     match spare {
         Some(page) => Ok(page),

@@ -1,6 +1,6 @@
 -- The entries of an index agree with its items after each change, and no list changes but its own.
-use Rattle.std.proofs.Common.{◌≡◌, ◌∙◌, ◌+◌, ◌≤◌, inl, inr, ℕ, ℤ, Bool, true, false, not, eqb, cond, List, [], ◌∷◌, length, map, Option, None, Some, IsSome, is_some, Result, Ok, Err, OnOk, refl, sym, ap, subst, arith}
-use Rattle.std.specs.Prelude.{find}
+use Rattle.std.proofs.Common.{◌≡◌, ◌∙◌, ◌+◌, ◌≤◌, inl, inr, ℕ, ℤ, Bool, true, false, not, eqb, cond, List, [], ◌∷◌, length, map, Option, None, Some, IsSome, is_some, Result, Ok, Err, IfOk, OnOk, refl, sym, ap, subst, arith}
+use Rattle.std.specs.Prelude.{find, IfSome}
 use Rattle.std.specs.BTreeMap.{BTreeMap, UpdatesBy, get_by_text, insert_entry, is_at}
 use Rattle.std.specs.List.{list_all}
 use Rattle.std.specs.Map.{lookup, remove_entry}
@@ -29,7 +29,7 @@ use Rattle.oai_repo.specs.Fields.{AreInUse, IndexAgrees, IsNew, IsIndexed, ItemI
 use Rattle.oai_repo.specs.Kept.{AreKept}
 use Rattle.oai_repo.specs.Entries.{ForgetsSome, Restamps, SetsStamp, Entries, stamp_in, entries_in}
 use Rattle.oai_repo.specs.State.{NamedSet, RepoState, no_open_lists}
-use Rattle.oai_repo.specs.Indexing.{IsMoved}
+use Rattle.oai_repo.specs.Indexing.{IsMoved, is_one_named}
 use Rattle.oai_repo.proofs.KeptLemmas.{kept-none, length-placed}
 
 -- ---- answers that succeeded
@@ -41,6 +41,10 @@ on_both (Err _) P Q p q = tt
 pub on_ok : {A E : Type 0} (r : Result A E) (P Q : Type 0) → (P → Q) → OnOk r P → OnOk r Q
 on_ok (Ok x) P Q f h = f h
 on_ok (Err e) P Q f h = tt
+
+pub if_ok : {A E : Type 0} (r : Result A E) (P Q : A → Type 0) → ((a : A) → P a → Q a) → IfOk r P → IfOk r Q
+if_ok (Ok a) P Q f h = f a h
+if_ok (Err e) P Q f h = tt
 
 pub restamped : {A E : Type 0} (r : Result A E) (identifier : List ℕ) (stamp : Option ℤ) (old new : Entries) → IsSome (stamp_in identifier old) → OnOk r (SetsStamp identifier stamp old new)
     → OnOk r (length new ≤ length old) → OnOk r (Restamps identifier stamp old new)
@@ -153,6 +157,15 @@ found_at entries items identifier stamp agrees is = by_item (item_named identifi
         let same : Some item.stamp ≡ Some stamp = sym (ap stamp_of_item here) ∙ sym (agrees.each identifier) ∙ is in
         let at : item.stamp ≡ stamp = cc in
         (subst (λ (s : ℤ). item_at s identifier items ≡ item_named identifier items) at (item_at-named identifier items item here ∙ sym here), subst (λ (o : Option ItemState). IsSome o) (sym here) refl)
+
+-- an item that is found is there, and of the identifier
+pub found_one : (identifier : List ℕ) (items : List ItemState) (found : Option ItemState) → found ≡ item_named identifier items → IsSome (item_named identifier items) → is_one_named identifier found ≡ true
+found_one identifier items None is some = let none : false ≡ true = subst (λ (o : Option ItemState). IsSome o) (sym is) some in cc
+found_one identifier items (Some item) is some = (bytes_eq-Decides item.identifier identifier).1 (found_name identifier items item (sym is))
+
+pub name_of_one : (identifier : List ℕ) (found : Option ItemState) → is_one_named identifier found ≡ true → IfSome found (λ item. item.identifier ≡ identifier)
+name_of_one identifier None is = tt
+name_of_one identifier (Some item) is = (bytes_eq-Decides item.identifier identifier).0 is
 
 -- an item that is found is the one of its own identifier
 pub named_own : (identifier : List ℕ) (items : List ItemState) (item : ItemState) → item_named identifier items ≡ Some item → item_named item.identifier items ≡ Some item

@@ -251,15 +251,16 @@ too_long n (Err m) h e = h
 is_small : (n most : ℕ) → not (nat_lt most n) ≡ true → n ≤ most
 is_small n most h = grind (arith, nat_tests)
 
--- what is left of an item that can be stored can be stored
-pub tombstone_fits : (stamp : ℤ) (item left : ItemState) (r : Result ℕ LengthFault) → left ≡ tombstone_of stamp item → not (is_too_large item) ≡ true
-    → IsMeasure (length (encoded left)) r → is_err r ≡ true → ⊥
-tombstone_fits stamp item left r is small measure err =
-    let size : length (encoded left) ≡ length (encoded (tombstone_of stamp item)) = ap (λ (i : ItemState). length (encoded i)) is in
-    omega (arith, too_long (length (encoded left)) r measure err, is_small (length (encoded item)) MAX_ITEM_BYTES small, smaller stamp item, size)
+-- an item that is not too large can be stored
+pub small_fits : (item : ItemState) (r : Result ℕ LengthFault) → not (is_too_large item) ≡ true → IsMeasure (length (encoded item)) r → is_err r ≡ true → ⊥
+small_fits item r small measure err = omega (arith, too_long (length (encoded item)) r measure err, is_small (length (encoded item)) MAX_ITEM_BYTES small)
 
 still_small : (a b most : ℕ) → a ≤ b → not (nat_lt most b) ≡ true → not (nat_lt most a) ≡ true
 still_small a b most h small = grind (arith, nat_tests)
+
+-- what is left of one that is not too large is not either
+pub small-tombstone : (stamp : ℤ) (item left : ItemState) → left ≡ tombstone_of stamp item → not (is_too_large item) ≡ true → not (is_too_large left) ≡ true
+small-tombstone stamp item left is small = rw is (still_small (length (encoded (tombstone_of stamp item))) (length (encoded item)) MAX_ITEM_BYTES (smaller stamp item) small)
 
 pub well-tombstone : (config : Config) (sets : List NamedSet) (stamp : ℤ) (item : ItemState)
     → is_well_kept config sets item ≡ true → is_well_kept config sets (tombstone_of stamp item) ≡ true

@@ -1,5 +1,5 @@
 -- What a list request is replied, by the first of the items that it selects: all of them, or the first part of a list.
-use Rattle.std.proofs.Common.{◌≡◌, ◌∙◌, ℕ, ℤ, ◌+◌, ◌<◌, ◌≤◌, min, false, ◌&&◌, List, [], ◌∷◌, length, take, Option, Some, is_some, refl, sym, ap, subst, arith}
+use Rattle.std.proofs.Common.{◌≡◌, ◌∙◌, ℕ, ℤ, ◌+◌, ◌<◌, ◌≤◌, min, true, false, ◌&&◌, List, [], ◌∷◌, length, take, Option, None, Some, is_some, refl, sym, ap, subst, arith}
 use Rattle.std.specs.Prelude.{nat_le}
 use Rattle.std.proofs.lemmas.Bool.{cond-true, cond-false, le-leb, lt-leb}
 use Rattle.std.proofs.lemmas.List.{length-take, take-take, take_all}
@@ -10,7 +10,7 @@ use Rattle.oai_item.specs.Item.{ItemState}
 use Rattle.oai_item.specs.Selection.{Filter}
 use Rattle.oai_item.specs.declared.formats.Format.{Format}
 use Rattle.oai_answers.specs.Answers.{Answer, Attributes, fails}
-use Rattle.oai_answers.specs.declared.errors.ErrorCode.TheVariants.{NoRecordsMatch, NoSetHierarchy}
+use Rattle.oai_answers.specs.declared.errors.ErrorCode.TheVariants.{CannotDisseminateFormat, NoRecordsMatch, NoSetHierarchy}
 use Rattle.oai_catalogue.specs.Store.{Lists}
 use Rattle.oai_lists.specs.OpenLists.{Table}
 use Rattle.oai_repo.specs.Answers.{filter_of}
@@ -59,31 +59,21 @@ selection_opens config clock open_lists verb format items many =
 answering : OpenLists → Answer → Response × OpenLists
 answering open_lists answer = (with_answer answer, open_lists)
 
-complete_some : (config : Config) (verb : ListVerb) (format : Format) (items : List ItemState) → 0 < length items → complete_answer config verb format items ≡ answer_by_verb verb format (complete_page config items)
+pub complete_some : (config : Config) (verb : ListVerb) (format : Format) (items : List ItemState) → 0 < length items → complete_answer config verb format items ≡ answer_by_verb verb format (complete_page config items)
 complete_some config verb format [] h = absurd (omega (arith, h))
 complete_some config verb format (item ∷ items) h = refl
 
-complete_none : (config : Config) (verb : ListVerb) (format : Format) (items : List ItemState) → length items ≡ 0 → complete_answer config verb format items ≡ fails NoRecordsMatch
+pub complete_none : (config : Config) (verb : ListVerb) (format : Format) (items : List ItemState) → length items ≡ 0 → complete_answer config verb format items ≡ fails NoRecordsMatch
 complete_none config verb format [] h = refl
 complete_none config verb format (item ∷ items) h = absurd (omega (arith, h))
 
--- some, and no more
-pub selection_complete : (config : Config) (clock : ℤ) (open_lists : OpenLists) (verb : ListVerb) (format : Format) (items first : List ItemState) → first ≡ take (config.chunk + 1) items → 0 < length first → length first ≤ config.chunk
-    → selection_response config clock open_lists verb format items ≡ (with_answer (answer_by_verb verb format (complete_page config first)), open_lists)
+-- no more than a part has
+pub selection_whole : (config : Config) (clock : ℤ) (open_lists : OpenLists) (verb : ListVerb) (format : Format) (items first : List ItemState) → first ≡ take (config.chunk + 1) items → length first ≤ config.chunk
+    → selection_response config clock open_lists verb format items ≡ (with_answer (complete_answer config verb format first), open_lists)
 unfolding answering
-selection_complete config clock open_lists verb format items first is some small =
+selection_whole config clock open_lists verb format items first is small =
     let all : first ≡ items = few_first config.chunk items first is small in
-    few config clock open_lists verb format items (omega (arith, small, ap length all))
-    ∙ ap (answering open_lists) (complete_some config verb format items (omega (arith, some, ap length all)) ∙ ap (λ xs. answer_by_verb verb format (complete_page config xs)) (sym all))
-
--- none
-pub selection_empty : (config : Config) (clock : ℤ) (open_lists : OpenLists) (verb : ListVerb) (format : Format) (items first : List ItemState) → first ≡ take (config.chunk + 1) items → length first ≡ 0
-    → selection_response config clock open_lists verb format items ≡ (with_answer (fails NoRecordsMatch), open_lists)
-unfolding answering
-selection_empty config clock open_lists verb format items first is none =
-    let all : first ≡ items = few_first config.chunk items first is (omega (arith, none)) in
-    few config clock open_lists verb format items (omega (arith, none, ap length all))
-    ∙ ap (answering open_lists) (complete_none config verb format items (omega (arith, none, ap length all)))
+    few config clock open_lists verb format items (omega (arith, small, ap length all)) ∙ ap (λ xs. answering open_lists (complete_answer config verb format xs)) (sym all)
 
 -- ---- a list request
 
@@ -98,6 +88,26 @@ response_in_format repo table lists request format sets known =
     let items : List ItemState = view_selected repo lists (filter_asked request) in
     cond-false (is_some request.set.now && has_no_sets repo.sets.now) (with_answer (fails NoSetHierarchy), open_lists) (format_response config repo.clock open_lists request.verb (format_named request.prefix.now config.formats) items) sets
     ∙ ap (λ f. format_response config repo.clock open_lists request.verb f items) known
+
+-- a set is asked for where there are none
+pub response_no_sets : (repo : RepoView) (table : Table) (lists : Lists) (request : ListRequest) → (is_some request.set.now && has_no_sets repo.sets.now) ≡ true
+    → view_list_response repo table lists request ≡ (with_answer (fails NoSetHierarchy), view_open_lists repo table lists)
+response_no_sets repo table lists request sets =
+    let config : Config = repo.config.now in
+    let open_lists : OpenLists = view_open_lists repo table lists in
+    cond-true (is_some request.set.now && has_no_sets repo.sets.now) (with_answer (fails NoSetHierarchy), open_lists)
+    (format_response config repo.clock open_lists request.verb (format_named request.prefix.now config.formats) (view_selected repo lists (filter_asked request))) sets
+
+-- in a format that the repository lacks
+pub response_no_format : (repo : RepoView) (table : Table) (lists : Lists) (request : ListRequest) → (is_some request.set.now && has_no_sets repo.sets.now) ≡ false
+    → format_named request.prefix.now repo.config.now.formats ≡ None
+    → view_list_response repo table lists request ≡ (with_answer (fails CannotDisseminateFormat), view_open_lists repo table lists)
+response_no_format repo table lists request sets unknown =
+    let config : Config = repo.config.now in
+    let open_lists : OpenLists = view_open_lists repo table lists in
+    let items : List ItemState = view_selected repo lists (filter_asked request) in
+    cond-false (is_some request.set.now && has_no_sets repo.sets.now) (with_answer (fails NoSetHierarchy), open_lists) (format_response config repo.clock open_lists request.verb (format_named request.prefix.now config.formats) items) sets
+    ∙ ap (λ f. format_response config repo.clock open_lists request.verb f items) unknown
 
 -- with what asks for the items
 pub response_selected : (repo : RepoView) (table : Table) (lists : Lists) (request : ListRequest) (selection : Selection) → (is_some request.set.now && has_no_sets repo.sets.now) ≡ false

@@ -235,17 +235,3 @@ unfolding purged
 purge_left limit old items gone agrees core dated is =
     let are : gone ≡ filter (is_past limit) items = gone_are limit old items gone agrees core dated is in
     subst (λ (xs : List ItemState). AreTaken xs items × (without_each xs items ≡ filter (λ item. not (is_past limit item)) items)) (sym are) (picked (is_past limit) items agrees.apart)
-
--- none goes
-pub purge_none : (limit : ℤ) (old : Entries) (items gone : List ItemState) → IndexAgrees old items → list_all is_in_core items ≡ true → list_all has_writable_stamp items ≡ true
-    → IsPurge limit old items gone → gone ≡ [] → items ≡ purged limit items
-purge_none limit old items gone agrees core dated is none =
-    sym (without_each-none items) ∙ ap (λ (xs : List ItemState). without_each xs items) (sym none) ∙ (purge_left limit old items gone agrees core dated is).1
-
--- some go, and are indexed no more
-pub purge_some : (limit : ℤ) (old entries : Entries) (items new gone : List ItemState) → IndexAgrees old items → list_all is_in_core items ≡ true → list_all has_writable_stamp items ≡ true
-    → IsPurge limit old items gone → new ≡ without_each gone items
-    → ((xs : List ItemState) → IndexAgrees old xs → AreTaken gone xs → IndexAgrees entries (without_each gone xs)) → (new ≡ purged limit items) × IndexAgrees entries new
-purge_some limit old entries items new gone agrees core dated is out forgotten =
-    let left = purge_left limit old items gone agrees core dated is in
-    (out ∙ left.1, subst (λ (xs : List ItemState). IndexAgrees entries xs) (sym out) (forgotten items agrees left.0))

@@ -1,4 +1,4 @@
--- The entries of the index and the sets after an accepted change, whatever the store answers: this repository's own.
+-- The entries of the index and the sets after an accepted change, whatever the store returns: this repository's own.
 use Rattle.std.specs.Prelude.{◌≡◌, ℤ, List, [], ◌∷◌, ◌++◌, Option, None, Some, IsSome}
 use Rattle.oai_item.specs.declared.changes.Change.{Change}
 use Rattle.oai_item.specs.declared.changes.Change.TheVariants as change
@@ -7,22 +7,22 @@ use Rattle.oai_item.specs.declared.deleted_record.DeletedRecord.TheVariants.{No,
 use Rattle.oai_repo.specs.Entries.{ForgetsSome, SetsStamp, Entries, stamp_in}
 use Rattle.oai_repo.specs.State.{NamedSet}
 
--- the datestamp that is kept of an item that was deleted: none where nothing is kept of deleted records, else the datestamp of its deletion
--- (OAI-PMH 2.0, section 2.5.1)
+-- the datestamp that the index has for a deleted item: none if the policy is to keep no deleted records, otherwise the
+-- datestamp of its deletion (OAI-PMH 2.0, section 2.5.1)
 abbrev pub stamp_after_deletion : DeletedRecord → ℤ → Option ℤ
 stamp_after_deletion No stamp = None
 stamp_after_deletion Transient stamp = Some stamp
 stamp_after_deletion Persistent stamp = Some stamp
 
--- the entries after an accepted change with that datestamp: it is that of the item that was deposited or deleted, a purge forgets some, and
--- nothing else is kept in another way
+-- the entries after an accepted change with that datestamp: it is that of the item that was deposited or deleted, a
+-- purge removes some, and no other entry is changed
 abbrev pub StampsChange : DeletedRecord → ℤ → Change → Entries → Entries → Type 0
 StampsChange deleted stamp (change.Deposit identifier sets records) old new = SetsStamp identifier (Some stamp) old new
 StampsChange deleted stamp (change.Delete identifier) old new = IsSome (stamp_in identifier old) × SetsStamp identifier (stamp_after_deletion deleted stamp) old new
 StampsChange deleted stamp (change.Purge before) old new = ForgetsSome old new
 StampsChange deleted stamp (change.AddSet spec name) old new = new ≡ old
 
--- the sets after it: a new one stands behind the others
+-- the sets after it: a new one is the last
 abbrev pub sets_with : Change → List NamedSet → List NamedSet
 sets_with (change.Deposit identifier sets records) named = named
 sets_with (change.Delete identifier) named = named

@@ -1,4 +1,4 @@
--- What a request is answered. OAI-PMH 2.0, sections 3.2, 3.6 and 4.
+-- The answer to a request. OAI-PMH 2.0, sections 3.2, 3.6 and 4.
 use Rattle.std.specs.Prelude.{ℕ, ℤ, List, [], ◌∷◌, codes, Option, Some, None, if◌then◌else◌}
 use Rattle.oai_time.specs.Bound.{lower_of, upper_of}
 use Rattle.oai_time.specs.declared.bound.Bound.{Bound}
@@ -40,23 +40,24 @@ abbrev pub record_answer : Config → Option ItemState → List ℕ → Answer
 record_answer config None prefix = fails IdDoesNotExist
 record_answer config (Some item) prefix = disseminated config item (format_named prefix config.formats)
 
--- ListSets (section 4.6): the sets in order of addition, where there are any
+-- ListSets (section 4.6): the sets in order of addition, if there are any
 abbrev pub sets_answer : List NamedSet → Answer
 sets_answer [] = fails NoSetHierarchy
 sets_answer (set ∷ sets) = lists_sets (set ∷ sets)
 
--- ListMetadataFormats of an item (section 4.4), where there is one: a deleted item has no formats
+-- ListMetadataFormats for an item (section 4.4), if there is one: a deleted item has no formats
 abbrev pub item_formats_answer : Config → Option ItemState → Answer
 item_formats_answer config None = fails IdDoesNotExist
 item_formats_answer config (Some item) =
     if item.live then lists_formats (offered config.formats (Some item)) else fails NoMetadataFormats
 
--- ListMetadataFormats: the formats of the repository, or those of them that the item has
+-- ListMetadataFormats: the formats of the repository, or those in which the item has records
 abbrev pub formats_answer : Config → List ItemState → Option (List ℕ) → Answer
 formats_answer config items None = lists_formats (offered config.formats None)
 formats_answer config items (Some identifier) = item_formats_answer config (item_named identifier items)
 
--- the first second that a list request can ask for, and the last: those of its bounds, or of all datestamps (section 2.7.1)
+-- the first second that a list request can include, and the last: those of its bounds, or of all datestamps (section
+-- 2.7.1)
 abbrev pub lower_given : Option Bound → ℤ
 lower_given None = FIRST_SECOND
 lower_given (Some bound) = lower_of bound
@@ -65,7 +66,7 @@ abbrev pub upper_given : Option Bound → ℤ
 upper_given None = LAST_SECOND
 upper_given (Some bound) = upper_of bound
 
--- what a list request asks for
+-- the filter of a list request
 abbrev pub filter_of : List ℕ → Option (List ℕ) → Option (List ℕ) → Option (List ℕ) → Filter
 filter_of prefix from until set = record {
   prefix = prefix;
@@ -78,7 +79,7 @@ filter_of prefix from until set = record {
 abbrev pub asked_for : List ℕ → Attributes
 asked_for verb = record no_arguments { verb = Some verb }
 
--- the arguments of a request that is well-formed
+-- the arguments of a well-formed request
 abbrev pub arguments_of_ask : Ask → Attributes
 arguments_of_ask ask.Identify = asked_for (codes "Identify")
 arguments_of_ask (ask.Formats identifier) = record (asked_for (codes "ListMetadataFormats")) { identifier = identifier }

@@ -1,4 +1,4 @@
--- What the calls of a repository answer and leave, by the machine's words: this repository's own.
+-- What the calls of a repository return and leave, in the machine's words: this repository's own.
 use Rattle.std.specs.Prelude.{◌≡◌, ◌+◌, ℕ, ℤ, Bool, true, false, List, Option, None, Result, Ok, Err}
 use Rattle.oai_item.specs.Items.{item_named}
 use Rattle.oai_item.specs.Refusals.{in_repository}
@@ -23,7 +23,7 @@ use Rattle.oai_item.specs.declared.refusals.Refusal.TheVariants as refusal
 use Rattle.oai_repo.specs.declared.responses.Reply.{Reply}
 use Rattle.oai_repo.specs.declared.responses.Reply.TheVariants.{Later, Page}
 
--- ---- what is answered, over an honest store
+-- ---- what is returned, over an honest store
 
 -- the output that a reply is
 abbrev pub output_of_reply : Reply → Output
@@ -35,25 +35,25 @@ abbrev pub IsAsked : RepoFields → Lists → ℤ → List ℕ → Reply → Rep
 IsAsked old before moment arguments reply new after =
     step old.config (state_of old before) moment (query arguments) ≡ (output_of_reply reply, state_of new after)
 
--- what a request leaves, where its reply is dropped: it is what a step leaves
+-- the state after a request whose reply is dropped: that of a step
 abbrev pub IsLeftByStep : RepoFields → Lists → ℤ → List ℕ → RepoFields → Lists → Type 0
 IsLeftByStep old before moment arguments new after = state_of new after ≡ (step old.config (state_of old before) moment (query arguments)).1
 
--- the causes among these that are looked for before any memory is taken and anything is read
+-- the causes among these that are tested before anything is allocated or read
 abbrev pub early_refusal : Config → Holdings → Change → Option ChangeRefusal
 early_refusal config holdings (change.Deposit identifier sets records) = deposit_refusal config holdings.sets sets records
 early_refusal config holdings (change.Delete identifier) = missing_refusal (item_named identifier holdings.items)
 early_refusal config holdings (change.Purge before) = purge_refusal config before
 early_refusal config holdings (change.AddSet spec name) = set_refusal holdings.sets spec
 
--- a change was made or refused: it is what the machine does; or it is a fault, where no early cause refuses the change
+-- a change was made or refused: it is what the machine does; or it is a fault, if no early cause refuses the change
 abbrev pub IsChanged : RepoFields → Lists → ℤ → Change → Result ℤ Refusal → RepoFields → Lists → Type 0
 IsChanged old before moment change (Ok stamp) new after = act_at old.config (state_of old before) moment (changing change) ≡ (accepted stamp, state_of new after)
 IsChanged old before moment change (Err (refusal.Refused cause)) new after =
     act_at old.config (state_of old before) moment (changing change) ≡ (refused_with (in_repository cause), state_of new after)
 IsChanged old before moment change (Err (refusal.Fault fault)) new after = early_refusal old.config (holdings_of old.index old.sets before) change ≡ None
 
--- ---- what a request may change beside the clock
+-- ---- what a request may change besides the clock
 
 -- it asks for a list of records, which may begin, or continues one; an error and any other request change no list
 abbrev pub changes_lists : AskOrError → Bool
@@ -61,15 +61,15 @@ changes_lists (asks (ask.List verb prefix from until set)) = true
 changes_lists (asks (ask.Resume verb token)) = true
 changes_lists request = false
 
--- ---- how much room a call wants, over any store
+-- ---- how much room a call needs, over any store
 
--- a request: for one call of the store where it may begin a list (section 3.5), and for none elsewhere
+-- a request: for one call of the store if it may open a list (section 3.5), and for none otherwise
 abbrev pub room_to_ask : AskOrError → ℕ
 room_to_ask (asks (ask.List verb prefix from until set)) = 1
 room_to_ask request = 0
 
--- a change, where there are so many items: a deposit and a deletion want one call of the store, and a purge wants a version frozen and each
--- item taken out at most
+-- a change, if there are that many items: a deposit and a deletion need one call of the store, and a purge at most a
+-- snapshot and the removal of each item
 abbrev pub room_to_change : ℕ → Change → ℕ
 room_to_change items (change.Deposit identifier sets records) = 1
 room_to_change items (change.Delete identifier) = 1
@@ -90,25 +90,27 @@ OnRefused (Ok _) P = Unit {0}
 OnRefused (Err (refusal.Refused cause)) P = P
 OnRefused (Err (refusal.Fault fault)) P = Unit {0}
 
--- a call that failed has left the repository and all lists as they were; any other has moved the clock to the moment
+-- a call that failed has left the repository and all lists unchanged; any other has moved the clock to the moment
 abbrev pub IsClockAt : {A : Type 0} → Result A Fault → ℤ → RepoFields → Lists → RepoFields → Lists → Type 0
 IsClockAt (Ok _) moment old before new after = new.clock ≡ tick old.clock moment
 IsClockAt (Err fault) moment old before new after = (new ≡ old) × (after ≡ before)
 
--- the first of the lists that have ended is gone from the table, and nothing else is changed in it; so no more are held than may be open, where
--- no more were
+-- the first of the lists that have ended is removed from the table, and nothing else is changed in it; so no more are
+-- held than may be open, if no more were
 pub record DropsEnded (old new : RepoFields) : Type 0 where
   pub table : new.table ≡ dropped_at new.clock old.table
   pub few : HoldsFew old.table → HoldsFew new.table
 
--- a change was refused: the state is the one at the moment, the index is as it was, and the first list that has ended is gone
+-- a change was refused: the state is the one at the moment, the index is unchanged, and the first list that has ended
+-- is gone
 pub record IsRefusedAt (moment : ℤ) (old : RepoFields) (before : Lists) (new : RepoFields) (after : Lists) : Type 0 where
   pub state : state_of new after ≡ moved moment (state_of old before)
   pub index : new.index ≡ old.index
   pub dropped : DropsEnded old new
 
--- a change was accepted with that datestamp: it is that of the clock, of the years 0000 to 9999, the index has the entries of the change, a
--- new set stands behind the others, the open lists are those at the moment, and the first that has ended is gone
+-- a change was accepted with that datestamp: it is that of the clock, in the years 0000 to 9999, the index has the
+-- entries of the change, a new set is the last one, the open lists are those at the moment, and the first that has
+-- ended is gone
 pub record IsAccepted (moment stamp : ℤ) (change : Change) (old : RepoFields) (before : Lists) (new : RepoFields) (after : Lists) : Type 0 where
   pub writable : IsWritable stamp
   pub stamped : stamp ≡ stamp_at new.config new.clock

@@ -1,5 +1,5 @@
--- What a change makes of a repository, or why it is refused. OAI-PMH 2.0, sections 2.3 to 2.7; that a change may be refused is this
--- repository's own.
+-- What a change makes of a repository, or why it is refused. OAI-PMH 2.0, sections 2.3 to 2.7; that a change may be
+-- refused is this repository's own.
 use Rattle.std.specs.Prelude.{ℕ, ℤ, Bool, true, false, ◌&&◌, not, nat_le, List, [], ◌∷◌, ◌++◌, length, codes, Option, Some, None, is_none, option_and_then, int_lt, filter, if◌then◌else◌}
 use Rattle.std.specs.List.{list_all}
 use Rattle.std.specs.Option.{option_or}
@@ -25,7 +25,7 @@ use Rattle.oai_repo.specs.State.{Holdings, NamedSet}
 
 -- ---- a deposit
 
--- why a deposit into these sets, of these records, may not stand as it is: the first cause, in the order of their numbers
+-- why a deposit into these sets, of these records, is refused by itself: the first cause, in the order of their numbers
 unfoldable pub deposit_refusal : Config → List NamedSet → List (List ℕ) → List Metadata → Option ChangeRefusal
 deposit_refusal config sets specs records =
     if not (list_all (has_set sets) specs) then Some UnknownSet
@@ -39,11 +39,11 @@ abbrev pub drops_format : Option ItemState → List Metadata → Bool
 drops_format None records = false
 drops_format (Some item) records = not (list_all (λ (metadata : Metadata). has_record metadata.0 records) item.formats)
 
--- it replaces none, where no further item may stand beside so many
+-- it replaces none, and no further item may be added to that many
 unfoldable pub is_one_too_many : Config → Option ItemState → ℕ → Bool
 is_one_too_many config replaced count = is_none replaced && nat_le config.items count
 
--- why the item may not stand in place of the one of its identifier, if there is one, among so many: the first cause
+-- why the item may not replace the one with its identifier, if there is one, among that many: the first cause
 unfoldable pub item_refusal : Config → Option ItemState → ℕ → ItemState → Option ChangeRefusal
 item_refusal config replaced count item =
     if drops_format replaced item.formats then Some DropsFormat
@@ -51,13 +51,13 @@ item_refusal config replaced count item =
     else (if is_one_too_many config replaced count then Some TooManyItems
     else None))
 
--- the item in place of the one of its identifier, if there is one
+-- the item in place of the one with its identifier, if there is one
 abbrev pub with_new : ItemState → List ItemState → List ItemState
 with_new item items = placed item (without item.identifier items)
 
 -- ---- a deletion
 
--- there is no item to be deleted
+-- there is no item to delete
 abbrev pub missing_refusal : Option ItemState → Option ChangeRefusal
 missing_refusal None = Some NoSuchItem
 missing_refusal (Some item) = None
@@ -67,13 +67,13 @@ abbrev pub dead_refusal : Option ItemState → Option ChangeRefusal
 dead_refusal None = None
 dead_refusal (Some item) = if item.live then None else Some AlreadyDeleted
 
--- the items with what is left of that one, if there is one, in its place
+-- the items with the tombstone of that one, if there is one, in its place
 abbrev pub with_tombstone : ℤ → Option ItemState → List ItemState → List ItemState
 with_tombstone stamp None items = items
 with_tombstone stamp (Some item) items = with_new (tombstone_of stamp item) items
 
--- the items after the deletion of the one of that identifier: where nothing is kept of deleted records it goes, else it stays as a
--- deleted one (section 2.5.1)
+-- the items after the deletion of the one with that identifier: if the policy is to keep no deleted records it is
+-- removed, otherwise it stays as a deleted one (section 2.5.1)
 abbrev pub after_deletion : DeletedRecord → ℤ → List ℕ → List ItemState → List ItemState
 after_deletion No stamp identifier items = without identifier items
 after_deletion Transient stamp identifier items = with_tombstone stamp (item_named identifier items) items
@@ -81,7 +81,7 @@ after_deletion Persistent stamp identifier items = with_tombstone stamp (item_na
 
 -- ---- a purge
 
--- the repository forgets deleted items when a purge asks for it (section 2.5.1)
+-- the policy allows a purge to remove deleted items (section 2.5.1)
 abbrev pub is_transient : DeletedRecord → Bool
 is_transient No = false
 is_transient Transient = true
@@ -91,11 +91,11 @@ is_transient Persistent = false
 abbrev pub limit_in : Granularity → Bound → Option ℤ
 limit_in granularity bound = if is_no_finer_than bound granularity then Some (lower_of bound) else None
 
--- and of the text, where it is such a bound (sections 2.7.1 and 3.3)
+-- and of the text, if it is such a bound (sections 2.7.1 and 3.3)
 abbrev pub limit_of : Granularity → List ℕ → Option ℤ
 limit_of granularity text = option_and_then (limit_in granularity) (bound_of text)
 
--- why deleted items below the bound may not go: the first cause
+-- why deleted items below the bound may not be removed: the first cause
 unfoldable pub purge_refusal : Config → List ℕ → Option ChangeRefusal
 purge_refusal config before =
     if not (is_transient config.deleted) then Some NotTransient
@@ -106,7 +106,7 @@ purge_refusal config before =
 abbrev pub is_past : ℤ → ItemState → Bool
 is_past limit item = not item.live && int_lt item.stamp limit
 
--- the items but those that are past
+-- the items without those that are past
 unfoldable pub purged : ℤ → List ItemState → List ItemState
 purged limit items = filter (λ item. not (is_past limit item)) items
 
@@ -116,7 +116,7 @@ after_purge (Some limit) items = purged limit items
 
 -- ---- a new set
 
--- why the set may not stand among these: the first cause
+-- why the set may not be added to these: the first cause
 unfoldable pub set_refusal : List NamedSet → List ℕ → Option ChangeRefusal
 set_refusal sets spec =
     if has_set sets spec then Some SetExists
@@ -130,8 +130,8 @@ set_refusal sets spec =
 abbrev pub stamp_at : Config → ℤ → ℤ
 stamp_at config clock = stamp_of config.granularity clock
 
--- why a change with that datestamp is refused: the first cause. A deposit makes a live item of the datestamp, in the sets that
--- were given, and with their records
+-- why a change with that datestamp is refused: the first cause. A deposit makes a live item with the datestamp, in the
+-- given sets, and with the given records
 unfoldable pub refusal_of : Config → ℤ → Holdings → Change → Option ChangeRefusal
 refusal_of config stamp holdings (change.Deposit identifier sets records) = option_or
     (deposit_refusal config holdings.sets sets records)
@@ -141,8 +141,8 @@ refusal_of config stamp holdings (change.Delete identifier) =
 refusal_of config stamp holdings (change.Purge before) = purge_refusal config before
 refusal_of config stamp holdings (change.AddSet spec name) = set_refusal holdings.sets spec
 
--- what is held after a change with that datestamp that is not refused: the items without that identifier, and the new one; or what
--- a deletion leaves of them, or a purge; or the sets, and the new one behind them
+-- what is held after a change with that datestamp that is not refused: the items without that identifier, and the new
+-- one; or what a deletion leaves of them, or a purge; or the sets, and the new one after them
 unfoldable pub changed : Config → ℤ → Holdings → Change → Holdings
 changed config stamp holdings (change.Deposit identifier sets records) =
     record holdings { items = with_new (live_item identifier stamp (reduced sets) records) holdings.items }

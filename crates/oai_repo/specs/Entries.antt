@@ -1,4 +1,4 @@
--- The index of a repository's items: under which datestamp each stands in its store. This repository's own.
+-- The index of a repository's items: the datestamp of each in its store. This repository's own.
 use Rattle.std.specs.Prelude.{◌≡◌, ◌+◌, ◌≤◌, ℕ, ℤ, List, length, if◌then◌else◌, Option, None, Some, IsSome, find, map}
 use Rattle.std.specs.BTreeMap.{BTreeMap}
 use Rattle.std.specs.Option.{option_map}
@@ -18,25 +18,25 @@ stamp_in identifier entries = option_map (λ (entry : List ℕ × ℤ). entry.1)
 abbrev pub entries_in : {Y : Type 0} → BTreeMap (String Y) ℤ → Entries
 entries_in stamps = map (λ e. (string_bytes e.0, e.1)) stamps.entries
 
--- the entries where another datestamp, or none, stands for an identifier, and for all others what stood there
+-- the entries with another datestamp, or none, for an identifier, and all others unchanged
 abbrev pub SetsStamp : List ℕ → Option ℤ → Entries → Entries → Type 0
 SetsStamp identifier stamp old new = (q : List ℕ) → stamp_in q new ≡ (if bytes_eq identifier q then stamp else stamp_in q old)
 
--- how many entries there are where an identifier is given a datestamp: one more, where it had none
+-- how many entries there are after an identifier is given a datestamp: one more, if it had none
 abbrev pub count_with : Option ℤ → ℕ → ℕ
 count_with None many = many + 1
 count_with (Some stamp) many = many
 
--- the entries where some may be gone, and none is another
+-- the entries, of which some may be gone, and no other is changed
 abbrev pub ForgetsSome : Entries → Entries → Type 0
 ForgetsSome old new = (q : List ℕ) → IsSome (stamp_in q new) → stamp_in q new ≡ stamp_in q old
 
--- some entries may be gone, none is another, and there are no more
+-- some entries may be gone, no other is changed, and there are no more
 pub record Forgets (old new : Entries) : Type 0 where
   pub some : ForgetsSome old new
   pub fewer : length new ≤ length old
 
--- an identifier that had a datestamp has another one, or none; all others have what they had, and there are no more entries
+-- an identifier that had a datestamp has another one, or none; all others are unchanged, and there are no more entries
 pub record Restamps (identifier : List ℕ) (stamp : Option ℤ) (old new : Entries) : Type 0 where
   pub there : IsSome (stamp_in identifier old)
   pub stamped : SetsStamp identifier stamp old new

@@ -1,10 +1,10 @@
 -- What the calls behind those of a repository do to its items, in the store and in the index: this repository's own.
-use Rattle.std.specs.Prelude.{◌≡◌, ◌⊎◌, ℕ, ℤ, Bool, true, not, List, Option, None, Some, Result, Ok, Err, IsSome, IsTrue, OnErr}
+use Rattle.std.specs.Prelude.{◌≡◌, ◌⊎◌, ℕ, ℤ, Bool, true, false, not, List, Option, None, Some, Result, Ok, Err, IsSome, IsTrue, OnErr}
 use Rattle.std.specs.Option.{option_or}
 use Rattle.oai_item.specs.declared.changes.Change.{Change}
 use Rattle.oai_item.specs.declared.refusals.ChangeRefusal.{ChangeRefusal}
 use Rattle.oai_item.specs.Item.{ItemState}
-use Rattle.oai_item.specs.Items.{item_named}
+use Rattle.oai_item.specs.Items.{is_named, item_named}
 use Rattle.oai_catalogue.specs.Store.{Lists, list_at, with_list, without_list}
 use Rattle.oai_catalogue.specs.declared.versions.Versions.{Ghosts}
 use Rattle.oai_repo.specs.Calls.{early_refusal}
@@ -17,14 +17,15 @@ use Rattle.oai_repo.specs.State.{Holdings, NamedSet}
 use Rattle.oai_item.specs.declared.refusals.Refusal.{Refusal}
 use Rattle.oai_item.specs.declared.refusals.Refusal.TheVariants as refusal
 
--- a change with that datestamp: it is made, or refused by the first cause, or it fails; the last two leave what is held as it was
+-- a change with that datestamp: it is made, or refused by the first cause, or it fails; the last two leave what is held
+-- as it was
 abbrev pub MakesChange : Config → ℤ → Holdings → Change → Result (Unit {0}) Refusal → Holdings → Type 0
 MakesChange config stamp old change (Ok _) new = (refusal_of config stamp old change ≡ None) × (new ≡ changed config stamp old change)
 MakesChange config stamp old change (Err (refusal.Refused cause)) new = (refusal_of config stamp old change ≡ Some cause) × (new ≡ old)
 MakesChange config stamp old change (Err (refusal.Fault fault)) new = (early_refusal config old change ≡ None) × (new ≡ old)
 
--- a part of what is held after a change that neither an early cause nor a late one refuses, that the first of them refuses, or
--- that fails where there is no early one
+-- a part of what is held after a change that neither an early cause nor a late one refuses, that the first of them
+-- refuses, or that fails where there is no early one
 abbrev pub IsDone : {A : Type 0} → Option ChangeRefusal → Option ChangeRefusal → A → A → Result (Unit {0}) Refusal → A → Type 0
 IsDone early late old made (Ok _) new = (option_or early late ≡ None) × (new ≡ made)
 IsDone early late old made (Err (refusal.Refused refused)) new = (option_or early late ≡ Some refused) × (new ≡ old)
@@ -52,6 +53,11 @@ pub record HoldsItems {V : Type 0} (g : Ghosts V) (config : Config) (index : Ite
   pub stands : IsSome (g.lists store index.version)
   pub indexed : IsTrue (g.honest store) → IsIndexed config index sets (g.lists store)
 
+-- there is an item, and it has that identifier
+abbrev pub is_one_named : List ℕ → Option ItemState → Bool
+is_one_named identifier None = false
+is_one_named identifier (Some item) = is_named identifier item
+
 -- the item has an entry, and an honest store holds it, of the size that it may have
 pub record HoldsItem {V : Type 0} (g : Ghosts V) (index : ItemIndex) (item : ItemState) (store : V) : Type 0 where
   pub entered : IsSome (stamp_in item.identifier index.entries)
@@ -63,13 +69,14 @@ pub record IsMadeOn {V : Type 0} (g : Ghosts V) (make : List ItemState → List 
   pub list : IsTrue (g.honest before) → stored_items new (g.lists after) ≡ make (stored_items old (g.lists before))
   pub agrees : IsTrue (g.honest before) → IndexAgrees new.entries (stored_items new (g.lists after))
 
--- the items after a change that neither an early cause nor a late one refuses, that the first of them refuses, or that fails where there is no
--- early one, over an honest store; and the index agrees with them
+-- the items after a change that neither an early cause nor a late one refuses, that the first of them refuses, or that
+-- fails where there is no early one, over an honest store; and the index agrees with them
 pub record IsDoneOn {V : Type 0} (g : Ghosts V) (early late : Option ChangeRefusal) (made : List ItemState) (result : Result (Unit {0}) Refusal) (old : ItemIndex) (before : V) (new : ItemIndex) (after : V) : Type 0 where
   pub done : IsTrue (g.honest before) → IsDone early late (stored_items old (g.lists before)) made result (stored_items new (g.lists after))
   pub agrees : IsTrue (g.honest before) → IndexAgrees new.entries (stored_items new (g.lists after))
 
--- no list changes but that of the index's version, which may get another number; a call that failed has left the index and all lists
+-- no list changes but that of the index's version, which may get another number; a call that failed has left the index
+-- and all lists
 pub record Moves {V A E : Type 0} (g : Ghosts V) (result : Result A E) (old : ItemIndex) (before : V) (new : ItemIndex) (after : V) : Type 0 where
   pub moved : IsMoved old.version (g.lists before) new.version (g.lists after)
   pub err : OnErr result (new ≡ old)

@@ -2,6 +2,6 @@
 use Rattle.oai_repo.specs.Fields.{RepoFields}
 use Rattle.oai_repo.specs.declared.repo.Repo.TheInside.{Inside}
 
--- its configuration, its clock, where its items stand, its sets, and its open lists
+-- its configuration, its clock, the index of its items, its sets, and its open lists
 abbrev pub fields_of_repo : Inside → RepoFields
 fields_of_repo repo = record { config = repo.config; clock = repo.clock; index = repo.index; sets = repo.sets; table = repo.lists }

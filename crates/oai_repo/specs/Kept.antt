@@ -1,5 +1,5 @@
--- What a repository keeps true of its items, whatever is asked of it. OAI-PMH 2.0, sections 2.3 to 2.6, and this repository's
--- own limits.
+-- The invariants of a repository's items, whatever is asked of it. OAI-PMH 2.0, sections 2.3 to 2.6, and this
+-- repository's own limits.
 use Rattle.std.specs.Prelude.{◌≡◌, ◌≤◌, Bool, true, ◌&&◌, not, nat_lt, List, length, codes}
 use Rattle.std.specs.List.{list_all}
 use Rattle.oai_names.specs.Sets.{has_set}
@@ -12,12 +12,13 @@ use Rattle.oai_item.specs.declared.sizes.TheConstants.{MAX_ITEM_BYTES}
 use Rattle.oai_settings.specs.Config.{Config}
 use Rattle.oai_repo.specs.State.{Holdings, NamedSet}
 
--- its spelling has more than 1,048,576 bytes
+-- its encoding has more than 1,048,576 bytes
 abbrev pub is_too_large : ItemState → Bool
 is_too_large item = nat_lt MAX_ITEM_BYTES (length (encoded item))
 
--- an item as the repository keeps it: it has a record in unqualified Dublin Core (section 2.5), each of its records is in a format
--- of the repository and has no field but that format's, each of its setSpecs is that of a set, and it can be stored
+-- an item that satisfies the repository's invariants: it has a record in unqualified Dublin Core (section 2.5), each of
+-- its records is in a format of the repository and has no other fields than that format's, each of its setSpecs is that
+-- of a set, and it can be stored
 abbrev pub is_well_kept : Config → List NamedSet → ItemState → Bool
 is_well_kept config sets item =
     has_record (codes "oai_dc") item.formats
@@ -26,8 +27,8 @@ is_well_kept config sets item =
     && list_all (has_set sets) item.sets
     && not (is_too_large item)
 
--- the items stand in their order, no two have one identifier, there are no more than the configuration allows, and each is well
--- kept
+-- the items are in their order, their identifiers are distinct, there are no more than the configuration allows, and
+-- each satisfies the invariants
 pub record AreKept (config : Config) (holdings : Holdings) : Type 0 where
   pub ordered : are_in_order holdings.items ≡ true
   pub apart : are_apart holdings.items ≡ true

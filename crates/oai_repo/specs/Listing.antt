@@ -1,4 +1,4 @@
--- Lists that are answered in parts, and the tokens that ask for the next one. OAI-PMH 2.0, sections 3.5, 4.3 and 4.5.
+-- Lists that are answered in parts, and the tokens that request the next one. OAI-PMH 2.0, sections 3.5, 4.3 and 4.5.
 use Rattle.std.specs.Prelude.{ℕ, ℤ, pos, max, ◌+◌, ◌%◌, ◌+ℤ◌, ◌-ℤ◌, Bool, true, false, ◌&&◌, ◌==◌, nat_le, nat_lt, List, [], ◌∷◌, ◌++◌, length, map, take, drop, Option, Some, None, is_some, if◌then◌else◌, find}
 use Rattle.std.specs.Int.{int_min}
 use Rattle.oai_names.specs.declared.list_verbs.ListVerb.{ListVerb}
@@ -21,29 +21,29 @@ use Rattle.oai_repo.specs.Answers.{description, filter_of, formats_answer, recor
 use Rattle.oai_settings.specs.Config.{Config}
 use Rattle.oai_repo.specs.State.{FrozenList, Holdings, NamedSet, OpenLists, RepoState}
 
--- the response to a request: an answer, for a document; or how many seconds the client is to wait
+-- the response to a request: an answer, for a document; or how many seconds the client has to wait
 pub data Response : Type 0 where
   with_answer : Answer → Response
   retry_after : ℤ → Response
 
 -- ---- a part of a list
 
--- where a part stands in its list: how many records the list has, and how many of them stand before the part
+-- the position of a part in its list: how many records the list has, and how many of them precede the part
 abbrev pub extent_at : FrozenList → ℕ → Extent
 extent_at list cursor = record { size = length list.items; cursor = cursor }
 
--- the records of the part that begins behind so many of them: at most `chunk`
+-- the records of the part that begins after that many of them: at most `chunk`
 abbrev pub items_from : Config → FrozenList → ℕ → List ItemState
 items_from config list cursor = take config.chunk (drop cursor list.items)
 
--- behind a part of the list of that number and end, before the record `next`, records remain, and the token asks for the part that begins with
--- them; or it completes the list
+-- after a part of a list with that number and end, before the record `next`, records remain, and the token requests the
+-- part that begins with them; or the part completes the list
 abbrev pub continued_at : ℕ → ℤ → Extent → ℕ → Continuation
 continued_at number end extent next =
     if nat_lt next extent.size then remains end extent (token_text (record { list = number; cursor = next }))
     else completes extent
 
--- the part of a list that begins behind so many of its records
+-- the part of a list that begins after that many of its records
 unfoldable pub part_from : Config → FrozenList → ℕ → Page
 part_from config list cursor = record {
   items = items_from config list cursor;
@@ -57,7 +57,7 @@ answer_by_verb list.Identifiers format page = lists_headers page
 answer_by_verb list.Records format page = lists_records format page
 answer_by_verb list.Sets format page = fails BadVerb
 
--- ---- a list that begins
+-- ---- a new list
 
 -- the earliest of the ends of these lists
 abbrev pub earliest_end : FrozenList → List FrozenList → ℤ
@@ -91,21 +91,21 @@ new_list config clock open_lists verb prefix items = record {
 abbrev pub with_new_list : FrozenList → OpenLists → OpenLists
 with_new_list list open_lists = record { lists = open_lists.lists ++ list ∷ []; next = open_lists.next + 1 }
 
--- a list that is too long for one answer: it is opened, and its first part returned; or the client is to wait
+-- a list that is too long for one answer: it is opened, and its first part returned; or the client has to wait
 abbrev pub opens_list : Config → OpenLists → Format → FrozenList → Option ℤ → Response × OpenLists
 opens_list config open_lists format list (Some seconds) = (retry_after seconds, open_lists)
 opens_list config open_lists format list None = (with_answer (answer_by_verb list.verb format (part_from config list 0)), with_new_list list open_lists)
 
--- items that are returned in one answer, with nothing behind them
+-- items that are returned in one answer, with nothing after them
 abbrev pub complete_page : Config → List ItemState → Page
 complete_page config items = record { items = items; granularity = config.granularity; continuation = whole }
 
--- the answer with the items in one page, or noRecordsMatch where there are none
+-- the answer with the items in one page, or noRecordsMatch if there are none
 abbrev pub complete_answer : Config → ListVerb → Format → List ItemState → Answer
 complete_answer config verb format [] = fails NoRecordsMatch
 complete_answer config verb format (item ∷ items) = answer_by_verb verb format (complete_page config (item ∷ items))
 
--- items that were selected: they are returned in one answer where they are not more than `chunk`, and else a list is opened
+-- the selected items: they are returned in one answer if they are at most `chunk`, and otherwise a list is opened
 unfoldable pub selection_response : Config → ℤ → OpenLists → ListVerb → Format → List ItemState → Response × OpenLists
 selection_response config clock open_lists verb format items =
     if nat_le (length items) config.chunk then (with_answer (complete_answer config verb format items), open_lists)
@@ -119,21 +119,21 @@ is_same_verb list.Identifiers list.Identifiers = true
 is_same_verb list.Records list.Records = true
 is_same_verb _ _ = false
 
--- a token with that cursor was handed out, where `given` is the highest that was: each part but the first begins behind a multiple of `chunk`
--- records, and no token asks for the first
+-- a token with that cursor was handed out, if `given` is the highest that was: each part but the first begins after a
+-- multiple of `chunk` records, and no token requests the first
 abbrev pub is_handed_out : ℕ → ℕ → ℕ → Bool
 is_handed_out chunk given cursor = nat_lt 0 cursor && cursor % chunk == 0 && nat_le cursor given
 
--- the cursor is one of a list of so many records: it is below the size, and was handed out
+-- the cursor is one of a list of that many records: it is below the size, and was handed out
 abbrev pub is_valid_cursor : ℕ → ℕ → ℕ → ℕ → Bool
 is_valid_cursor chunk size given cursor = nat_lt cursor size && is_handed_out chunk given cursor
 
--- by the verb `verb` the token continues a list of the verb `list_verb`, of `size` records and with the highest cursor `given`: the two verbs
--- are the same, and the token's cursor is one of the list
+-- by the verb `verb` the token continues a list of the verb `list_verb`, with `size` records and the highest cursor
+-- `given`: the two verbs are the same, and the token's cursor is one of the list
 abbrev pub is_continued : ℕ → ListVerb → Token → ListVerb → ℕ → ℕ → Bool
 is_continued chunk verb token list_verb size given = is_same_verb list_verb verb && is_valid_cursor chunk size given token.cursor
 
--- the list, where the token continues it by the verb
+-- the list, if the token continues it by the verb
 abbrev pub where_continued : Config → ListVerb → Token → Option FrozenList → Option FrozenList
 where_continued config verb token None = None
 where_continued config verb token (Some list) = if is_continued config.chunk verb token list.verb (length list.items) list.given then Some list else None
@@ -142,7 +142,7 @@ where_continued config verb token (Some list) = if is_continued config.chunk ver
 abbrev pub is_of_number : ℕ → FrozenList → Bool
 is_of_number number list = list.number == number
 
--- the list that a token continues: of the open lists the one of its number, where the verb and the cursor are right
+-- the list that a token continues: of the open lists the one with its number, if the verb and the cursor are right
 abbrev pub list_continued : Config → OpenLists → ListVerb → Token → Option FrozenList
 list_continued config open_lists verb token = where_continued config verb token (find (is_of_number token.list) open_lists.lists)
 
@@ -150,24 +150,26 @@ list_continued config open_lists verb token = where_continued config verb token 
 abbrev pub prolonged : Config → ℤ → FrozenList → FrozenList
 prolonged config clock list = record list { end = clock +ℤ pos config.lifetime }
 
--- the cursor of the token of a part, where `next` of the list's `size` records stand up to its end; None where no more records remain
+-- the cursor of the token of a part, if `next` of the list's `size` records come up to its end; None if no more records
+-- remain
 abbrev pub cursor_behind : ℕ → ℕ → Option ℕ
 cursor_behind size next = if nat_lt next size then Some next else None
 
--- the cursor of the token of the part that begins behind the first `cursor` records of the list
+-- the cursor of the token of the part that begins after the first `cursor` records of the list
 abbrev pub next_cursor : Config → FrozenList → ℕ → Option ℕ
 next_cursor config list cursor = cursor_behind (length list.items) (cursor + length (items_from config list cursor))
 
--- the highest cursor that was handed out, once a token with that one is, if there is one
+-- the highest cursor that was handed out, after a token with that one is, if there is one
 abbrev pub highest_given : Option ℕ → ℕ → ℕ
 highest_given None given = given
 highest_given (Some cursor) given = max given cursor
 
--- the list once a part of it was answered, with a token of that cursor or none: it is open for its lifetime from now on
+-- the list after a part of it was answered, with a token of that cursor or none: it is open for its lifetime from now
+-- on
 abbrev pub carried_on : Config → ℤ → Option ℕ → FrozenList → FrozenList
 carried_on config clock next list = record list { end = clock +ℤ pos config.lifetime; given = highest_given next list.given }
 
--- the list once a part of it was answered, where it has the number; any other list as it is
+-- the list after a part of it was answered, if it has the number; any other list is unchanged
 abbrev pub carried_on_at : Config → ℤ → ℕ → Option ℕ → FrozenList → FrozenList
 carried_on_at config clock number next list = if is_of_number number list then carried_on config clock next list else list
 
@@ -180,13 +182,14 @@ abbrev pub part_answer : ListVerb → Option Format → Page → Answer
 part_answer verb None page = fails CannotDisseminateFormat
 part_answer verb (Some format) page = answer_by_verb verb format page
 
--- a list that is continued at that cursor: the part is returned, its token is handed out, and the list stays open from now on
+-- a list that is continued at that cursor: the part is returned, its token is handed out, and the list stays open from
+-- now on
 abbrev pub continued_response : Config → ℤ → OpenLists → ListVerb → ℕ → Option FrozenList → Response × OpenLists
 continued_response config clock open_lists verb cursor None = (with_answer (fails BadResumptionToken), open_lists)
 continued_response config clock open_lists verb cursor (Some list) =
     (with_answer (part_answer verb (format_named list.prefix config.formats) (part_from config (prolonged config clock list) cursor)), with_carried_on config clock list.number (next_cursor config list cursor) open_lists)
 
--- what a token is answered, where the text is one
+-- the response to a token, if the text is one
 abbrev pub token_response : Config → ℤ → OpenLists → ListVerb → Option Token → Response × OpenLists
 token_response config clock open_lists verb None = (with_answer (fails BadResumptionToken), open_lists)
 token_response config clock open_lists verb (Some token) = continued_response config clock open_lists verb token.cursor (list_continued config open_lists verb token)
@@ -198,12 +201,13 @@ abbrev pub has_no_sets : List NamedSet → Bool
 has_no_sets [] = true
 has_no_sets (set ∷ sets) = false
 
--- items that were selected, in the format, where the repository has it
+-- the selected items, in the format, if the repository has it
 abbrev pub format_response : Config → ℤ → OpenLists → ListVerb → Option Format → List ItemState → Response × OpenLists
 format_response config clock open_lists verb None items = (with_answer (fails CannotDisseminateFormat), open_lists)
 format_response config clock open_lists verb (Some format) items = selection_response config clock open_lists verb format items
 
--- ListIdentifiers and ListRecords of these items, which were selected: a set is asked for only where there are sets
+-- ListIdentifiers and ListRecords of these items, which were selected; noSetHierarchy if a set is requested and there
+-- are no sets
 abbrev pub list_response : Config → ℤ → OpenLists → List NamedSet → ListVerb → List ℕ → Option (List ℕ) → List ItemState → Response × OpenLists
 list_response config clock open_lists sets verb prefix set items =
     if is_some set && has_no_sets sets then (with_answer (fails NoSetHierarchy), open_lists)

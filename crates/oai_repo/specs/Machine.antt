@@ -1,4 +1,4 @@
--- The machine of one repository: what it answers to a command, and what it holds then. This repository's own.
+-- The machine of one repository: its outcome for a command, and its state afterwards. This repository's own.
 use Rattle.std.specs.Prelude.{ℕ, ℤ, List, ◌++◌, codes, Option, None, Some, Result, Ok, Err}
 use Rattle.oai_time.specs.declared.granularity.Granularity.{Granularity}
 use Rattle.oai_time.specs.TimeTexts.{datestamp_text}
@@ -19,14 +19,14 @@ use Rattle.oai_repo.specs.State.{RepoState, moved}
 
 -- ---- what is done
 
--- a command: a request as it was read; or a deposit line as it was read, a change, or why the line was refused
+-- a command: a request as it was parsed; or a deposit line as it was parsed, a change, or why the line was refused
 pub data Command : Type 0 where
   requesting : AskOrError → Command
   changing : Change → Command
   rejecting : LineRefusal → Command
 
--- what a command is answered: a document, or how many seconds to wait; or of a line that it was accepted, with a datestamp in seconds
--- from 1970 on, or why not
+-- the outcome of a command: a document, or how many seconds to wait; or that a line was accepted, with a datestamp in
+-- seconds from 1970 on, or why not
 pub data Outcome : Type 0 where
   documented : Document → Outcome
   later : ℤ → Outcome
@@ -43,8 +43,8 @@ abbrev pub outcome_of : Config → ℤ → Attributes → Response → Outcome
 outcome_of config clock asked (with_answer answer) = documented (document_at config clock asked answer)
 outcome_of config clock asked (retry_after seconds) = later seconds
 
--- what a command is answered at the state's clock, and the state that it leaves. A request leaves other lists open where it begins
--- one or continues one; of changes only one that is not refused leaves another state
+-- the outcome of a command at the state's clock, and the state afterwards. A request leaves other lists open if it
+-- begins one or continues one; of changes only one that is not refused leaves another state
 unfoldable pub act : Config → RepoState → Command → Outcome × RepoState
 act config state (requesting request) =
     let done = request_response config state request in
@@ -55,18 +55,18 @@ act config state (rejecting cause) = (refused_with (in_line cause), state)
 
 -- ---- from bytes and to bytes
 
--- what is handed in: a request of OAI-PMH by the bytes of its query, or a line as it was read
+-- an input: a request of OAI-PMH by the bytes of its query, or a line as it was parsed
 pub data RepoInput : Type 0 where
   query : List ℕ → RepoInput
   line : Result Change LineRefusal → RepoInput
 
--- the command that it is, in a repository of the granularity
+-- the command of the input, in a repository with the granularity
 abbrev pub command_of : Granularity → RepoInput → Command
 command_of granularity (query arguments) = requesting (request_of granularity (decoded_pairs arguments))
 command_of granularity (line (Ok change)) = changing change
 command_of granularity (line (Err cause)) = rejecting cause
 
--- what is returned: bytes, or how many seconds the client is to wait
+-- an output: bytes, or how many seconds the client has to wait
 pub data Output : Type 0 where
   bytes : List ℕ → Output
   wait : ℤ → Output
@@ -80,11 +80,11 @@ outcome_output granularity (refused_with cause) = bytes (refusal_line cause)
 
 -- ---- a step
 
--- what a command at a moment is answered, and the state that it leaves: it has moved the clock, whatever becomes of it
+-- the outcome of a command at a moment, and the state afterwards: it has moved the clock, whatever the outcome
 abbrev pub act_at : Config → RepoState → ℤ → Command → Outcome × RepoState
 act_at config state moment command = act config (moved moment state) command
 
--- the output for an input at a moment, and the state that it leaves
+-- the output for an input at a moment, and the state afterwards
 abbrev pub step : Config → RepoState → ℤ → RepoInput → Output × RepoState
 step config state moment input =
     let done = act_at config state moment (command_of config.granularity input) in (outcome_output config.granularity done.0, done.1)

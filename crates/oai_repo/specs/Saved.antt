@@ -1,4 +1,5 @@
--- The parts of a repository's state, and the state that they make when they are restored one after the other. This repository's own.
+-- The parts of a repository's state, and the state that they make when they are restored one after the other. This
+-- repository's own.
 use Rattle.std.specs.Prelude.{ℕ, ℤ, ◌+◌, Bool, true, false, ◌==◌, ◌&&◌, nat_lt, List, [], ◌∷◌, ◌++◌, length, map, Option, None, Some, is_none, Result, Ok, Err}
 use Rattle.oai_item.specs.Item.{ItemState}
 use Rattle.oai_item.specs.Items.{items_after}
@@ -32,18 +33,18 @@ parts_of state =
     begins state.clock state.open_lists.next
     ∷ (map has_named_set state.holdings.sets ++ map has_item state.holdings.items)
 
--- the state with no list open, and the number of the next list raised by so many
+-- the state with no list open, and the number of the next list raised by that much
 abbrev pub ended : ℕ → RepoState → RepoState
 ended raise state = record state { open_lists = record { lists = []; next = state.open_lists.next + raise } }
 
--- the items that stand behind that one, or all
+-- the items that come after that one, or all
 abbrev pub items_behind : Option ItemState → List ItemState → List ItemState
 items_behind None items = items
 items_behind (Some last) items = items_after last.stamp last.identifier items
 
--- ---- what they make
+-- ---- the state that they make
 
--- a state once a part was restored
+-- a state after a part was restored
 abbrev pub with_part : RepoState → Part → RepoState
 with_part state (begins clock next) = record state { clock = clock; open_lists = record { lists = []; next = next } }
 with_part state (has_named_set set) = record state { holdings = record state.holdings { sets = state.holdings.sets ++ set ∷ [] } }
@@ -56,25 +57,25 @@ with_parts state (part ∷ parts) = with_parts (with_part state part) parts
 
 -- ---- which part can be restored
 
--- a repository may begin at a clock of the years 0001 to 9998, where no list is held
+-- a repository may begin at a clock in the years 0001 to 9998, if no list is held
 abbrev pub may_begin : Table → ℤ → Bool
 may_begin table clock = length table.lists == 0 && is_in_years clock
 
--- a set may be added where it is not refused
+-- a set may be added if a change that adds it is not refused
 abbrev pub may_have_set : List NamedSet → List ℕ → Bool
 may_have_set sets spec = is_none (set_refusal sets spec)
 
--- an item may be added that the repository would keep, where it has so many, and fewer than it may have
+-- an item may be added that satisfies the repository's invariants, if there are that many, and fewer than there may be
 abbrev pub may_have_item : Config → List NamedSet → ℕ → ItemState → Bool
 may_have_item config sets count item = is_well_kept config sets item && nat_lt count config.items
 
--- the part can be restored behind what is there
+-- the part can be restored after what is there
 abbrev pub is_restorable : RepoFields → Part → Bool
 is_restorable held (begins clock next) = may_begin held.table clock
 is_restorable held (has_named_set set) = may_have_set held.sets set.0
 is_restorable held (has_item item) = may_have_item held.config held.sets (length held.index.entries) item
 
--- the fault of a call that restores a part, where the part can be restored; elsewhere it says nothing of the store
+-- the fault of a call that restores a part, if the part can be restored; otherwise it says nothing of the store
 abbrev pub fault_of_store : {A : Type 0} → Bool → Result A Fault → Result (Unit {0}) Fault
 fault_of_store false result = Ok tt
 fault_of_store true (Ok _) = Ok tt

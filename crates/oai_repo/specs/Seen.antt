@@ -1,4 +1,4 @@
--- Two views of one repository, which may differ in the arguments of the request alone: this repository's own.
+-- Two views of one repository, which may differ only in the arguments of the request: this repository's own.
 use Rattle.std.specs.Prelude.{◌≡◌}
 use Rattle.oai_repo.specs.declared.view.RepoView.{RepoView}
 

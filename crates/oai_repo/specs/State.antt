@@ -1,5 +1,5 @@
--- The state of a repository, which is all that its answers depend on beside its configuration: this
--- repository's own view of OAI-PMH 2.0, sections 2.3 to 2.7.
+-- The state of a repository, which is all that its answers depend on besides its configuration: this repository's own
+-- view of OAI-PMH 2.0, sections 2.3 to 2.7.
 use Rattle.std.specs.Prelude.{ℕ, ℤ, Bool, int_lt, List, [], filter}
 use Rattle.oai_names.specs.declared.list_verbs.ListVerb.{ListVerb}
 use Rattle.oai_time.specs.Clock.{tick}
@@ -10,14 +10,14 @@ use Rattle.oai_settings.specs.Config.{Config}
 abbrev pub NamedSet : Type 0
 NamedSet = List ℕ × List ℕ
 
--- what deposits change: the items, in the order of their datestamps and, where these are equal, of their identifiers, and
--- the sets, in order of addition
+-- what deposits change: the items, in the order of their datestamps and then of their identifiers, and the sets, in
+-- order of addition
 pub record Holdings : Type 0 where
   pub items : List ItemState
   pub sets : List NamedSet
 
--- a list that was begun to be answered and that tokens continue (section 3.5): its number, the verb and the prefix that were
--- asked for, all items that were selected, as they were, the moment from which on it is open no more, in seconds from 1970 on, and
+-- a list that was begun and that tokens continue (section 3.5): its number, the verb and the prefix of the request, a
+-- snapshot of all items that were selected, the moment from which on it is no longer open, in seconds from 1970 on, and
 -- the highest cursor that was handed out in a token
 pub record FrozenList : Type 0 where
   pub number : ℕ
@@ -46,7 +46,7 @@ no_holdings = record { items = []; sets = [] }
 abbrev pub no_open_lists : OpenLists
 no_open_lists = record { lists = []; next = 1 }
 
--- a repository as it begins: the clock at the lower limit of its datestamps
+-- the initial state of a repository: the clock at the earliestDatestamp
 abbrev pub empty_state : Config → RepoState
 empty_state config = record { clock = config.earliest; holdings = no_holdings; open_lists = no_open_lists }
 

@@ -1,4 +1,4 @@
--- What becomes of the open lists of a repository behind its calls: this repository's own.
+-- The open lists of a repository after its calls: this repository's own.
 use Rattle.std.specs.Prelude.{◌≡◌, ◌⊎◌, ◌<◌, ◌≤◌, ℕ, ℤ, int_le, Bool, true, List, ◌∷◌, find, length, Option, None, Some, IsSome, is_some, if◌then◌else◌}
 use Rattle.oai_time.specs.declared.text.TheConstants.{LAST_SECOND}
 use Rattle.std.specs.List.{list_all}
@@ -22,12 +22,12 @@ use Rattle.oai_repo.specs.Listing.{highest_given, is_continued}
 abbrev pub version_ended : ℤ → Table → Option ℕ
 version_ended now table = option_map (λ (list : OpenList). list.version) (find (has_ended now) table.lists)
 
--- the lists without that one, where there is one
+-- the lists without that one, if there is one
 abbrev pub without_version : Option ℕ → Lists → Lists
 without_version None lists = lists
 without_version (Some v) lists = without_list v lists
 
--- ---- what a repository keeps of its table
+-- ---- the invariant of a repository's table
 
 -- the list's end can be written as a date
 abbrev pub has_end : OpenList → Bool
@@ -37,13 +37,14 @@ has_end list = int_le list.end LAST_SECOND
 abbrev pub is_of_format : Config → OpenList → Bool
 is_of_format config list = is_some (format_named list.filter.prefix config.formats)
 
--- as many lists may be open as the configuration says, each end can be written, and each list is of a format of the repository
+-- at most as many lists may be open as the configuration says, each end can be written, and each list is of a format of
+-- the repository
 pub record IsKeptTable (config : Config) (table : Table) : Type 0 where
   pub limit : table.limit ≡ config.lists
   pub ends : list_all has_end table.lists ≡ true
   pub known : list_all (is_of_format config) table.lists ≡ true
 
--- the clock is in its years, there are no more entries than items may be, and the table is kept
+-- the clock is in its years, there are no more entries than items may be, and the table satisfies its invariant
 pub record IsRepo (config : Config) (clock : ℤ) (entries : Entries) (table : Table) : Type 0 where
   pub dated : is_in_years clock ≡ true
   pub few : length entries ≤ config.items
@@ -55,16 +56,17 @@ pub record IsRepo (config : Config) (clock : ℤ) (entries : Entries) (table : T
 abbrev pub dropped_at : ℤ → Table → Table
 dropped_at now table = record table { lists = without_ended now table.lists }
 
--- the list of which a part was answered: it has another end and another mark, and a token with that cursor was given, where there is one
+-- the list of which a part was answered: it has another end and another mark, and a token with that cursor was given,
+-- if there is one
 abbrev pub kept_open : ℤ → Option ℕ → Option Mark → OpenList → OpenList
 kept_open end next mark list = record list { end = end; given = highest_given next list.given; mark = mark }
 
--- the mark stands behind these items, before the record `next`: the last of them has its datestamp and identifier
+-- the mark is after these items, before the record `next`: the last of them has its datestamp and identifier
 abbrev pub IsMarkBehind : List ItemState → ℕ → Mark → Type 0
 IsMarkBehind items next mark = (mark.cursor ≡ next) × (ends_at mark.stamp mark.identifier items ≡ true)
 
--- what a request makes of the table at that moment: nothing; a part of a list that is open may have been answered; or a list begins, with the
--- next number, where fewer are open than may be
+-- what a request makes of the table at that moment: nothing; a part of a list that is open may have been answered; or a
+-- list begins, with the next number, if fewer are open than may be
 abbrev pub IsAskedTable : ℤ → Table → Table → Type 0
 IsAskedTable now old new =
     (new ≡ old)
@@ -77,14 +79,16 @@ IsAskedTable now old new =
 abbrev pub HoldsFew : Table → Type 0
 HoldsFew table = length table.lists ≤ table.limit
 
--- what a request makes of the table, without the first list that has ended by then; so no more are held than may be open, where no more were
+-- what a request makes of the table, without the first list that has ended by then; so no more are held than may be
+-- open, if no more were
 pub record IsAskedOf (now : ℤ) (old new : Table) : Type 0 where
   pub made : Table
   pub asked : IsAskedTable now old made
   pub dropped : new ≡ dropped_at now made
   pub few : HoldsFew old → HoldsFew new
 
--- the table is one that a request makes, and is kept, the numbers are in use, of others nothing has changed, and the items stand as they did
+-- the table is one that a request makes, and satisfies its invariant, the numbers are in use, nothing of others has
+-- changed, and the items are unchanged
 pub record IsLeftOpen (config : Config) (now : ℤ) (v : ℕ) (old : Table) (before : Lists) (new : Table) (after : Lists) : Type 0 where
   pub asked : IsAskedTable now old new
   pub kept : IsKeptTable config new
@@ -94,7 +98,7 @@ pub record IsLeftOpen (config : Config) (now : ℤ) (v : ℕ) (old : Table) (bef
 
 -- ---- the list that a token continues
 
--- the list, where the token continues it by the verb
+-- the list, if the token continues it by the verb
 abbrev pub table_where : ℕ → ListVerb → Token → Option OpenList → Option (OpenList × ℕ)
 table_where chunk verb token None = None
 table_where chunk verb token (Some list) = if is_continued chunk verb token list.verb list.size list.given then Some (list, token.cursor) else None

@@ -1,12 +1,13 @@
--- What a request sees of a repository, what it needs and leaves, and what is replied: this repository's own.
-use Rattle.std.specs.Prelude.{◌≡◌, ◌+◌, ◌+ℤ◌, ◌<◌, ℕ, ℤ, pos, true, false, List, ◌∷◌, take, Option, None, Some, Result, IsSome, IsTrue, OnErr}
+-- What a request sees of a repository, its precondition and its effect, and the reply: this repository's own.
+use Rattle.std.specs.Prelude.{◌≡◌, ◌+◌, ◌+ℤ◌, ◌<◌, ℕ, ℤ, pos, true, false, List, ◌∷◌, take, Option, None, Some, Result, Ok, Err, IsSome, IsTrue, OnErr}
 use Rattle.oai_names.specs.declared.list_verbs.ListVerb.{ListVerb}
 use Rattle.oai_names.specs.Sets.{HasSetsAbove, has_set}
 use Rattle.oai_item.specs.Formats.{format_named}
 use Rattle.oai_item.specs.Item.{ItemState}
 use Rattle.oai_item.specs.Items.{item_named}
 use Rattle.oai_item.specs.Selection.{Filter, selected}
-use Rattle.oai_answers.specs.Answers.{Answer, Attributes}
+use Rattle.oai_answers.specs.Answers.{Answer, Attributes, fails}
+use Rattle.oai_answers.specs.declared.errors.ErrorCode.{ErrorCode}
 use Rattle.oai_answers.specs.Borrowed.{attributes_of}
 use Rattle.oai_answers.specs.Documents.{document}
 use Rattle.oai_catalogue.specs.Store.{Lists, list_at, with_list}
@@ -18,7 +19,7 @@ use Rattle.oai_lists.specs.Tokens.{token_of}
 use Rattle.oai_args.specs.Asks.{AskOrError}
 use Rattle.oai_args.specs.Verbs.{is_of_records}
 use Rattle.oai_args.specs.declared.requests.Ask.{Ask}
-use Rattle.oai_repo.specs.Answers.{document_at, filter_of}
+use Rattle.oai_repo.specs.Answers.{document_at, filter_of, item_formats_answer, record_answer}
 use Rattle.oai_settings.specs.Config.{Config, is_in_years}
 use Rattle.oai_repo.specs.Fields.{AreInUse, IsIndexed, TableAgrees, is_counted, is_marked, open_lists_of, holdings_of, stored_items, versions_in}
 use Rattle.oai_repo.specs.Listing.{Response, ask_response, list_response, new_list, opens_list, request_response, retry_after, selection_response, token_response, wait_at, with_answer}
@@ -30,7 +31,7 @@ use Rattle.oai_repo.specs.declared.lists.ListRequest.{ListRequest}
 use Rattle.oai_repo.specs.declared.lists.Selection.{Selection}
 use Rattle.oai_repo.specs.declared.view.RepoView.{RepoView}
 
--- ---- what is seen
+-- ---- what it sees
 
 -- what the repository holds
 abbrev pub view_holdings : RepoView → Lists → Holdings
@@ -44,15 +45,15 @@ view_open_lists repo table lists = open_lists_of repo.clock table lists
 abbrev pub view_state : RepoView → Table → Lists → RepoState
 view_state repo table lists = record { clock = repo.clock; holdings = view_holdings repo lists; open_lists = view_open_lists repo table lists }
 
--- what an honest store has of it
+-- what an honest store holds of it
 abbrev pub IsViewIndexed : RepoView → Lists → Type 0
 IsViewIndexed repo lists = IsIndexed repo.config.now repo.index.now repo.sets.now lists
 
--- the item of that identifier, if there is one
+-- the item with that identifier, if there is one
 abbrev pub view_item : RepoView → Lists → List ℕ → Option ItemState
 view_item repo lists identifier = item_named identifier (stored_items repo.index.now lists)
 
--- the items that a filter lets pass
+-- the items that a filter selects
 abbrev pub view_selected : RepoView → Lists → Filter → List ItemState
 view_selected repo lists filter = selected filter (stored_items repo.index.now lists)
 
@@ -60,9 +61,9 @@ view_selected repo lists filter = selected filter (stored_items repo.index.now l
 abbrev pub view_numbers : RepoView → Table → List ℕ
 view_numbers repo table = repo.index.now.version ∷ versions_in table
 
--- ---- what is replied
+-- ---- the reply
 
--- the document that has the answer to the arguments of the request
+-- the document of the answer to the arguments of the request
 abbrev pub document_reply : RepoView → Answer → Reply
 document_reply repo answer = Page (document (document_at repo.config.now repo.clock (attributes_of repo.asked) answer))
 
@@ -80,15 +81,17 @@ pub record IsViewReplyTo (repo : RepoView) (asked : Attributes) (response : Resp
 abbrev pub IsViewReply : RepoView → Response × OpenLists → Reply → Table → Lists → Type 0
 IsViewReply repo response reply new after = IsViewReplyTo repo (attributes_of repo.asked) response reply new after
 
--- ---- what a request needs and leaves
+-- ---- the precondition and the effect of a request
 
--- a request may read: the clock is in its years, the version of the items is in use, and an honest store holds them there
+-- a request may read: the clock is in its years, the version of the items is in use, and an honest store holds them
+-- there
 pub record IsReadable {V : Type 0} (g : Ghosts V) (repo : RepoView) (store : V) : Type 0 where
   pub dated : is_in_years repo.clock ≡ true
   pub stands : IsSome (g.lists store repo.index.now.version)
   pub indexed : IsTrue (g.honest store) → IsViewIndexed repo (g.lists store)
 
--- a request may be performed: besides, the table is kept, all numbers are in use, and the table agrees with what an honest store holds
+-- a request may be performed: besides, the table satisfies its invariant, all numbers are in use, and the table agrees
+-- with what an honest store holds
 pub record IsReady {V : Type 0} (g : Ghosts V) (repo : RepoView) (table : Table) (store : V) : Type 0 where
   pub dated : is_in_years repo.clock ≡ true
   pub kept : IsKeptTable repo.config.now table
@@ -96,22 +99,22 @@ pub record IsReady {V : Type 0} (g : Ghosts V) (repo : RepoView) (table : Table)
   pub agrees : IsTrue (g.honest store) → TableAgrees table (g.lists store)
   pub indexed : IsTrue (g.honest store) → IsViewIndexed repo (g.lists store)
 
--- what a request leaves of the table and of the lists, and that one which failed has left both as they were
+-- what a request leaves of the table and of the lists; one that failed has left both unchanged
 pub record Leaves {V A : Type 0} (g : Ghosts V) (result : Result A Fault) (repo : RepoView) (old : Table) (before : V) (new : Table) (after : V) : Type 0 where
   pub left : IsLeftOpen repo.config.now repo.clock repo.index.now.version old (g.lists before) new (g.lists after)
   pub agrees : IsTrue (g.honest before) → TableAgrees new (g.lists after)
   pub err : OnErr result (new ≡ old)
   pub err_lists : OnErr result (g.lists after ≡ g.lists before)
 
--- a list of what is selected may be answered: the filter asks for records in the format, which is one of the repository, and the verb is one
--- of lists of records
+-- a list of the selection may be answered: the filter asks for records in the format, which is one of the repository,
+-- and the verb is one of lists of records
 pub record IsOfFormat (config : Config) (selection : Selection) : Type 0 where
   pub prefix : selection.filter.prefix ≡ selection.format.now.prefix
   pub known : IsSome (format_named selection.filter.prefix config.formats)
   pub lists : is_of_records selection.verb ≡ true
 
--- a list of so many records has begun that is selected so, behind the others and without a mark: its version, which was in use for nothing, holds the
--- items as they stand
+-- a list of that many records of that selection has begun, after the others and without a mark: its version, which was
+-- not in use, is a snapshot of the items
 pub record HasListBegun {V : Type 0} (g : Ghosts V) (repo : RepoView) (selection : Selection) (size : ℕ) (old : Table) (before : V) (new : Table) (after : V) : Type 0 where
   pub version : ℕ
   pub unused : g.lists before version ≡ None
@@ -120,8 +123,9 @@ pub record HasListBegun {V : Type 0} (g : Ghosts V) (repo : RepoView) (selection
   pub opened : new ≡ with_opened old (next_list old selection.verb selection.filter version size (repo.clock +ℤ pos repo.config.now.lifetime) repo.config.now.chunk)
   pub valid : IsListTable old
 
--- a part of an open list may be answered, behind so many of its records: there are more than that, the list is of a format of the repository,
--- the verb is one of lists of records, its version is in use, and an honest store holds the records that it was opened for, and its mark
+-- a part of an open list may be answered, after that many of its records: there are more than that, the list is of a
+-- format of the repository, the verb is one of lists of records, its version is in use, and an honest store holds the
+-- records that it was opened for, and its mark
 pub record IsContinuing {V : Type 0} (g : Ghosts V) (config : Config) (verb : ListVerb) (list : OpenList) (cursor : ℕ) (store : V) : Type 0 where
   pub within : cursor < list.size
   pub known : IsSome (format_named list.filter.prefix config.formats)
@@ -130,12 +134,12 @@ pub record IsContinuing {V : Type 0} (g : Ghosts V) (config : Config) (verb : Li
   pub counted : IsTrue (g.honest store) → is_counted (g.lists store) list ≡ true
   pub marked : IsTrue (g.honest store) → is_marked (g.lists store) list ≡ true
 
--- ---- what a list request asks for
+-- ---- the filter of a list request
 
 abbrev pub filter_asked : ListRequest → Filter
 filter_asked request = filter_of request.prefix.now request.from.now request.until.now request.set.now
 
--- what asks for the items, or a set is asked for that the repository lacks, and what lies in it too
+-- the filter of the items; or a set is requested that the repository lacks, and all its descendants with it
 abbrev pub IsFilter : List NamedSet → List ℕ → Option (List ℕ) → Option (List ℕ) → Option (List ℕ) → Option Filter → Type 0
 IsFilter sets prefix from until set (Some filter) = filter ≡ filter_of prefix from until set
 IsFilter sets prefix from until set None = (name : List ℕ) × (set ≡ Some name) × (has_set sets name ≡ false) × HasSetsAbove sets
@@ -145,6 +149,11 @@ abbrev pub first_items : RepoView → Lists → Filter → List ItemState
 first_items repo lists filter = take (repo.config.now.chunk + 1) (view_selected repo lists filter)
 
 -- ---- the responses
+
+-- about an item, if there is one: to GetRecord of that prefix, or to ListMetadataFormats where no prefix is given
+abbrev pub answer_about_item : Config → Option ItemState → Option (List ℕ) → Answer
+answer_about_item config item (Some prefix) = record_answer config item prefix
+answer_about_item config item None = item_formats_answer config item
 
 -- to a list request
 abbrev pub view_list_response : RepoView → Table → Lists → ListRequest → Response × OpenLists
@@ -156,13 +165,20 @@ abbrev pub view_selection_response : RepoView → Table → Lists → Selection 
 view_selection_response repo table lists selection =
     selection_response repo.config.now repo.clock (view_open_lists repo table lists) selection.verb selection.format.now (view_selected repo lists selection.filter)
 
--- where a list begins, or the request is to wait
+-- a list request comes to what is selected, whatever the lists are, or to an error, over the lists of an honest store
+abbrev pub IsSelection : RepoView → ListRequest → Result Selection ErrorCode → Type 0
+IsSelection repo request (Ok selection) =
+    IsOfFormat repo.config.now selection × ((table : Table) (lists : Lists) → view_list_response repo table lists request ≡ view_selection_response repo table lists selection)
+IsSelection repo request (Err code) =
+    (table : Table) (lists : Lists) → IsViewIndexed repo lists → view_list_response repo table lists request ≡ (with_answer (fails code), view_open_lists repo table lists)
+
+-- a list begins, or the request has to wait
 abbrev pub view_new_list : RepoView → Table → Lists → Selection → Option ℤ → Response × OpenLists
 view_new_list repo table lists selection wait =
     let open_lists = view_open_lists repo table lists in
     opens_list repo.config.now open_lists selection.format.now (new_list repo.config.now repo.clock open_lists selection.verb selection.format.now.prefix (view_selected repo lists selection.filter)) wait
 
--- why it is to wait
+-- why it has to wait
 abbrev pub view_wait : RepoView → Table → Lists → Option ℤ
 view_wait repo table lists = wait_at repo.config.now repo.clock (view_open_lists repo table lists)
 

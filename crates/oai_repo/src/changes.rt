@@ -24,10 +24,10 @@ pub(crate) use purges::deleted_below;
 use purges::purge;
 use std::alloc::Global;
 
-/// With what a change is made.
+/// The context of a change.
 #[derive(Clone, Copy)]
 pub(crate) struct ChangeContext<'a> {
-    /// What grows takes its memory from it.
+    /// What grows is allocated from it.
     pub(crate) alloc: Global,
     /// The configuration.
     pub(crate) config: &'a RepoConfig,
@@ -35,8 +35,7 @@ pub(crate) struct ChangeContext<'a> {
     pub(crate) stamp: i64,
 }
 
-/// Makes the change, or refuses it by the first cause. A change that is not made leaves everything as it
-/// was.
+/// Makes the change, or refuses it by the first cause. A change that is not made leaves everything unchanged.
 pub(crate) fn make_change<V: Versions>(
     context: &ChangeContext<'_>,
     store: &mut V,

@@ -2,6 +2,7 @@
 //! datestamps.
 ghost use Rattle.std.specs.Prelude.{◌≡◌, ◌≤◌, ◌+◌, ℕ, List, [], if◌then◌else◌, None, Some, true, is_none, length, IfErr, IfOk, IfSome, IsSome, IsTrue, OnErr, OnOk};
 ghost use Rattle.std.specs.BTreeMap.{get_by_text};
+ghost use Rattle.std.specs.Option.{option_copied};
 ghost use Rattle.std.specs.Str.{bytes_eq};
 ghost use Rattle.oai_names.specs.Names.{may_be_identifier};
 ghost use Rattle.oai_item.specs.Encoding.{encoded};
@@ -17,7 +18,7 @@ ghost use Rattle.oai_time.specs.Stamp.{IsWritable};
 ghost use Rattle.oai_item.specs.Item.{ItemState};
 ghost use Rattle.std.specs.List.{list_all};
 ghost use Rattle.oai_repo.specs.Entries.{Forgets, SetsStamp, count_with, stamp_in};
-ghost use Rattle.oai_repo.specs.Indexing.{IsMadeOn, Moves, StandsOn};
+ghost use Rattle.oai_repo.specs.Indexing.{IsMadeOn, Moves, StandsOn, is_one_named};
 
 use crate::changes::deleted_below;
 use oai_catalogue::{Versions, remove_items};
@@ -95,11 +96,11 @@ impl ItemIndex {
             ≡ item_named text.now (stored_items self.now (V.lists store.old))) }
         ensures reads { OnlyReads V.Versions result store.old store.new }
     {
-        if self.stamp_of(text).is_none() {
+        let Some(stamp) = self.stamp_of(text) else {
             return Ok(None);
-        }
+        };
         let identifier = identifier_of(alloc, text)?;
-        self.find(store, &identifier)
+        self.find_at(store, stamp, &identifier)
     }
 
     /// The item of that identifier, if there is one. Any fault but `TooManyPages` may come where it is
@@ -120,16 +121,34 @@ impl ItemIndex {
             ≡ identifier.now)) }
         ensures reads { OnlyReads V.Versions result store.old store.new }
     {
-        let Some(stamp) = self.stamp_of(identifier.as_str()) else {
-            return Ok(None);
-        };
-        let Some(item) = store.find(self.version, stamp, identifier)? else {
-            return Err(Fault::Damaged);
-        };
-        if item.identifier().as_str() != identifier.as_str() {
-            return Err(Fault::Damaged);
+        match self.stamp_of(identifier.as_str()) {
+            Some(stamp) => self.find_at(store, stamp, identifier),
+            None => Ok(None),
         }
-        Ok(Some(item))
+    }
+
+    /// The item of that identifier, whose entry has the datestamp `stamp`. Any fault but `TooManyPages` may
+    /// come, and `Damaged` where the store lacks the item or returns another.
+    fn find_at<V: Versions>(
+        &self,
+        store: &mut V,
+        stamp: i64,
+        identifier: &Identifier,
+    ) -> Result<Option<Item>, Fault>
+        requires stands { StandsOn V.Versions self.now store.old }
+        requires there { stamp_in identifier.now self.now.entries ≡ Some stamp }
+        ensures found { IfOk result (λ item. IsTrue (V.honest store.old) → item
+            ≡ item_named identifier.now (stored_items self.now (V.lists store.old))) }
+        ensures named { IfOk result (λ item. IfSome item (λ item. item.identifier
+            ≡ identifier.now)) }
+        ensures reads { OnlyReads V.Versions result store.old store.new }
+    {
+        let found = store.find(self.version, stamp, identifier)?;
+        if is_one_named(found.as_ref(), identifier.as_str()) {
+            Ok(found)
+        } else {
+            Err(Fault::Damaged)
+        }
     }
 
     /// Puts the item among the others, in place of the one of its identifier, if there is one. A fault
@@ -276,12 +295,27 @@ impl ItemIndex {
         ensures moves { Moves V.Versions result self.old store.old self.new store.new }
         ensures store { Spends V.room V.failures V.honest (length self.old.entries + 1) result store.old store.new }
     {
-        let gone = deleted_below(alloc, store, self.version, limit, self.stamps.len())?;
+        let gone = deleted_below(alloc, store, self.version(), limit, self.len() as usize)?;
+        self.remove_each(store, gone.as_slice())
+    }
+
+    /// Takes the items out, which stand among the others, by a change of a version of its own. Where there
+    /// is none, nothing changes. A fault leaves everything as it was.
+    fn remove_each<V: Versions>(&mut self, store: &mut V, gone: &[Item]) -> Result<(), Fault>
+        requires stands { StandsOn V.Versions self.old store.old }
+        requires taken { IsTrue (V.honest store.old)
+            → AreTaken gone.now (stored_items self.old (V.lists store.old)) }
+        ensures made { OnOk result
+            (IsMadeOn V.Versions (without_each gone.now) self.old store.old self.new store.new) }
+        ensures forgotten { OnOk result (Forgets self.old.entries self.new.entries) }
+        ensures moves { Moves V.Versions result self.old store.old self.new store.new }
+        ensures store { Spends V.room V.failures V.honest (length gone.now + 1) result store.old store.new }
+    {
         if gone.is_empty() {
             return Ok(());
         }
-        self.version = remove_items(store, self.version, gone.as_slice())?;
-        self.forget_each(gone.as_slice());
+        self.version = remove_items(store, self.version, gone)?;
+        self.forget_each(gone);
         Ok(())
     }
 
@@ -306,6 +340,16 @@ impl ItemIndex {
         ensures fewer { length self.new.entries ≤ length self.old.entries }
     {
         self.stamps.remove(identifier);
+    }
+}
+
+/// Whether there is an item, and it has that identifier.
+fn is_one_named(item: Option<&Item>, identifier: &str) -> bool
+    ensures { result ≡ is_one_named identifier.now (option_copied item.entry) }
+{
+    match item {
+        Some(item) => item.identifier().as_str() == identifier,
+        None => false,
     }
 }
 

@@ -1,4 +1,4 @@
-//! What is true of requests and of saved states, in laws: empty functions whose contracts are the statements.
+//! Theorems on requests and on saved states: empty functions whose contracts are the statements.
 ghost use Rattle.std.specs.Prelude.{◌≡◌, ℕ, ℤ, [], false};
 ghost use Rattle.oai_args.specs.Asks.{AskOrError};
 ghost use Rattle.oai_args.specs.Pairs.{decoded_pairs};
@@ -12,7 +12,7 @@ ghost use Rattle.oai_settings.specs.Config.{Config};
 ghost use Rattle.oai_time.specs.declared.granularity.Granularity.{Granularity};
 
 /// A request that neither asks for a list of records nor continues one moves the clock, at which lists may end, and
-/// leaves all else as it was. One without arguments is such a request. A theorem, proved by an empty function.
+/// leaves all else unchanged. One without arguments is such a request. A theorem, proved by an empty function.
 #[tactic(auto, using(crate::proofs::PassLemmas::ticks, crate::proofs::PassLemmas::bare_ticks))]
 pub fn tick_law()
     ensures ticks { (config : Config) (state : RepoState) (moment : ℤ) (request : AskOrError)
@@ -22,8 +22,9 @@ pub fn tick_law()
         → changes_lists (request_of granularity (decoded_pairs [])) ≡ false }
 {}
 
-/// A state is restored from its parts: over one that holds nothing, whatever its clock and its lists, they make that
-/// state with no list open, and with the number of the next list that they give. A theorem, proved by an empty function.
+/// A state is restored from its parts: restored over one that holds nothing, whatever its clock and its lists, they
+/// make that state with no list open, and with the number of the next list that they have. A theorem, proved by an
+/// empty function.
 #[tactic(auto, using(crate::proofs::SavedLemmas::restored))]
 pub fn restore_law()
     ensures { (config : Config) (state start : RepoState) (raise : ℕ)

@@ -15,7 +15,7 @@ ghost use Rattle.oai_repo.specs.Answers as spec;
 ghost use Rattle.oai_repo.specs.Fields.{AreInUse, open_lists_of, versions_in};
 ghost use Rattle.oai_repo.specs.Listing as listing;
 ghost use Rattle.oai_repo.specs.Tables.{dropped_at, has_end, version_ended, without_version};
-ghost use Rattle.oai_repo.specs.Views.{HasListBegun, IsFilter, IsOfFormat, IsReady, IsViewReply, Leaves, first_items, view_list_response, view_new_list, view_open_lists, view_selected, view_selection_response, view_wait};
+ghost use Rattle.oai_repo.specs.Views.{HasListBegun, IsFilter, IsOfFormat, IsReady, IsSelection, IsViewReply, Leaves, document_reply, first_items, view_list_response, view_new_list, view_open_lists, view_selected, view_selection_response, view_wait};
 
 use crate::parts::mark_behind;
 use crate::responses::{Reply, make_reply, reply_with_error};
@@ -26,7 +26,7 @@ use oai_args::BoundText;
 use oai_catalogue::{Filter, Versions};
 use oai_item::{Fault, Format, Item};
 use oai_lists::{Lists, OpenFault};
-use oai_names::{ListVerb, Prefix, Sequence, SetTree, Text};
+use oai_names::{ListVerb, Prefix, SetTree, Text};
 use oai_time::{FIRST_SECOND, LAST_SECOND, lower, upper};
 use std::alloc::{AllocError, Global};
 
@@ -56,8 +56,7 @@ pub(crate) struct Selection<'a> {
     pub(crate) filter: Filter,
 }
 
-/// Replies to a list request: a set is asked for only where there are sets, and one that the repository
-/// lacks has no items.
+/// Replies to a list request.
 pub(crate) fn reply_with_list<V: Versions>(
     repo: &RepoView<'_>,
     lists: &mut Lists,
@@ -73,21 +72,36 @@ pub(crate) fn reply_with_list<V: Versions>(
     ensures left { Leaves V.Versions result repo.now lists.old store.old lists.new store.new }
     ensures store { Spends V.room V.failures V.honest 1 result store.old store.new }
 {
+    let asked = selection_of(repo, request)?;
+    match asked {
+        Ok(selection) => reply_with_selection(repo, lists, store, &selection),
+        Err(code) => Ok(reply_with_error(repo, code)?),
+    }
+}
+
+/// What a list request selects, or the error that it is answered with: a set is asked for only where there are
+/// sets, and one that the repository lacks has no items.
+pub(crate) fn selection_of<'a>(
+    repo: &RepoView<'a>,
+    request: &ListRequest<'_>,
+) -> Result<Result<Selection<'a>, ErrorCode>, AllocError>
+    requires { is_of_records request.now.verb ≡ true }
+    ensures { IfOk result (λ asked. IsSelection repo.now request.now asked) }
+{
     if lacks_sets(repo.sets, request.set) {
-        return Ok(reply_with_error(repo, ErrorCode::NoSetHierarchy)?);
+        return Ok(Err(ErrorCode::NoSetHierarchy));
     }
     let Some(format) = repo.config.formats().find_named(request.prefix) else {
-        return Ok(reply_with_error(repo, ErrorCode::CannotDisseminateFormat)?);
+        return Ok(Err(ErrorCode::CannotDisseminateFormat));
     };
     let Some(filter) = filter_of(repo.alloc, repo.sets, &format.prefix, request)? else {
-        return Ok(reply_with_error(repo, ErrorCode::NoRecordsMatch)?);
+        return Ok(Err(ErrorCode::NoRecordsMatch));
     };
-    let selection = Selection {
+    Ok(Ok(Selection {
         verb: request.verb,
         format,
         filter,
-    };
-    reply_with_selection(repo, lists, store, selection)
+    }))
 }
 
 /// Replies with what is selected: whole where it is no more than a part of a list may have.
@@ -95,13 +109,13 @@ fn reply_with_selection<V: Versions>(
     repo: &RepoView<'_>,
     lists: &mut Lists,
     store: &mut V,
-    selection: Selection<'_>,
+    selection: &Selection<'_>,
 ) -> Result<Reply, Fault>
     requires ready { IsReady V.Versions repo.now lists.old store.old }
-    requires selection { IsOfFormat repo.now.config.now selection }
+    requires selection { IsOfFormat repo.now.config.now selection.now }
     ensures reply { IfOk result (λ reply. IsTrue (V.honest store.old)
         → IsViewReply repo.now
-        (view_selection_response repo.now lists.old (V.lists store.old) selection.entry)
+        (view_selection_response repo.now lists.old (V.lists store.old) selection.now)
         reply lists.new (V.lists store.new)) }
     ensures left { Leaves V.Versions result repo.now lists.old store.old lists.new store.new }
     ensures store { Spends V.room V.failures V.honest 1 result store.old store.new }
@@ -112,21 +126,58 @@ fn reply_with_selection<V: Versions>(
         0,
         most_and_one(repo),
     )?;
-    if first.is_empty() {
-        return Ok(reply_with_error(repo, ErrorCode::NoRecordsMatch)?);
-    }
+    reply_by_first(repo, lists, store, selection, first.as_slice())
+}
+
+/// Replies with what is selected, of which the first items are known, up to one more than a part of a list
+/// may have.
+fn reply_by_first<V: Versions>(
+    repo: &RepoView<'_>,
+    lists: &mut Lists,
+    store: &mut V,
+    selection: &Selection<'_>,
+    first: &[Item],
+) -> Result<Reply, Fault>
+    requires ready { IsReady V.Versions repo.now lists.old store.old }
+    requires selection { IsOfFormat repo.now.config.now selection.now }
+    requires first { IsTrue (V.honest store.old)
+        → first.now ≡ first_items repo.now (V.lists store.old) selection.now.filter }
+    ensures reply { IfOk result (λ reply. IsTrue (V.honest store.old)
+        → IsViewReply repo.now
+        (view_selection_response repo.now lists.old (V.lists store.old) selection.now)
+        reply lists.new (V.lists store.new)) }
+    ensures left { Leaves V.Versions result repo.now lists.old store.old lists.new store.new }
+    ensures store { Spends V.room V.failures V.honest 1 result store.old store.new }
+{
     if repo.config.chunk() < first.len() as u64 {
         return open_list(repo, lists, store, selection, first);
     }
+    Ok(reply_with_all(repo, selection, first)?)
+}
+
+/// Replies with the items as all that are selected.
+fn reply_with_all(
+    repo: &RepoView<'_>,
+    selection: &Selection<'_>,
+    items: &[Item],
+) -> Result<Reply, AllocError>
+    requires dated { is_in_years repo.now.clock ≡ true }
+    requires lists { is_of_records selection.now.verb ≡ true }
+    ensures { IfOk result (λ reply. reply ≡ document_reply repo.now (listing.complete_answer
+        repo.now.config.now selection.now.verb selection.now.format.now items.now)) }
+{
+    if items.is_empty() {
+        return reply_with_error(repo, ErrorCode::NoRecordsMatch);
+    }
     let whole = Listed {
-        items: first.as_slice(),
+        items,
         granularity: repo.config.granularity(),
         resumption: Resumption::Whole,
     };
-    Ok(make_reply(
+    make_reply(
         repo,
         answer_by_verb(selection.verb, selection.format, whole),
-    )?)
+    )
 }
 
 /// One more than a part of a list may have.
@@ -143,17 +194,17 @@ fn open_list<V: Versions>(
     repo: &RepoView<'_>,
     lists: &mut Lists,
     store: &mut V,
-    selection: Selection<'_>,
-    first: Sequence<Item>,
+    selection: &Selection<'_>,
+    first: &[Item],
 ) -> Result<Reply, Fault>
     requires ready { IsReady V.Versions repo.now lists.old store.old }
-    requires selection { IsOfFormat repo.now.config.now selection }
+    requires selection { IsOfFormat repo.now.config.now selection.now }
     requires first { IsTrue (V.honest store.old)
-        → first ≡ first_items repo.now (V.lists store.old) selection.filter }
-    requires more { repo.now.config.now.chunk < length first }
+        → first.now ≡ first_items repo.now (V.lists store.old) selection.now.filter }
+    requires more { repo.now.config.now.chunk < length first.now }
     ensures reply { IfOk result (λ reply. IsTrue (V.honest store.old)
         → IsViewReply repo.now
-        (view_new_list repo.now lists.old (V.lists store.old) selection.entry
+        (view_new_list repo.now lists.old (V.lists store.old) selection.now
         (view_wait repo.now lists.old (V.lists store.old)))
         reply lists.new (V.lists store.new)) }
     ensures left { Leaves V.Versions result repo.now lists.old store.old lists.new store.new }
@@ -172,63 +223,65 @@ fn start_list<V: Versions>(
     repo: &RepoView<'_>,
     lists: &mut Lists,
     store: &mut V,
-    selection: Selection<'_>,
-    first: Sequence<Item>,
+    selection: &Selection<'_>,
+    first: &[Item],
     number: u64,
 ) -> Result<Reply, Fault>
     requires ready { IsReady V.Versions repo.now lists.old store.old }
-    requires selection { IsOfFormat repo.now.config.now selection }
+    requires selection { IsOfFormat repo.now.config.now selection.now }
     requires first { IsTrue (V.honest store.old)
-        → first ≡ first_items repo.now (V.lists store.old) selection.filter }
-    requires more { repo.now.config.now.chunk < length first }
+        → first.now ≡ first_items repo.now (V.lists store.old) selection.now.filter }
+    requires more { repo.now.config.now.chunk < length first.now }
     requires next { number_or_fault (open_fault lists.old repo.now.clock) lists.old.next ≡ Ok number }
     ensures reply { IfOk result (λ reply. IsTrue (V.honest store.old)
         → IsViewReply repo.now
-        (view_new_list repo.now lists.old (V.lists store.old) selection.entry None)
+        (view_new_list repo.now lists.old (V.lists store.old) selection.now None)
         reply lists.new (V.lists store.new)) }
     ensures left { Leaves V.Versions result repo.now lists.old store.old lists.new store.new }
     ensures store { Spends V.room V.failures V.honest 1 result store.old store.new }
 {
-    let size = count_beyond(repo, store, &selection.filter, first.as_slice())?;
+    let size = count_beyond(repo, store, &selection.filter, first)?;
     let part = ListPart {
         number,
         end: repo.end(),
         extent: Extent { size, cursor: 0 },
     };
-    let items = &first.as_slice()[..repo.config.chunk() as usize];
+    let items = &first[..repo.config.chunk() as usize];
     let reply = reply_with_part(repo, selection.verb, selection.format, items, part)?;
-    let mark = mark_behind(repo.alloc, items, repo.config.chunk());
     start_unread(repo, lists, store, selection, size)?;
+    let mark = mark_behind(repo.alloc, items, repo.config.chunk());
     lists.set_mark(number, mark);
     Ok(reply)
 }
 
-/// Begins a list of so many records, of which no part is read: the items as they stand are frozen for it.
+/// Begins a list of so many records, of which no part is read: the items as they stand are frozen for it, and
+/// it keeps a copy of the filter.
 pub(crate) fn start_unread<V: Versions>(
     repo: &RepoView<'_>,
     lists: &mut Lists,
     store: &mut V,
-    selection: Selection<'_>,
+    selection: &Selection<'_>,
     size: u64,
 ) -> Result<(), Fault>
     requires ready { IsReady V.Versions repo.now lists.old store.old }
-    requires selection { IsOfFormat repo.now.config.now selection }
+    requires selection { IsOfFormat repo.now.config.now selection.now }
     requires size { IsTrue (V.honest store.old)
-        → size ≡ length (view_selected repo.now (V.lists store.old) selection.filter) }
-    ensures begun { OnOk result (HasListBegun V.Versions repo.now selection.entry size lists.old store.old
+        → size ≡ length (view_selected repo.now (V.lists store.old) selection.now.filter) }
+    ensures begun { OnOk result (HasListBegun V.Versions repo.now selection.now size lists.old store.old
         lists.new store.new) }
     ensures passed { OnOk result (IsTrue (V.honest store.old)
         → view_open_lists repo.now lists.new (V.lists store.new)
-        ≡ (view_new_list repo.now lists.old (V.lists store.old) selection.entry None).1) }
+        ≡ (view_new_list repo.now lists.old (V.lists store.old) selection.now None).1) }
     ensures left { Leaves V.Versions result repo.now lists.old store.old lists.new store.new }
     ensures store { Spends V.room V.failures V.honest 1 result store.old store.new }
 {
     let end = repo.end();
+    let filter = selection.filter.copy(repo.alloc)?;
     let frozen = store.freeze(repo.index.version())?;
     match lists.open(
         repo.clock,
         selection.verb,
-        selection.filter,
+        filter,
         frozen,
         size,
         end,
@@ -281,14 +334,14 @@ pub(crate) fn answer_by_verb<'a>(verb: ListVerb, format: &'a Format, list: Liste
 }
 
 /// Whether a set is asked for where there are none.
-pub(crate) fn lacks_sets(sets: &SetTree, set: &Option<Text>) -> bool
+fn lacks_sets(sets: &SetTree, set: &Option<Text>) -> bool
     ensures { result ≡ (is_some set.now && listing.has_no_sets sets.now) }
 {
     set.is_some() && sets.as_slice().is_empty()
 }
 
 /// What asks for the items, or None where the repository lacks the set.
-pub(crate) fn filter_of(
+fn filter_of(
     alloc: Global,
     sets: &SetTree,
     prefix: &Prefix,

@@ -1,4 +1,4 @@
-//! The records of a part of a list (OAI-PMH 2.0, section 3.5), and the place behind them.
+//! The records of a part of a list (OAI-PMH 2.0, section 3.5), and the position after them.
 ghost use Rattle.std.specs.Prelude.{◌≡◌, ◌<◌, ◌≤◌, ◌+◌, length, take, drop, true, Some, IfOk, IfSome, IsSome, IsTrue};
 ghost use Rattle.oai_catalogue.specs.Calls.{OnlyReads};
 ghost use Rattle.oai_repo.specs.Fields.{is_counted, is_marked, items_frozen};
@@ -10,9 +10,8 @@ use oai_lists::{Mark, OpenList};
 use oai_names::Sequence;
 use std::alloc::Global;
 
-/// The items of the part of a list that begins behind its first `cursor` records. Any fault but
-/// `TooManyPages` may come, and `Damaged` where the store returns another number of items than the part
-/// has: `chunk`, or as many as remain.
+/// The items of the part of a list that begins after its first `cursor` records. Any fault but `TooManyPages` may come,
+/// and `Damaged` if the store returns another number of items than the part has: `chunk`, or as many as remain.
 pub(crate) fn read_part<V: Versions>(
     store: &mut V,
     list: &OpenList,
@@ -37,9 +36,9 @@ pub(crate) fn read_part<V: Versions>(
     Ok(items)
 }
 
-/// The items of a list behind its first `cursor` records, at most `most` of them. Where the mark of the
-/// list is at that cursor, the store is asked for the items behind the mark's record, so that it passes over
-/// none before it. Any fault but `TooManyPages` may come.
+/// The items of a list after its first `cursor` records, at most `most` of them. If the mark of the list is at that
+/// cursor, the store reads from the mark's record on, so that it skips none before it. Any fault but `TooManyPages` may
+/// come.
 fn items_behind<V: Versions>(
     store: &mut V,
     list: &OpenList,
@@ -60,7 +59,7 @@ fn items_behind<V: Versions>(
     }
 }
 
-/// The mark of the list, where it is at that cursor.
+/// The mark of the list, if it is at that cursor.
 fn mark_at(list: &OpenList, cursor: u64) -> Option<&Mark>
     ensures { IfSome result (λ mark. (list.now.mark ≡ Some mark.now) × (mark.now.cursor ≡ cursor)) }
 {
@@ -76,8 +75,7 @@ fn mark_at(list: &OpenList, cursor: u64) -> Option<&Mark>
     }
 }
 
-/// The mark behind the last of the items, with the cursor `next`. None where there are no items, or where
-/// memory runs out.
+/// The mark after the last of the items, with the cursor `next`. None if there are no items, or if memory runs out.
 pub(crate) fn mark_behind(alloc: Global, items: &[Item], next: u64) -> Option<Mark>
     ensures { IfSome result (λ mark. IsMarkBehind items.now next mark) }
 {

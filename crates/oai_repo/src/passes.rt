@@ -1,5 +1,5 @@
 //! Requests that are performed again: what each leaves of the open lists, with no reply made.
-ghost use Rattle.std.specs.Prelude.{◌≡◌, ◌<◌, ◌+◌, ◌-◌, min, true, false, None, IsTrue, OnOk};
+ghost use Rattle.std.specs.Prelude.{◌≡◌, ◌<◌, ◌+◌, ◌-◌, length, min, true, false, None, IsTrue, OnOk};
 ghost use Rattle.oai_args.specs.Asks.{asks};
 ghost use Rattle.oai_args.specs.Pairs.{decoded_pairs};
 ghost use Rattle.oai_args.specs.Requests.{lists_records, request_of};
@@ -10,9 +10,9 @@ ghost use Rattle.oai_repo.specs.Calls.{changes_lists, room_to_ask};
 ghost use Rattle.oai_repo.specs.Fields.{AreInUse, TableAgrees};
 ghost use Rattle.oai_repo.specs.Listing as listing;
 ghost use Rattle.oai_repo.specs.Tables.{IsKeptTable, IsLeftOpen};
-ghost use Rattle.oai_repo.specs.Views.{IsOfFormat, IsReady, Leaves, view_ask_response, view_list_response, view_numbers, view_open_lists, view_response, view_selection_response, view_token_response};
+ghost use Rattle.oai_repo.specs.Views.{IsOfFormat, IsReady, Leaves, view_ask_response, view_list_response, view_numbers, view_open_lists, view_response, view_selected, view_selection_response, view_token_response};
 
-use crate::lists::{ListRequest, Selection, filter_of, lacks_sets, start_unread};
+use crate::lists::{ListRequest, Selection, selection_of, start_unread};
 use crate::tokens::{carry_on, chunk_of, continued, cursor_behind};
 use crate::view::RepoView;
 use oai_args::{ArgFault, Ask, read_request};
@@ -127,21 +127,11 @@ fn pass_list<V: Versions>(
     ensures left { Leaves V.Versions result repo.now lists.old store.old lists.new store.new }
     ensures store { Spends V.room V.failures V.honest 1 result store.old store.new }
 {
-    if lacks_sets(repo.sets, request.set) {
-        return Ok(());
+    let asked = selection_of(repo, request)?;
+    match asked {
+        Ok(selection) => pass_selection(repo, lists, store, &selection),
+        Err(_) => Ok(()),
     }
-    let Some(format) = repo.config.formats().find_named(request.prefix) else {
-        return Ok(());
-    };
-    let Some(filter) = filter_of(repo.alloc, repo.sets, &format.prefix, request)? else {
-        return Ok(());
-    };
-    let selection = Selection {
-        verb: request.verb,
-        format,
-        filter,
-    };
-    pass_selection(repo, lists, store, selection)
 }
 
 /// Passes a list request by what is selected: a list begins where that is more than a part of a list may have. No page
@@ -150,17 +140,38 @@ fn pass_selection<V: Versions>(
     repo: &RepoView<'_>,
     lists: &mut Lists,
     store: &mut V,
-    selection: Selection<'_>,
+    selection: &Selection<'_>,
 ) -> Result<(), Fault>
     requires ready { IsReady V.Versions repo.now lists.old store.old }
-    requires selection { IsOfFormat repo.now.config.now selection }
+    requires selection { IsOfFormat repo.now.config.now selection.now }
     ensures passed { OnOk result (IsTrue (V.honest store.old)
         → view_open_lists repo.now lists.new (V.lists store.new)
-        ≡ (view_selection_response repo.now lists.old (V.lists store.old) selection.entry).1) }
+        ≡ (view_selection_response repo.now lists.old (V.lists store.old) selection.now).1) }
     ensures left { Leaves V.Versions result repo.now lists.old store.old lists.new store.new }
     ensures store { Spends V.room V.failures V.honest 1 result store.old store.new }
 {
     let size = store.count(repo.index.version(), &selection.filter)? as u64;
+    pass_counted(repo, lists, store, selection, size)
+}
+
+/// Passes a list request that selects so many items.
+fn pass_counted<V: Versions>(
+    repo: &RepoView<'_>,
+    lists: &mut Lists,
+    store: &mut V,
+    selection: &Selection<'_>,
+    size: u64,
+) -> Result<(), Fault>
+    requires ready { IsReady V.Versions repo.now lists.old store.old }
+    requires selection { IsOfFormat repo.now.config.now selection.now }
+    requires size { IsTrue (V.honest store.old)
+        → size ≡ length (view_selected repo.now (V.lists store.old) selection.now.filter) }
+    ensures passed { OnOk result (IsTrue (V.honest store.old)
+        → view_open_lists repo.now lists.new (V.lists store.new)
+        ≡ (view_selection_response repo.now lists.old (V.lists store.old) selection.now).1) }
+    ensures left { Leaves V.Versions result repo.now lists.old store.old lists.new store.new }
+    ensures store { Spends V.room V.failures V.honest 1 result store.old store.new }
+{
     if size <= repo.config.chunk() {
         return Ok(());
     }

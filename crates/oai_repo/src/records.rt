@@ -6,7 +6,7 @@ ghost use Rattle.oai_answers.specs.Answers.{HasWritableTimes, lists_formats, off
 ghost use Rattle.oai_answers.specs.Borrowed.{body_answer, description_of};
 ghost use Rattle.oai_catalogue.specs.Calls.{OnlyReads};
 ghost use Rattle.oai_repo.specs.Answers as spec;
-ghost use Rattle.oai_repo.specs.Views.{IsReadable, document_reply, view_item};
+ghost use Rattle.oai_repo.specs.Views.{IsReadable, answer_about_item, document_reply, view_item};
 
 use crate::responses::{Reply, make_reply};
 use crate::view::RepoView;
@@ -16,37 +16,21 @@ use oai_item::{Fault, Item};
 use oai_names::{SetSpec, Text};
 use oai_settings::RepoConfig;
 
-/// Replies to ListMetadataFormats of an item.
-pub(crate) fn reply_with_formats<V: Versions>(
+/// Replies to GetRecord of that prefix, or to ListMetadataFormats of the item, where no prefix is given.
+pub(crate) fn reply_about_item<V: Versions>(
     repo: &RepoView<'_>,
     store: &mut V,
     identifier: &str,
+    prefix: Option<&str>,
 ) -> Result<Reply, Fault>
     requires { IsReadable V.Versions repo.now store.old }
     ensures reply { IfOk result (λ reply. IsTrue (V.honest store.old) → reply
-        ≡ document_reply repo.now (spec.item_formats_answer repo.now.config.now
-        (view_item repo.now (V.lists store.old) identifier.now))) }
+        ≡ document_reply repo.now (answer_about_item repo.now.config.now
+        (view_item repo.now (V.lists store.old) identifier.now) (option_copied prefix.entry))) }
     ensures reads { OnlyReads V.Versions result store.old store.new }
 {
     let item = repo.index.find_named(repo.alloc, store, identifier)?;
-    Ok(make_reply(repo, item_formats_answer(repo.config, item.as_ref()))?)
-}
-
-/// Replies to GetRecord.
-pub(crate) fn reply_with_record<V: Versions>(
-    repo: &RepoView<'_>,
-    store: &mut V,
-    identifier: &str,
-    prefix: &str,
-) -> Result<Reply, Fault>
-    requires { IsReadable V.Versions repo.now store.old }
-    ensures reply { IfOk result (λ reply. IsTrue (V.honest store.old) → reply
-        ≡ document_reply repo.now (spec.record_answer repo.now.config.now
-        (view_item repo.now (V.lists store.old) identifier.now) prefix.now)) }
-    ensures reads { OnlyReads V.Versions result store.old store.new }
-{
-    let item = repo.index.find_named(repo.alloc, store, identifier)?;
-    Ok(make_reply(repo, record_answer(repo.config, item.as_ref(), prefix))?)
+    Ok(make_reply(repo, answer_about_item(repo.config, item.as_ref(), prefix))?)
 }
 
 /// The answer to ListSets.
@@ -58,6 +42,23 @@ pub(crate) fn sets_answer(sets: &[(SetSpec, Text)]) -> Body<'_>
         Body::Error(ErrorCode::NoSetHierarchy)
     } else {
         Body::ListSets(sets)
+    }
+}
+
+/// The answer to GetRecord of the item, if there is one, in the format of that prefix, or to
+/// ListMetadataFormats of it, where no prefix is given.
+fn answer_about_item<'a>(
+    config: &'a RepoConfig,
+    item: Option<&'a Item>,
+    prefix: Option<&str>,
+) -> Body<'a>
+    ensures answer { body_answer result ≡ answer_about_item config.now
+        (option_copied item.entry) (option_copied prefix.entry) }
+    ensures writable { HasWritableTimes (body_answer result) }
+{
+    match prefix {
+        Some(prefix) => record_answer(config, item, prefix),
+        None => item_formats_answer(config, item),
     }
 }
 

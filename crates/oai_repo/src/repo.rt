@@ -35,14 +35,12 @@ use std::marker::Model;
 /// The number of a repository's first list.
 const FIRST_NUMBER: u64 = 1;
 
-/// One repository: its configuration, its clock, where its items stand in a store, its sets, and the
-/// lists that it has begun to answer.
+/// One repository: its configuration, its clock, the index of its items in a store, its sets, and its open lists.
 ///
-/// Its items are those of one version of the store that each call is given, and each open list has a
-/// version of its own, in which the items stand as they did when the list began. A call has the
-/// condition that the numbers of its versions are in use in the store, no two of them equal, and that an
-/// honest store holds under them what the repository's own calls left there; each call keeps both. What is
-/// done to other versions of the store does not matter.
+/// Its items are those of one version of the store that each call is given, and each open list has a version of its
+/// own, the snapshot of the items when the list began. Each call requires that the numbers of its versions are in use
+/// in the store and distinct, and that an honest store holds under them what the repository's own calls left there;
+/// each call preserves both. What is done to other versions of the store does not matter.
 #[derive(Debug, Drop)]
 pub struct Repo {
     alloc: Global,
@@ -67,10 +65,9 @@ impl Model for Repo {
 }
 
 impl Repo {
-    /// A repository without items and sets, its clock at the lower limit of its datestamps, in a new
-    /// version of the store. What grows in it takes its memory from `alloc`. Any fault may come, and
-    /// `TooManyPages` only where the store may lack room for one call. After each fault the lists of the
-    /// store are as before.
+    /// A repository without items and sets, its clock at the earliestDatestamp, in a new version of the store. What
+    /// grows in it is allocated from `alloc`. Any fault may come, `TooManyPages` only if the store may lack room for
+    /// one call. After a fault the lists of the store are unchanged.
     pub fn new<V: Versions>(alloc: Global, config: RepoConfig, store: &mut V) -> Result<Repo, Fault>
         ensures new { IfOk result (λ repo. IsNew config (V.lists store.old) repo
             (V.lists store.new)) }
@@ -90,19 +87,18 @@ impl Repo {
         })
     }
 
-    /// Performs a request of OAI-PMH, by the bytes of its query, at the moment, in seconds from 1970
-    /// on: it moves the clock and replies with a document, or with how long to wait. Of the lists that have
-    /// ended it drops the first, as each call does that ends without a fault, so that one call does not drop
-    /// many that end at once; a list that has ended is answered no more, dropped or not. After a fault everything
-    /// is as it was, the clock and the store's lists included. Any fault may come, and `TooManyPages`
-    /// only where the request may begin a list and the store may lack room for one call.
+    /// Performs a request of OAI-PMH, by the bytes of its query, at the moment, in seconds from 1970 on: it moves the
+    /// clock and replies with a document, or with how long to wait. It drops the first of the lists that have ended, as
+    /// each call without a fault does, so that no call has to drop many that end at once; a list that has ended is
+    /// answered no more, dropped or not. After a fault everything is unchanged, the clock and the store's lists
+    /// included. Any fault may come, `TooManyPages` only if the request may open a list and the store may lack room for
+    /// one call.
     ///
-    /// A request for one item costs one search of the store. A list that one answer holds costs what the
-    /// store needs to read it. The first part of a longer list costs what the store needs to read it, to
-    /// count what is selected, and to freeze a version. Each further part costs what the store needs to read
-    /// it, wherever it stands, where the list's mark is at its cursor. Where it is not, the store also passes
-    /// over the records before the part: where the part is asked for again after another one was answered,
-    /// and where there was no memory for the mark.
+    /// A request for one item costs one search of the store. A list with a single answer costs what the store needs to
+    /// read it. The first part of a longer list costs what the store needs to read it, to count the selection, and to
+    /// take a snapshot. Each further part costs what the store needs to read it, independent of its offset, if the
+    /// list's mark is at its cursor. Otherwise the store also skips the records before the part: when a part is
+    /// requested again after another one was answered, and when there was no memory for the mark.
     pub fn ask<V: Versions>(
         &mut self,
         store: &mut V,
@@ -140,11 +136,10 @@ impl Repo {
         Ok(reply)
     }
 
-    /// Performs a request again as `ask` does, and makes no reply: the repository is then as `ask` leaves it, but for
-    /// the marks of its lists. Any fault may come, and `TooManyPages` only where the request may begin a list and the
-    /// store may lack room for one call; after it everything is as it was. A further part of a list takes no memory
-    /// beside the arguments and reads nothing; the first part is counted and not read; any other request only moves
-    /// the clock.
+    /// Replays a request: performs it as `ask` does, without a reply. The repository is then as `ask` leaves it, except
+    /// for the marks of its lists. Any fault may come, `TooManyPages` only if the request may open a list and the store
+    /// may lack room for one call; after it everything is unchanged. A further part of a list allocates nothing besides
+    /// the arguments and reads nothing; the first part is counted and not read; any other request only moves the clock.
     pub fn pass<V: Versions>(
         &mut self,
         store: &mut V,
@@ -183,7 +178,7 @@ impl Repo {
     }
 
     /// Whether a request, by the bytes of its query, may change the open lists: whether it asks for a list of records
-    /// or continues one, or memory to read it is refused. Any other moves the clock and does nothing else.
+    /// or continues one, or memory to parse it runs out. Any other only moves the clock.
     pub fn changes_lists(&self, query: &[u8]) -> bool
         ensures { result ≡ false → changes_lists
             (request_of self.now.config.granularity (decoded_pairs query.now)) ≡ false }
@@ -191,18 +186,16 @@ impl Repo {
         may_change_lists(self.alloc, self.config.granularity(), query)
     }
 
-    /// Makes a change at the moment, and answers its datestamp, both in seconds from 1970 on; the
-    /// datestamp is of the years 0000 to 9999. A change that is refused moves the clock, drops the first of the
-    /// lists that have ended, and changes nothing else. After a fault everything is as it was, the clock and
-    /// the store's lists included. Any fault may come. A deposit or a deletion ends with `TooManyPages` only where the
-    /// store may lack room for one call, a purge only where it may lack room for one call more than there are
-    /// items, and a new set never.
+    /// Makes a change at the moment, and returns its datestamp, both in seconds from 1970 on; the datestamp lies in the
+    /// years 0000 to 9999. A change that is refused moves the clock, drops the first of the lists that have ended, and
+    /// changes nothing else. After a fault everything is unchanged, the clock and the store's lists included. Any fault
+    /// may come. A deposit or a deletion returns `TooManyPages` only if the store may lack room for one call, a purge
+    /// only if it may lack room for one call more than there are items, and a new set never.
     ///
-    /// A deposit and a deletion look at no item but the one that they are about; a purge reads each item
-    /// of a datestamp below its bound. A new item, or a new state at the same datestamp, is put into the
-    /// version that stands, a state at another datestamp takes the place of the old one there, and an item
-    /// that leaves no trace is taken out of it. A purge that finds something is made in a frozen version,
-    /// which then takes the place of the old one.
+    /// A deposit and a deletion read only the item that they are about; a purge reads each item with a datestamp below
+    /// its bound. A new item, or a new version of one at the same datestamp, is put into the current version of the
+    /// store; one at another datestamp replaces the old one there; and an item without a tombstone is removed from it.
+    /// A purge that finds something is made in a copy-on-write version, which then replaces the old one.
     pub fn change<V: Versions>(
         &mut self,
         store: &mut V,
@@ -247,11 +240,11 @@ impl Repo {
         }
     }
 
-    /// Restores a part of a saved state behind those that were restored before. `Damaged` where it does not fit: the
-    /// repository begins though a list is held, or with a clock that is not of the years 0001 to 9998; a set stands
-    /// there or has no parent there, or there are 10,000; the repository would not keep the item, or has as many
-    /// items as it may have. Otherwise any fault may come, `Damaged` only where the store gives other items than were put
-    /// into it, and `TooManyPages` only where it may lack room for one call. After each fault everything is as it was.
+    /// Restores a part of a saved state, after those that were restored before. `Damaged` if it does not fit: the
+    /// repository begins though a list is held, or with a clock that is not in the years 0001 to 9998; the set exists
+    /// or has no parent, or there are 10,000; the item violates the repository's invariants, or there are as many items
+    /// as there may be. Otherwise any fault may come, `Damaged` only if the store returns other items than were put
+    /// into it, and `TooManyPages` only if it may lack room for one call. After a fault everything is unchanged.
     pub fn restore<V: Versions>(&mut self, store: &mut V, part: &SavedPart<'_>) -> Result<(), Fault>
         requires { Owns (V.honest store.old) self.old (V.lists store.old) }
         ensures restored { OnOk result (IsTrue (V.honest store.old)
@@ -286,8 +279,8 @@ impl Repo {
         }
     }
 
-    /// Of the items, in their order, those that stand behind `last`, whether or not it is one of them, or all where it
-    /// is None; at most `most` of them. Any fault but `TooManyPages` may come.
+    /// The items, in their order, that come after `last`, whether or not it is one of them, or all if it is None; at
+    /// most `most` of them. Any fault but `TooManyPages` may come.
     pub fn items_behind<V: Versions>(
         &self,
         store: &mut V,
@@ -310,15 +303,15 @@ impl Repo {
         &self.sets
     }
 
-    /// The number that the next list will have; the last of 64 bits is given to none.
+    /// The number that the next list gets; the last one of 64 bits is never used.
     pub fn next_list(&self) -> u64
         ensures { result ≡ self.now.table.next }
     {
         self.lists.next_number()
     }
 
-    /// Moves the clock to the moment, in seconds from 1970 on, drops the first of the lists that have ended,
-    /// and changes nothing else. It takes no memory and cannot fail.
+    /// Moves the clock to the moment, in seconds from 1970 on, drops the first of the lists that have ended, and
+    /// changes nothing else. It allocates nothing and cannot fail.
     pub fn advance<V: Versions>(&mut self, store: &mut V, moment: i64)
         requires { Owns (V.honest store.old) self.old (V.lists store.old) }
         ensures moved { state_of self.new (V.lists store.new)
@@ -351,7 +344,7 @@ impl Repo {
         self.clock = clock;
     }
 
-    /// The clock, in seconds from 1970 on, of the years 0001 to 9998.
+    /// The clock, in seconds from 1970 on, in the years 0001 to 9998.
     pub fn clock(&self) -> i64
         ensures clock { result ≡ self.now.clock }
         ensures in_years { is_in_years self.now.clock ≡ true }

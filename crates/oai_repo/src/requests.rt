@@ -11,7 +11,7 @@ ghost use Rattle.oai_repo.specs.Calls.{room_to_ask};
 ghost use Rattle.oai_repo.specs.Views.{IsReady, IsViewReply, IsViewReplyTo, Leaves, view_ask_response, view_response};
 
 use crate::lists::{ListRequest, reply_with_list};
-use crate::records::{formats_of, identity, reply_with_formats, reply_with_record, sets_answer};
+use crate::records::{formats_of, identity, reply_about_item, sets_answer};
 use crate::responses::{Reply, make_reply, reply_with_error};
 use crate::tokens::reply_with_next_part;
 use crate::view::{RepoView, with_arguments};
@@ -68,10 +68,10 @@ fn reply_to<V: Versions>(
         Ask::Formats { identifier: None } => Ok(make_reply(repo, formats_of(repo.config, None))?),
         Ask::Formats {
             identifier: Some(identifier),
-        } => reply_with_formats(repo, store, identifier.as_str()),
+        } => reply_about_item(repo, store, identifier.as_str(), None),
         Ask::Sets => Ok(make_reply(repo, sets_answer(repo.sets.as_slice()))?),
         Ask::Get { identifier, prefix } => {
-            reply_with_record(repo, store, identifier.as_str(), prefix.as_str())
+            reply_about_item(repo, store, identifier.as_str(), Some(prefix.as_str()))
         }
         Ask::List {
             verb,

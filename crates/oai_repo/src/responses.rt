@@ -1,4 +1,4 @@
-//! What a request is replied: a document, or how long to wait.
+//! The reply to a request: a document, or how long to wait.
 ghost use Rattle.std.specs.Prelude.{◌≡◌, true, IfOk};
 ghost use Rattle.oai_answers.specs.Answers.{HasWritableTimes, IsWritableDocument, fails};
 ghost use Rattle.oai_answers.specs.Borrowed.{body_answer, document_of};
@@ -11,17 +11,17 @@ use oai_answers::{Body, Doc, ErrorCode, write_document};
 use oai_names::Sequence;
 use std::alloc::{AllocError, Global};
 
-/// What a request is replied.
+/// The reply to a request.
 #[derive(Debug, Drop)]
 pub enum Reply {
     /// The bytes of an XML document.
     Page(Sequence<u8>),
-    /// The seconds, from 1 on, after which the request may be made again: as many lists are open as may
-    /// be, or no number is left for one (OAI-PMH 2.0, section 3.1.2.2, the status 503).
+    /// The seconds, at least 1, after which the request may be repeated: as many lists are open as may be, or no number
+    /// is left for one (OAI-PMH 2.0, section 3.1.2.2, the status 503).
     Later(i64),
 }
 
-/// The document that has the answer, as a reply.
+/// The document of the answer, as a reply.
 #[tactic(auto, using(crate::proofs::ClockLemmas::writable))]
 pub(crate) fn make_reply(repo: &RepoView<'_>, body: Body<'_>) -> Result<Reply, AllocError>
     requires dated { is_in_years repo.now.clock ≡ true }
@@ -37,7 +37,7 @@ pub(crate) fn make_reply(repo: &RepoView<'_>, body: Body<'_>) -> Result<Reply, A
     Ok(Reply::Page(Sequence::new(document(repo.alloc, &doc)?)))
 }
 
-/// The document that has the error, as a reply.
+/// The document of the error, as a reply.
 pub(crate) fn reply_with_error(repo: &RepoView<'_>, code: ErrorCode) -> Result<Reply, AllocError>
     requires { is_in_years repo.now.clock ≡ true }
     ensures { IfOk result (λ reply. reply ≡ document_reply repo.now (fails code)) }

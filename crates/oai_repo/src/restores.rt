@@ -1,4 +1,4 @@
-//! A part of a saved state is restored: the repository begins, a set or an item is added.
+//! Restores a part of a saved state: the repository begins, a set or an item is added.
 ghost use Rattle.std.specs.Prelude.{◌≡◌, ◌≤◌, ◌++◌, ◌∷◌, [], if◌then◌else◌, not, false, true, Some, Ok, Err, length, IfErr, IsTrue, OnErr, OnOk};
 ghost use Rattle.std.specs.List.{list_all};
 ghost use Rattle.std.specs.Option.{option_copied};
@@ -28,8 +28,8 @@ use std::alloc::Global;
 /// The first second of the year 0001.
 const FIRST_DATE: i64 = -62_135_596_800;
 
-/// Sets the clock, to that second from 1970 on, and the number of the next list. `Damaged` where a list is held or
-/// the clock is not of the years 0001 to 9998; all is then as it was. It takes no memory.
+/// Sets the clock, to that second from 1970 on, and the number of the next list. `Damaged` if a list is held or the
+/// clock is not in the years 0001 to 9998; then nothing is changed. It allocates nothing.
 pub(crate) fn begin(
     alloc: Global,
     config: &RepoConfig,
@@ -52,22 +52,22 @@ pub(crate) fn begin(
     Ok(())
 }
 
-/// Whether no list is held, and the second, from 1970 on, is of the years 0001 to 9998.
+/// Whether no list is held, and the second, from 1970 on, lies in the years 0001 to 9998.
 fn may_begin(lists: &Lists, start: i64) -> bool
     ensures { result ≡ may_begin lists.now start }
 {
     lists.len() == 0 && is_in_years(start)
 }
 
-/// Whether the second, from 1970 on, is of the years 0001 to 9998.
+/// Whether the second, from 1970 on, lies in the years 0001 to 9998.
 fn is_in_years(second: i64) -> bool
     ensures { result ≡ rule.is_in_years second }
 {
     FIRST_DATE <= second && second <= LAST_TICK
 }
 
-/// Adds the set as the last one. `Damaged` where a change that adds it is refused; else the error is out of memory.
-/// After an error the sets are as they were.
+/// Adds the set as the last one. The error is `Damaged` if a change that adds it would be refused, otherwise out of
+/// memory. After an error the sets are unchanged.
 pub(crate) fn restore_set(sets: &mut SetTree, set: &SetSpec, name: &str) -> Result<(), Fault>
     ensures added { OnOk result (sets.new ≡ sets.old ++ (set.now, name.now) ∷ []) }
     ensures damaged { may_have_set sets.old set.now ≡ false → result ≡ Err fault.Damaged }
@@ -82,9 +82,9 @@ pub(crate) fn restore_set(sets: &mut SetTree, set: &SetSpec, name: &str) -> Resu
     }
 }
 
-/// Puts the item among the others, in place of the one of its identifier, if there is one. `Damaged` where the
-/// repository would not keep such an item, or has as many items as it may have; else any fault may come. After an
-/// error everything is as it was.
+/// Adds the item, in place of the one with its identifier, if there is one. `Damaged` if it violates the repository's
+/// invariants, or there are as many items as there may be; otherwise any fault may come. After an error everything is
+/// unchanged.
 pub(crate) fn restore_item<V: Versions>(
     alloc: Global,
     config: &RepoConfig,
@@ -114,7 +114,8 @@ pub(crate) fn restore_item<V: Versions>(
     index.put(alloc, store, item)
 }
 
-/// Whether the repository would keep the item, and has fewer than it may have, where it has `count`.
+/// Whether the item satisfies the repository's invariants, and the repository, which has `count` items, may have one
+/// more.
 fn may_have_item(config: &RepoConfig, sets: &SetTree, count: u64, item: &Item) -> bool
     ensures may { result ≡ may_have_item config.now sets.now count item.now }
     ensures stamped { IsStamp item.now.stamp }
@@ -122,8 +123,8 @@ fn may_have_item(config: &RepoConfig, sets: &SetTree, count: u64, item: &Item) -
     is_well_kept(config, sets, item) && count < config.items()
 }
 
-/// Whether the repository would keep the item: it has a record in oai_dc, each of its records is of a format of the
-/// repository and has no field but that format's, its sets are there, and it is not too large.
+/// Whether the item satisfies the repository's invariants: it has a record in oai_dc, each of its records is in a
+/// format of the repository and has no other fields than that format's, its sets exist, and it is not too large.
 fn is_well_kept(config: &RepoConfig, sets: &SetTree, item: &Item) -> bool
     ensures kept { result ≡ spec.is_well_kept config.now sets.now item.now }
     ensures stamped { IsStamp item.now.stamp }
@@ -167,7 +168,7 @@ fn have_known_fields(formats: &Formats, mut records: ItemRecords<'_>) -> bool
     true
 }
 
-/// Whether each field is one of the format's, where there is one.
+/// Whether each field is one of the format's, if there is one.
 fn are_known(format: Option<&Format>, fields: Fields<'_>) -> bool
     ensures { result ≡ are_fields_of (option_copied format.entry) fields.entry }
 {

@@ -1,4 +1,4 @@
-//! What is read of a repository to save it: all its items, in parts.
+//! Reads all items of a repository, in batches, to save it.
 ghost use Rattle.std.specs.Prelude.{◌≡◌, true, take, IfErr, IfOk, IsSome, IsTrue};
 ghost use Rattle.std.specs.List.{list_all};
 ghost use Rattle.std.specs.Option.{option_copied};
@@ -16,7 +16,7 @@ use oai_names::{NameFault, Prefix, Sequence};
 use oai_time::{FIRST_SECOND, LAST_SECOND};
 use std::alloc::Global;
 
-/// Of the items of a version, in their order, those behind `last`, or the first, at most `most` of them. Any fault but
+/// The items of a version, in their order, after `last`, or from the first on, at most `most` of them. Any fault but
 /// `TooManyPages` may come.
 pub(crate) fn read_behind<V: Versions>(
     alloc: Global,
@@ -42,7 +42,7 @@ pub(crate) fn read_behind<V: Versions>(
     }
 }
 
-/// What asks for the items of datestamps up to that one, in seconds from 1970 on, live and deleted. The error is out
+/// The filter for the items with datestamps up to that one, in seconds from 1970 on, live and deleted. The error is out
 /// of memory.
 pub(crate) fn asked_until(alloc: Global, last: i64) -> Result<Filter, Fault>
     ensures ok { IfOk result (λ asked. asked ≡ until last) }
@@ -52,7 +52,7 @@ pub(crate) fn asked_until(alloc: Global, last: i64) -> Result<Filter, Fault>
     Ok(Filter::new(prefix, FIRST_SECOND, last, None))
 }
 
-/// The prefix of that text, which is one. The error is out of memory.
+/// The text as a prefix, which it is. The error is out of memory.
 fn prefix_of(alloc: Global, text: &str) -> Result<Prefix, Fault>
     requires { may_be_prefix text.now ≡ true }
     ensures ok { IfOk result (λ prefix. prefix ≡ text.now) }

@@ -32,22 +32,22 @@ pub(crate) struct ListPart {
     pub(crate) number: u64,
     /// When the list ends, in seconds from 1970 on.
     pub(crate) end: i64,
-    /// How many records the list has, and how many of them stand before the part.
+    /// How many records the list has, and how many of them precede the part.
     pub(crate) extent: Extent,
 }
 
-/// A part of a list that was continued, as it was answered.
+/// A part of a list that was continued, with its answer.
 #[derive(Drop)]
 struct AnsweredPart {
     /// The reply.
     reply: Reply,
-    /// The cursor of its token, where records remain.
+    /// The cursor of its token, if records remain.
     next: Option<u64>,
-    /// The place behind its last record, where memory was found for it.
+    /// The position after its last record, if there was memory for it.
     mark: Option<Mark>,
 }
 
-/// Replies with the part that the token asks for, or with badResumptionToken.
+/// Replies with the part that the token requests, or with badResumptionToken.
 pub(crate) fn reply_with_next_part<V: Versions>(
     repo: &RepoView<'_>,
     lists: &mut Lists,
@@ -82,8 +82,8 @@ pub(crate) fn chunk_of(repo: &RepoView<'_>) -> u64
     repo.config.chunk()
 }
 
-/// The open list that the token continues by that verb, and how many of its records come before the part
-/// that is asked for. Each part but the last has `chunk` records.
+/// The open list that the token continues by that verb, and how many of its records precede the requested part. Each
+/// part but the last has `chunk` records.
 pub(crate) fn continued<'a>(
     lists: &'a Lists,
     now: i64,
@@ -113,7 +113,7 @@ fn is_valid_cursor(list: &OpenList, chunk: u64, cursor: u64) -> bool
     cursor < list.size && is_handed_out(chunk, list.given, cursor)
 }
 
-/// Whether a token with the cursor was handed out, where `given` is the highest that was.
+/// Whether a token with the cursor was handed out, if `given` is the highest that was.
 fn is_handed_out(chunk: u64, given: u64, cursor: u64) -> bool
     requires some { chunk ≢ 0 }
     ensures { result ≡ listing.is_handed_out chunk given cursor }
@@ -121,8 +121,8 @@ fn is_handed_out(chunk: u64, given: u64, cursor: u64) -> bool
     0 < cursor && cursor % chunk == 0 && cursor <= given
 }
 
-/// Changes the list of that number, of which a part was answered: it ends at `end`, in seconds from 1970 on,
-/// the cursor `next` of the part's token, if it has one, was given, and its mark is `mark`. It takes no memory.
+/// Changes the list with that number, of which a part was answered: it ends at `end`, in seconds from 1970 on, the
+/// cursor `next` of the part's token, if it has one, was given, and its mark is `mark`. It allocates nothing.
 pub(crate) fn carry_on(
     lists: &mut Lists,
     number: u64,
@@ -154,9 +154,8 @@ fn is_same_verb(a: ListVerb, b: ListVerb) -> bool
     }
 }
 
-/// Replies with the part of the list that begins behind its first `cursor` records. Returned with it are the
-/// cursor of its token, which expires a lifetime after the clock, and the mark behind its last record. The
-/// list is not changed.
+/// Replies with the part of the list that begins after its first `cursor` records. Also returns the cursor of its
+/// token, which expires a lifetime after the clock, and the mark after its last record. The list is not changed.
 fn reply_from<V: Versions>(
     repo: &RepoView<'_>,
     store: &mut V,
@@ -191,7 +190,7 @@ fn reply_from<V: Versions>(
     })
 }
 
-/// How many records of a list stand up to the end of the part: those before it, and the part's own.
+/// How many records of a list there are up to the end of the part: those before it, and the part's own.
 fn end_of_part(extent: Extent, items: &[Item]) -> u64
     requires within { extent.cursor + length items.now ≤ extent.size }
     ensures { result ≡ extent.cursor + length items.now }
@@ -199,15 +198,15 @@ fn end_of_part(extent: Extent, items: &[Item]) -> u64
     extent.cursor + items.len() as u64
 }
 
-/// The cursor of the token of a part, where `next` of the list's `size` records stand up to its end. None
-/// where no more records remain.
+/// The cursor of the token of a part, if `next` of the list's `size` records come up to its end. None if no more
+/// records remain.
 pub(crate) fn cursor_behind(size: u64, next: u64) -> Option<u64>
     ensures { result ≡ listing.cursor_behind size next }
 {
     if next < size { Some(next) } else { None }
 }
 
-/// The document with the items as the part of the list that begins behind its first `cursor` records.
+/// The document with the items as the part of the list that begins after its first `cursor` records.
 fn reply_with_items(
     repo: &RepoView<'_>,
     verb: ListVerb,
@@ -246,8 +245,7 @@ fn reply_with_items(
     }
 }
 
-/// The document with the items as that part of a list. A token asks for the next part, where records
-/// remain.
+/// The document with the items as that part of a list. A token requests the next part, if records remain.
 pub(crate) fn reply_with_part(
     repo: &RepoView<'_>,
     verb: ListVerb,
@@ -286,8 +284,8 @@ pub(crate) fn reply_with_part(
     make_reply(repo, answer_by_verb(verb, format, list))
 }
 
-/// The items as a document lists them: with datestamps of the repository's granularity, and with what the
-/// document says of the list beyond them.
+/// The items as a document lists them: with datestamps at the repository's granularity, and with how the list
+/// continues.
 fn listed<'a>(repo: &RepoView<'_>, items: &'a [Item], resumption: Resumption<'a>) -> Listed<'a>
     ensures { result ≡ record {
       items = items.entry;

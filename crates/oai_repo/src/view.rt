@@ -1,4 +1,4 @@
-//! A repository as a request sees it.
+//! A repository, as a request sees it.
 ghost use Rattle.std.specs.Prelude.{◌≡◌, ◌+ℤ◌, pos, int_le, int_lt, true};
 ghost use Rattle.oai_time.specs.declared.text.TheConstants.{LAST_SECOND};
 ghost use Rattle.std.specs.Option.{option_copied};
@@ -16,16 +16,16 @@ use oai_names::{ListVerb, SetTree, Text};
 use oai_settings::RepoConfig;
 use std::alloc::Global;
 
-/// A repository as a request sees it, and what the request asks for.
+/// A repository as a request sees it, and the arguments of the request.
 #[derive(Clone, Copy)]
 pub(crate) struct RepoView<'a> {
-    /// What a reply takes its memory from.
+    /// What a reply is allocated from.
     pub(crate) alloc: Global,
     /// The configuration.
     pub(crate) config: &'a RepoConfig,
     /// The clock, in seconds from 1970 on.
     pub(crate) clock: i64,
-    /// Where the items stand.
+    /// The index of the items.
     pub(crate) index: &'a ItemIndex,
     /// The sets.
     pub(crate) sets: &'a SetTree,
@@ -34,7 +34,7 @@ pub(crate) struct RepoView<'a> {
 }
 
 impl RepoView<'_> {
-    /// How long a list stays open, in seconds.
+    /// The lifetime of a list, in seconds.
     #[tactic(auto, unfolding(oai_settings::specs::Config::are_limits))]
     pub(crate) fn lifetime(&self) -> i64
         ensures { result ≡ pos self.now.config.now.lifetime }
@@ -42,7 +42,7 @@ impl RepoView<'_> {
         self.config.lifetime() as i64
     }
 
-    /// When a list ends of which a part is returned now, in seconds from 1970 on.
+    /// The end of a list of which a part is returned now, in seconds from 1970 on.
     #[tactic(auto, unfolding(oai_settings::specs::Config::are_limits))]
     pub(crate) fn end(&self) -> i64
         requires { is_in_years self.now.clock ≡ true }
@@ -55,7 +55,7 @@ impl RepoView<'_> {
     }
 }
 
-/// The view of the repository in which the arguments of that request were asked.
+/// The view of the repository with the arguments of that request.
 pub(crate) fn with_arguments<'a>(repo: RepoView<'a>, ask: &'a Ask) -> RepoView<'a>
     ensures same { SeesSame repo.entry result }
     ensures asked { attributes_of result.asked ≡ spec.arguments_of_ask ask.now }
@@ -127,7 +127,7 @@ fn name_of(verb: ListVerb) -> &'static str
     }
 }
 
-/// The text, where it was given.
+/// The text, if it was given.
 pub(crate) fn text_in(text: &Option<Text>) -> Option<&str>
     ensures { option_copied result ≡ text.now }
 {
@@ -137,7 +137,7 @@ pub(crate) fn text_in(text: &Option<Text>) -> Option<&str>
     }
 }
 
-/// The text of the bound, where it was given.
+/// The text of the bound, if it was given.
 fn bound_text_in(text: &Option<BoundText>) -> Option<&str>
     ensures { option_copied result ≡ text.now }
 {

@@ -1,6 +1,7 @@
 -- A life of a server, told: its turns, as far as the journal kept them.
 use Rattle.std.proofs.Common.{◌≡◌, ◌∙◌, inl, inr, ◌≤◌, ℕ, zero, suc, ◌+◌, ◌-◌, ◌++◌, List, [], ◌∷◌, length, map, Option, None, Some, Result, Ok, Err, slice_index_or, refl, sym, ap, arith, subst, take}
 use Rattle.std.specs.List.{AllByRecursion, AllZip}
+use Rattle.std.specs.Prelude.{Contains}
 use Rattle.std.proofs.lemmas.List.{append-nil, length-append}
 use Rattle.std.proofs.Math.Seq.{take-append-add}
 use Rattle.slab.specs.Slab.{Slab}
@@ -11,7 +12,7 @@ use Rattle.oai_journal.specs.Records.{Entry}
 use Rattle.oai_journal.specs.declared.journals.Journal as journal
 use Rattle.oai_serving.specs.Links.{Link}
 use Rattle.oai_serving.specs.Rounds.{EndsService, IsRoundSettled, served_in}
-use Rattle.oai_serving.specs.Tables.{AreLinksAnswered, AreLinksKept}
+use Rattle.oai_serving.specs.Tables.{AreAllAnswered, AreAllKept, AreLinksKept}
 use Rattle.oai_serving.specs.declared.faults.ServeFault.{ServeFault}
 use Rattle.oai_serving.specs.declared.faults.ServeFault.TheVariants.{Clock, Unsettled, Wait}
 use Rattle.oai_durable.specs.Journaled.{IsExchange, IsSettled, Parts}
@@ -128,6 +129,17 @@ unlinked_kept {S} contents remaining links none = record {
     apart_at : {link : Link S} {found : Option (Link S)} → found ≡ None → found ≡ Some link → ⊥
     apart_at is there = cc
 
+nobody : {A : Type 0} (a : A) → Contains [] a → ⊥
+nobody a is = omega (arith, is.1)
+
+all_kept : {S : Type 0} (contents remaining : S → Option (List ℕ)) (links : Slab (Link S)) → links.slots ≡ [] → AreAllKept contents remaining [] [] [] links
+all_kept {S} contents remaining links none = record {
+  kept = unlinked_kept contents remaining links none;
+  over = λ number last is. absurd (nobody {A = ℕ × S} (number, last) is);
+  apart = λ number last is h. nobody {A = ℕ × S} (number, last) is;
+  all = λ number low high. absurd (omega (arith, low, high));
+}
+
 long_append : {A : Type 0} (xs ys : List A) → length xs ≤ length (xs ++ ys)
 long_append xs ys = let many : length (xs ++ ys) ≡ length xs + length ys = length-append xs ys in grind (arith)
 
@@ -167,9 +179,10 @@ tell {S} {H} {J} view j contents remaining law begun life is =
         held = subst (λ (turns : List Turn). AreThose (map its turns) life.behind) left.parts
             (subst (AreThose (map its after.turns)) (over_served view j service.mid life.new.handler life.result service.ends ∙ is.behind) after.those);
         streams = service.streams;
-        accepts = service.accepts;
-        clients = subst (λ (rounds : List (List Served)). AreLinksAnswered contents remaining service.streams (served_in rounds) life.new.links) is.rounds
-            (service.answered [] [] is.none (unlinked_kept contents remaining life.old.links is.unlinked));
+        gone = service.parted;
+        passes = service.passes;
+        clients = subst (λ (rounds : List (List Served)). AreAllAnswered contents remaining service.streams service.parted (served_in rounds) life.new.links) is.rounds
+            (service.answered [] [] [] is.none (all_kept contents remaining life.old.links is.unlinked));
       };
       turned = turns_append begun life.found answered left.kept before.goes.turned (turns_front begun front left.kept left.others (subst (AreTurns begun front) left.parts after.turned));
       left = left_all life.found life.left answered left.kept left.records;

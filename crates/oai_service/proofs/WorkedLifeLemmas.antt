@@ -2,7 +2,7 @@
 use Rattle.std.proofs.Common.{◌≡◌, ◌≢◌, ◌∙◌, inl, ℕ, zero, suc, ◌<◌, Bool, true, false, List, [], ◌∷◌, ◌++◌, length, map, codes, drop, Option, Some, Ok, Err, take, unwrap_or, refl, sym, ap, subst, arith}
 use Rattle.std.specs.Fmt as fmt
 use Rattle.std.specs.List.{AllByRecursion, AllZip, flat_map, list_all}
-use Rattle.std.specs.Prelude.{nat_lt}
+use Rattle.std.specs.Prelude.{Contains, nat_lt}
 use Rattle.std.proofs.lemmas.Bool.{lt-ltb}
 use Rattle.std.proofs.lemmas.List.{append-nil, append_assoc, take-append-drop}
 use Rattle.std.proofs.Math.Nat.{le_refl}
@@ -22,10 +22,11 @@ use Rattle.oai_front.proofs.RunLemmas.{done_join, none_unfinished}
 use Rattle.oai_host.specs.Hosts.{HostState, IsExchanged, Repository}
 use Rattle.oai_host.specs.Redone as host
 use Rattle.oai_journal.specs.Records.{Entry}
+use Rattle.oai_serving.specs.Accepted.{known_of}
 use Rattle.oai_serving.specs.Links.{Link}
 use Rattle.oai_serving.specs.Received.{IsReceived}
 use Rattle.oai_serving.specs.Rounds.{AreSettled, served_in}
-use Rattle.oai_serving.specs.Tables.{AreLinksAnswered, AreLinksKept, IsAnswered}
+use Rattle.oai_serving.specs.Tables.{AreAllThere, AreGoneAnswered, AreLinksAnswered, AreLinksKept, IsAnswered}
 use Rattle.oai_serving.specs.declared.faults.ServeFault.TheVariants.{Wait}
 use Rattle.oai_durable.specs.Journaled.{IsExchange, IsHeld, IsSettled, Parts}
 use Rattle.oai_durable.specs.Records.{call_in, left_by, redone_all}
@@ -252,19 +253,41 @@ links_answered : (kept : List Repository) (deeds lost : List Deed) (waits : Bool
 links_answered kept deeds lost waits held accepted served are own none may zero link there =
     let done : List Done = done_all kept deeds in
     let stream : Wire = (link_of 1 (sent_of waits done) (left_of waits done)).stream in
-    subst (IsAnswered written_to unread_of accepted served) (the_link there) (record {
+    subst (λ (l : Link Wire). IsAnswered written_to unread_of accepted served l.connection.number l.stream) (the_link there) (record {
       first = client_of deeds;
       numbered = record { front = []; later = client_of lost ∷ []; stands = are; at = refl };
       received = subst (IsReceived written_to unread_of (client_of deeds) stream) (sym own) (first_received kept deeds waits may);
     })
 links_answered kept deeds lost waits held accepted served are own none may (suc zero) link there =
-    subst (IsAnswered written_to unread_of accepted served) (the_link there) (record {
+    subst (λ (l : Link Wire). IsAnswered written_to unread_of accepted served l.connection.number l.stream) (the_link there) (record {
       first = client_of lost;
       numbered = record { front = client_of deeds ∷ []; later = []; stands = are; at = refl };
       received = subst (IsReceived written_to unread_of (client_of lost) (link_of 2 [] held).stream) (sym none) (other_received lost held);
     })
 links_answered kept deeds lost waits held accepted served are own none may (suc (suc zero)) link there = cc
 links_answered kept deeds lost waits held accepted served are own none may (suc (suc (suc key))) link there = cc
+
+-- both clients are connected
+both_there : (accepted : List Wire) (gone : List (ℕ × Wire)) (deeds lost : List Deed) (sent waiting held : List ℕ) → accepted ≡ clients_of deeds lost
+    → AreAllThere accepted gone (links_of sent waiting held)
+both_there accepted gone deeds lost sent waiting held are zero low high = absurd (omega (arith, low))
+both_there accepted gone deeds lost sent waiting held are (suc zero) low high = inl (record { key = 0; link = link_of 1 sent waiting; stands = refl; is = refl })
+both_there accepted gone deeds lost sent waiting held are (suc (suc zero)) low high = inl (record { key = 1; link = link_of 2 [] held; stands = refl; is = refl })
+both_there accepted gone deeds lost sent waiting held are (suc (suc (suc number))) low high =
+    let two : length accepted ≡ 2 = ap (λ (xs : List Wire). length xs) are in
+    absurd (omega (arith, high, two))
+
+-- where none was accepted none was let go
+none_gone : (accepted : List Wire) (gone : List (ℕ × Wire)) (served : List Served) → 0 ≡ length accepted → AreGoneAnswered written_to unread_of accepted gone served
+    → (number : ℕ) (last : Wire) → Contains gone (number, last) → ⊥
+none_gone [] gone served none over number last is =
+    let numbered = (over number last is).numbered in
+    nothing_before (over number last is).first numbered.front numbered.later numbered.stands
+  where
+    nothing_before : (x : Wire) (front later : List Wire) → [] ≡ front ++ x ∷ later → ⊥
+    nothing_before x [] later same = cc
+    nothing_before x (y ∷ front) later same = cc
+none_gone (x ∷ accepted) gone served none over number last is = absurd (omega (arith, none))
 
 -- before them none was accepted, and nothing served of them
 none_before : (accepted others : List Wire) → 0 ≡ length accepted → accepted ++ others ≡ others
@@ -325,8 +348,8 @@ life_of begun found deeds lost waits =
     let done = done_all kept deeds in
     record {
       found = found;
-      known = Some [];
-      later = Some (clients_of deeds lost);
+      known = known_of (Some []) (Some []);
+      later = known_of (Some (clients_of deeds lost)) (Some []);
       old = record { handler = parts_at kept found (length found); links = no_links; last = 0 };
       rounds = rounds_of kept deeds;
       behind = served_all 2 now lost;
@@ -360,6 +383,7 @@ is_life begun found deeds lost waits fit lost_fit may =
       none = refl;
       serves = record {
         rounds = rounds_of kept deeds;
+        many = tt;
         mid = settled;
         settles = settle_deeds kept found deeds fit;
         ends = record {
@@ -369,11 +393,18 @@ is_life begun found deeds lost waits fit lost_fit may =
           settles = refl;
         };
         streams = clients_of deeds lost;
-        accepts = refl;
-        answered = λ accepted earlier many kept_links.
-            links_answered kept deeds lost waits (answers_of (done_all now lost)) (accepted ++ clients_of deeds lost) (earlier ++ served) (none_before accepted (clients_of deeds lost) many)
-            (served_later 1 accepted earlier served no_links many (omega arith) kept_links ∙ first_in_rounds kept deeds)
-            (served_later 2 accepted earlier served no_links many (omega arith) kept_links ∙ other_in_rounds kept deeds) may;
+        parted = [];
+        passes = record { accepts = refl; lets_go = refl };
+        answered = λ accepted gone earlier many all. record {
+          linked = links_answered kept deeds lost waits (answers_of (done_all now lost)) (accepted ++ clients_of deeds lost) (earlier ++ served)
+              (none_before accepted (clients_of deeds lost) many)
+              (served_later 1 accepted earlier served no_links many (omega arith) all.kept ∙ first_in_rounds kept deeds)
+              (served_later 2 accepted earlier served no_links many (omega arith) all.kept ∙ other_in_rounds kept deeds) may;
+          over = λ number last is.
+              absurd (none_gone accepted gone earlier many all.over number last (subst (λ (ps : List (ℕ × Wire)). Contains ps (number, last)) (append-nil gone) is));
+          all = both_there (accepted ++ clients_of deeds lost) (gone ++ []) deeds lost (sent_of waits (done_all kept deeds)) (left_of waits (done_all kept deeds))
+              (answers_of (done_all now lost)) (none_before accepted (clients_of deeds lost) many);
+        };
       };
       rounds = refl;
       behind = refl;
@@ -398,9 +429,14 @@ life_told begun found deeds lost waits may =
       lost = turns_at now lost;
       held = deeds_told 2 now lost;
       streams = clients_of deeds lost;
-      accepts = refl;
-      clients = links_answered kept deeds lost waits (answers_of (done_all now lost)) (clients_of deeds lost) (served_in (rounds_of kept deeds)) refl
-          (first_in_rounds kept deeds) (other_in_rounds kept deeds) may;
+      gone = [];
+      passes = record { accepts = refl; lets_go = refl };
+      clients = record {
+        linked = links_answered kept deeds lost waits (answers_of (done_all now lost)) (clients_of deeds lost) (served_in (rounds_of kept deeds)) refl
+            (first_in_rounds kept deeds) (other_in_rounds kept deeds) may;
+        over = λ number last is. absurd (omega (arith, is.1));
+        all = both_there (clients_of deeds lost) [] deeds lost (sent_of waits (done_all kept deeds)) (left_of waits (done_all kept deeds)) (answers_of (done_all now lost)) refl;
+      };
     }
 
 -- an answer begins with the protocol

@@ -1,4 +1,4 @@
--- What is said of a handler that is a host, as its journal performs it again. This repository's own.
+-- A host as a handler that its journal replays. This repository's own.
 use Rattle.std.specs.Prelude.{◌≤◌, List}
 use Rattle.std.specs.List.{AllByRecursion}
 use Rattle.oai_lists.specs.declared.lists.TheConstants.{LAST_NUMBER}
@@ -10,12 +10,12 @@ use Rattle.oai_host.specs.Hosts.{HostState, Repository}
 use Rattle.oai_host.specs.Redone.{redone_all, reply_all}
 use Rattle.oai_host.specs.Saved.{emptied_in, ended_in, parts_in, restored_in}
 
--- what calls and parts leave of repositories
+-- the state of repositories after calls and parts
 abbrev pub leaving : Leaving (List Repository)
 leaving = record { redone = redone_all; restored = restored_in }
 
--- the handler is a host where it is seen so: it performs what a host performs, keeps the states of the repositories, and is as honest as the device
--- of its store
+-- the handler, seen as a host: it performs what a host performs, keeps the states of the repositories, and is as honest
+-- as the device of its store
 abbrev pub hosting : {H : Type 0} → (H → HostState) → Replaying H
 hosting {H} view = record {
   step = λ before moment asked answer after. IsHandled (view before) moment asked answer (view after);

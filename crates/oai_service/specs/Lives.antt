@@ -1,22 +1,24 @@
--- Lives of a server, one behind the other: each as its service was, over what the one before it left, or over a checkpoint of it. This repository's own.
+-- Lives of a server, one after the other: each as its service was, over what the one before it left, or over a
+-- checkpoint of it. A life is one run of the server. This repository's own.
 use Rattle.std.specs.Prelude.{◌≡◌, ℕ, IsTrue, List, [], ◌∷◌, length, Option, None, Some, Result, Ok, Err}
 use Rattle.oai_front.specs.Performing.{Steps}
 use Rattle.oai_front.specs.Runs.{Served}
 use Rattle.oai_journal.specs.Records.{Entry}
 use Rattle.oai_journal.specs.declared.journals.Journal as journal
+use Rattle.oai_serving.specs.Accepted.{Known}
 use Rattle.oai_serving.specs.Rounds.{EndsService, IsService, Settles, World}
 use Rattle.oai_serving.specs.declared.faults.ServeFault.{ServeFault}
 use Rattle.oai_durable.specs.Checkpoints.{IsCheckpoint, Saving}
 use Rattle.oai_durable.specs.Journaled.{IsExchange, IsHeld, IsSettled, Parts, Replaying}
 use Rattle.oai_durable.specs.Records.{redone_all}
 
--- a life: the records that it found; the streams that were accepted until a count and after it, where they are known; the world in which it began;
--- the messages that were served in each round that settled, and behind the last of these; how its service ended, in which world; and the records that
--- the journal had when the next life began
+-- a life: the records that it found; the streams that were accepted, and let go, before it and by its end, if they are known; the
+-- world in which it began; the messages that were served in each round that settled, and after the last of these; how
+-- its service ended, in which world; and the records that the journal had when the next life began
 pub record ServerLife (S H J : Type 0) : Type 0 where
   pub found : List Entry
-  pub known : Option (List S)
-  pub later : Option (List S)
+  pub known : Known S
+  pub later : Known S
   pub old : World S (Parts H J)
   pub rounds : List (List Served)
   pub behind : List Served
@@ -24,13 +26,13 @@ pub record ServerLife (S H J : Type 0) : Type 0 where
   pub new : World S (Parts H J)
   pub left : List Entry
 
--- the messages that were served behind the last round that settled
+-- the messages that were served after the last round that settled
 abbrev pub served_behind : {H : Type 0} (step : Steps H) (settled : Settles H) (mid : H) (result : Result (Unit {0}) ServeFault) (new : H) → EndsService step settled mid result new → List Served
 served_behind step settled mid (Ok done) new ends = []
 served_behind step settled mid (Err fault) new ends = ends.served
 
--- it began with no connection, with all records that it found performed again, over a device that gives back what was written to it; it was a
--- service, of these rounds; and a crash at its end may leave what it left
+-- it began with no connection, with all records that it found replayed, over a device that returns what was written to
+-- it; it was a service, of these rounds; and a crash at its end may leave what it left
 pub record IsServerLife {S H J : Type 0} (h : Replaying H) (j : journal.Ghosts J) (contents remaining : S → Option (List ℕ)) (begun : h.Kept) (life : ServerLife S H J) : Type 0 where
   pub begins : IsHeld h j begun life.old.handler life.found (length life.found)
   pub honest : IsTrue (h.is_honest life.old.handler.handler)
@@ -49,19 +51,20 @@ AreServerLives h j contents remaining begun found (life ∷ lives) left =
     × IsServerLife h j contents remaining begun life
     × AreServerLives h j contents remaining begun life.left lives left
 
--- an era: by how much the numbers of the next lists were raised as it began, its records then, its lives, and the records that the last of them left
+-- an era, what lies between two checkpoints: by how much the numbers of the next lists were raised at its begin, its
+-- records then, its lives, and the records that the last of them left
 pub record ServerEra (S H J : Type 0) : Type 0 where
   pub raise : ℕ
   pub found : List Entry
   pub lives : List (ServerLife S H J)
   pub left : List Entry
 
--- the first era begins with no record, and each other one with those of a checkpoint of what the records before it leave
+-- the first era begins with no record, and each other one with a checkpoint of what the records before it leave
 abbrev pub BeginsEra : {S H J K : Type 0} → Saving K → K → Option (List Entry) → ServerEra S H J → Type 0
 BeginsEra s begun None era = (era.found ≡ []) × (era.raise ≡ 0)
 BeginsEra s begun (Some before) era = IsCheckpoint s (redone_all s.leaving begun before) era.raise era.found
 
--- eras, behind those records, if any are before them
+-- eras, after those records, if there are any
 abbrev pub AreServerEras : {S H J : Type 0} (h : Replaying H) → Saving h.Kept → journal.Ghosts J → (S → Option (List ℕ)) → (S → Option (List ℕ)) → h.Kept → Option (List Entry) → List (ServerEra S H J) → Type 0
 AreServerEras h s j contents remaining begun before [] = Unit {0}
 AreServerEras h s j contents remaining begun before (era ∷ eras) =

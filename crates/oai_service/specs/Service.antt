@@ -1,11 +1,11 @@
--- The theorem of a server over all its lives, in one record. OAI-PMH 2.0, sections 2.7, 3.1.2.2 and 3.5; connections, deposits, lives, and that many
--- repositories are behind one door are this repository's own.
+-- The theorem of a server over all its lives, in one definition. OAI-PMH 2.0, sections 2.7, 3.1.2.2 and 3.5;
+-- connections, deposits, lives, and many repositories behind one interface are this repository's own.
 use Rattle.std.specs.Prelude.{◌≡◌, ℕ, List, [], ◌∷◌, ◌++◌, map, Option}
 use Rattle.std.specs.List.{AllByRecursion, AllZip, flat_map}
 use Rattle.oai_journal.specs.Records.{Entry}
-use Rattle.oai_serving.specs.Accepted.{Accepts}
+use Rattle.oai_serving.specs.Accepted.{Passes}
 use Rattle.oai_serving.specs.Rounds.{served_in}
-use Rattle.oai_serving.specs.Tables.{AreLinksAnswered}
+use Rattle.oai_serving.specs.Tables.{AreAllAnswered}
 use Rattle.oai_config.specs.Configs.{HostConfig, NamedConfig}
 use Rattle.oai_host.specs.Alone.{own_answers, own_calls}
 use Rattle.oai_host.specs.Hosts.{Repository, begun}
@@ -17,7 +17,8 @@ use Rattle.oai_service.specs.Hosting.{leaving}
 use Rattle.oai_service.specs.Lives.{ServerEra, ServerLife}
 use Rattle.oai_service.specs.Turns.{AreTurns, Turn, answers_in, calls_in, its, records_in}
 
--- what of a life stands in the journal: the turns whose answers left, and those behind them whose answers were held back, and whose records are there
+-- what of a life is in the journal: the turns whose answers were sent, and those after them whose answers were held
+-- back, and whose records are there
 pub record Told : Type 0 where
   pub answered : List Turn
   pub held : List Turn
@@ -29,18 +30,19 @@ turns_of told = told.answered ++ told.held
 abbrev pub all_turns : List Told → List Turn
 all_turns told = flat_map turns_of told
 
--- of the life: its answered turns are the messages that were served in its rounds that settled, in order; its held ones are the first of those that
--- were served behind them; and each client whose connection is open at its end received the front of the answers to those of the former that it
--- sent, in order
+-- of the life: its answered turns are the messages that were served in its rounds that settled, in order; its held ones
+-- are a prefix of those that were served after them; and each client that was accepted, whether its connection is open at
+-- its end or was let go, received a prefix of the answers to those of the former that it sent, in order
 pub record IsReceivedIn {S H J : Type 0} (contents remaining : S → Option (List ℕ)) (life : ServerLife S H J) (told : Told) : Type 0 where
   pub those : AreThose (map its told.answered) (served_in life.rounds)
   pub lost : List Turn
   pub held : AreThose (map its (told.held ++ lost)) life.behind
   pub streams : List S
-  pub accepts : Accepts life.known life.later streams
-  pub clients : AreLinksAnswered contents remaining streams (served_in life.rounds) life.new.links
+  pub gone : List (ℕ × S)
+  pub passes : Passes life.known life.later streams gone
+  pub clients : AreAllAnswered contents remaining streams gone (served_in life.rounds) life.new.links
 
--- each life finds just the records of the turns of all lives before it, and the last one leaves its own behind them
+-- each life finds exactly the records of the turns of all lives before it, and the last one leaves its own after them
 abbrev pub AreKept : {S H J : Type 0} → List Entry → List (ServerLife S H J) → List Told → List Entry → Type 0
 AreKept before [] [] left = left ≡ before
 AreKept before [] (t ∷ told) left = ⊥
@@ -62,7 +64,7 @@ own_era name era = record { raise = era.raise; calls = own_calls name era.calls;
 abbrev pub own_eras : List ℕ → List VisitedEra → List VisitedEra
 own_eras name eras = map (own_era name) eras
 
--- each era begins with what was before it, once all lists ended and the number of each next one was raised
+-- each era begins with what was before it, after all lists ended and the number of each next one was raised
 abbrev pub AreEndedBetween : {S H J : Type 0} → List Repository → List Repository → List (ServerEra S H J) → Type 0
 AreEndedBetween begun before [] = Unit {0}
 AreEndedBetween begun before (era ∷ eras) =
@@ -75,13 +77,15 @@ eras_left begun before (era ∷ eras) = eras_left begun (redone_all leaving begu
 
 -- ---- the theorem
 
--- the eras are one history, which is told. `received`: what each client read is the front of the answers to the messages that it sent. `recorded`:
--- what a turn did is what its own record leaves behind the records before it. `answered`: at each repository each answer without a fault is the
--- machine's after what was performed before it, in whichever life, and one with a fault did what its number of lines says, or nothing.
--- `kept`: in an era each life begins with the records of all turns before it, those of the answers that left among them. `ended`: each era begins with
--- all that was kept before it but the open lists, and raises the number of the next list. `followed`: where visits without a fault follow a list by its unexpired tokens within an era, their
--- pages, joined, are the records selected at the first of them; a token of an earlier era is refused. `harvested`: harvests miss nothing, in whichever
--- eras they are made
+-- the eras are one history, written as turns. `received`: each client that was accepted was sent a prefix of the answers to
+-- the messages that it sent. `recorded`: a turn did what the replay of its own record does, after the records before it. `answered`: at
+-- each repository each answer without a fault is the machine's after what was performed before it, in whichever life,
+-- and one with a fault did what its number of lines says, or nothing. `kept`: in an era each life begins with the
+-- records of all turns before it, those of the answers that were sent among them. `ended`: each era begins with all
+-- that was kept before it except the open lists, and raises the number of the next list. `followed`: if visits without
+-- a fault follow a list by its unexpired tokens within an era, their pages, joined, are the records selected at the
+-- first of them; a token of an earlier era is refused. `harvested`: harvests miss nothing, in whichever eras they are
+-- made
 pub record IsServed {S H J : Type 0} (config : HostConfig) (contents remaining : S → Option (List ℕ)) (eras : List (ServerEra S H J)) : Type 0 where
   pub told : List (List Told)
   pub received : AllZip (λ (era : ServerEra S H J) (t : List Told). AllZip (IsReceivedIn contents remaining) era.lives t) eras told

@@ -11,7 +11,8 @@ use Rattle.oai_durable.specs.Lives.{Exchanged}
 use Rattle.oai_durable.specs.Records.{redone_all}
 use Rattle.oai_service.specs.Hosting.{leaving}
 
--- a message with its answer and its own record: it was performed; or it was refused before it was, since there was no room for its record
+-- a message with its answer and its own record: it was performed; or it was refused before, since no space could be
+-- reserved for its record
 pub data Turn : Type 0 where
   was_performed : Exchanged → Turn
   was_refused : Exchanged → Turn
@@ -36,7 +37,7 @@ answers_in [] = []
 answers_in (was_performed e ∷ turns) = e.answer ∷ answers_in turns
 answers_in (was_refused e ∷ turns) = answers_in turns
 
--- a host of these repositories, over an honest store, exchanged the message, and then they were those
+-- a host of these repositories, over an honest store, exchanged the message, and these are the repositories afterwards
 pub record IsHostTurn (before : List Repository) (e : Exchanged) (after : List Repository) : Type 0 where
   pub old : HostState
   pub new : HostState
@@ -45,13 +46,13 @@ pub record IsHostTurn (before : List Repository) (e : Exchanged) (after : List R
   pub ends : new.repositories ≡ after
   pub exchanged : IsExchanged (call_at e.moment e.asked) e.answer old new
 
--- what was done of it; of one that was refused nothing
+-- what was done of it; nothing if it was refused
 abbrev pub IsTurn : List Repository → Turn → List Repository → Type 0
 IsTurn before (was_performed e) after = IsHostTurn before e after
 IsTurn before (was_refused e) after = (after ≡ before) × (e.answer ≡ refused e.asked.target)
 
--- turns, the first behind these records, and each other one behind its own of the one before it: each begins in what the records before it leave
--- when they are performed again, and ends in what these and its own leave
+-- turns, the first after these records, and each other one after those of the one before it: each begins in the state
+-- that the replay of the records before it leaves, and ends in the one that these and its own leave
 abbrev pub AreTurns : List Repository → List Entry → List Turn → Type 0
 AreTurns begun before [] = Unit {0}
 AreTurns begun before (turn ∷ turns) =

@@ -1,5 +1,6 @@
--- Worked lives of a server of two repositories, as turns: what the theorem asks of clients, lists and harvests can be met across an end, and
--- behind a checkpoint. OAI-PMH 2.0, sections 2.7.1, 3.1.2.2 and 3.5; deposits and lives are this repository's own.
+-- Worked lives of a server of two repositories, as turns: what the theorem asks of clients, lists and harvests can be
+-- met across an end, and after a checkpoint. OAI-PMH 2.0, sections 2.7.1, 3.1.2.2 and 3.5; deposits and lives are this
+-- repository's own.
 use Rattle.std.specs.Prelude.{◌≡◌, ◌≢◌, ℕ, pos, ◌+◌, Bool, true, false, nat_lt, List, [], ◌∷◌, ◌++◌, codes, length, map, Option, None, Some}
 use Rattle.std.specs.Fmt.{decimal}
 use Rattle.std.specs.List.{AllByRecursion, AllZip, flat_map}
@@ -13,6 +14,7 @@ use Rattle.oai_http.specs.Exchanges.{Asked}
 use Rattle.oai_http.specs.declared.exchanges.Call.{Call}
 use Rattle.oai_front.specs.Performing.{Done, answers_of}
 use Rattle.oai_front.specs.Runs.{done_on}
+use Rattle.oai_serving.specs.Accepted.{known_of}
 use Rattle.oai_serving.specs.Links.{Link}
 use Rattle.oai_serving.specs.Rounds.{served_in}
 use Rattle.oai_serving.specs.Tables.{IsNumbered}
@@ -37,7 +39,8 @@ use Rattle.oai_service.specs.Turns.{AreTurns, Turn, answers_in, calls_in, was_pe
 
 -- ---- what is done
 
--- a message that is done whole is the call of its record; of a deposit that is refused memory behind its first line, this line is the record
+-- a message that is done completely is the call of its record; for a deposit that runs out of memory after its first
+-- line, this line is the record
 pub data Deed : Type 0 where
   done_whole : Entry → Deed
   done_once : Call → Entry → Deed
@@ -69,8 +72,8 @@ requested seconds name arguments = done_whole (record { moment = pos (1_704_067_
 abbrev pub deposited : ℕ → List ℕ → List ℕ → Deed
 deposited seconds name lines = done_whole (record { moment = pos (1_704_067_200 + seconds); kind = kind.Deposit; name = name; body = lines })
 
--- the exchanges of the worked run of the host. In the first life the list is opened that is followed over three pages, and the first harvest is
--- begun, and gets its first page
+-- the exchanges of the worked run of the host. In the first life the list is opened that is followed over three pages,
+-- and the first harvest begins, and gets its first page
 abbrev pub first_deeds : List Deed
 first_deeds =
     deposited 0 (codes "a") (deposit_line (codes "oai:a:1") ++ deposit_line (codes "oai:a:2"))
@@ -84,8 +87,8 @@ first_deeds =
     ∷ requested 60 (codes "a") (codes "verb=ListRecords&metadataPrefix=oai_dc")
     ∷ []
 
--- in the second life both lists are followed to their ends, and two further harvests are made; a deposit of two lines fails behind its first, and at
--- the end it is repeated, and done whole
+-- in the second life both lists are followed to their ends, and two further harvests are made; a deposit of two lines
+-- fails after its first, and at the end it is repeated, and done completely
 abbrev pub second_deeds : List Deed
 second_deeds =
     requested 6 (codes "b") (codes "verb=ListRecords&resumptionToken=1.2")
@@ -107,7 +110,7 @@ second_deeds =
 abbrev pub worked_begun : List Repository
 worked_begun = map begun worked_host.repositories
 
--- the records of a checkpoint of the two, as nothing is held in them
+-- the records of a checkpoint of the two, while they hold nothing
 abbrev pub worked_checkpoint : List Entry
 worked_checkpoint = records_of (parts_in (ended_in 0 worked_begun))
 
@@ -120,8 +123,8 @@ worked_given_a = whole_visits (own_given first_entry (calls_in worked_turns) (an
 abbrev pub worked_given_b : List Visit
 worked_given_b = whole_visits (own_given second_entry (calls_in worked_turns) (answers_in worked_turns))
 
--- they are turns behind those records; a list is followed over three pages at the first repository, and three harvests are made of the second, among
--- visits of both lives
+-- they are turns after those records; a list is followed over three pages at the first repository, and three harvests
+-- are made of the second, among visits of both lives
 pub record AreWorkedTurns (first second last : Visit) (one two three : Harvest) : Type 0 where
   pub turned : AreTurns worked_begun worked_checkpoint worked_turns
   pub following : IsFollowing worked_config worked_given_a all_records first (second ∷ last ∷ [])
@@ -143,7 +146,7 @@ in_memory = record {
 
 -- ---- clients
 
--- the stream of a client: what was written to it, and what is not yet read of what the client sends
+-- the stream of a client: what was written to it, and what remains to be read of what the client sends
 pub record Wire : Type 0 where
   pub written : List ℕ
   pub unread : List ℕ
@@ -154,7 +157,7 @@ written_to wire = Some wire.written
 abbrev pub unread_of : Wire → Option (List ℕ)
 unread_of wire = Some wire.unread
 
--- the bytes in which a client asks that: RFC 9112, sections 2.1, 3, 3.2 and 6.2
+-- the bytes by which a client asks that: RFC 9112, sections 2.1, 3, 3.2 and 6.2
 abbrev pub sent_as : Asked → List ℕ
 sent_as asked =
     asked.method ++ codes " " ++ asked.target ++ codes " HTTP/1.1\r\nHost: localhost\r\nContent-Length: " ++ decimal (length asked.body) ++ codes "\r\n\r\n" ++ asked.body
@@ -162,15 +165,15 @@ sent_as asked =
 abbrev pub sent_for : Done → List ℕ
 sent_for done = sent_as done.message.asked
 
--- at the end of the life a client is connected. What it sent are its messages that were served in the rounds that settled, and what was written to it
--- is the front of their answers, more than nothing. The rest of these waits, or there is none
+-- at the end of the life a client is connected. It sent the messages that were served in the rounds that settled, and a
+-- prefix of their answers, which is not empty, was written to it. The rest of these waits, or there is none
 pub record IsConnected (life : ServerLife Wire HostState Memory) (waits : Bool) : Type 0 where
   pub key : ℕ
   pub link : Link Wire
   pub stands : get life.new.links key ≡ Some link
   pub streams : List Wire
-  pub known : life.known ≡ Some []
-  pub later : life.later ≡ Some streams
+  pub known : life.known ≡ known_of (Some []) (Some [])
+  pub later : life.later ≡ known_of (Some streams) (Some [])
   pub client : Wire
   pub numbered : IsNumbered streams link.connection.number client
   pub came : client.unread ≡ flat_map sent_for (done_on link.connection.number (served_in life.rounds))
@@ -180,8 +183,9 @@ pub record IsConnected (life : ServerLife Wire HostState Memory) (waits : Bool) 
 
 -- ---- the lives of a server
 
--- three lives of a server: one, a checkpoint behind it, and two more. What the last two leave is, behind the records of the checkpoint, those of these
--- turns. At the end of both a client is connected: a part of the answers to its messages waits at that of the first, and none at that of the last
+-- three lives of a server: one, a checkpoint after it, and two more. The last two leave the records of the checkpoint,
+-- followed by those of these turns. At the end of both a client is connected: a part of the answers to its messages
+-- waits at the end of the first, and none at the end of the last
 pub record AreWorkedLives : Type 0 where
   pub first : ServerEra Wire HostState Memory
   pub one : length first.lives ≡ 1

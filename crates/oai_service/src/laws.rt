@@ -1,4 +1,5 @@
-//! What is so of every list of lives of a server: theorems, each on a function with an empty body.
+//! What holds of every list of lives of a server: theorems, each an empty function. A life is one run of the server; an
+//! era is what lies between two checkpoints; a turn is a message that came in a life, with what was done of it.
 ghost use Rattle.std.specs.Prelude.{List, None, map};
 ghost use Rattle.std.specs.List.{AllByRecursion};
 ghost use Rattle.oai_config.specs.Configs.{HostConfig};
@@ -21,19 +22,25 @@ use oai_paged::PagedVersions;
 use oai_serving::Stream;
 use sqlite_disk::Disk;
 
-/// **The theorem.** A server lives any number of times, and each life is a service as `Server::serve` promises it: rounds in which
-/// messages come over connections, are performed by a host whose exchanges stand in a journal, and are answered once the
-/// journal is durable. However each ends, whatever a crash then leaves of its journal, whatever memory was refused and whichever
-/// device calls failed, the next one begins with what is left, performed again; or with a checkpoint of it. Then all of them are one
-/// history: what each client that is connected at the end of a life was sent is the front of the answers to its messages, in order; each
-/// life begins with the records of every message that was answered before it, and a checkpoint ends the open lists, raises the number of
-/// the next, and changes nothing else; and at each repository each answer without a fault is the machine's after what was performed before it, in whichever life; lists
-/// that are followed by their unexpired tokens, by requests without a fault, are what was selected at their first request; a token of a list
-/// that a checkpoint ended is refused; and harvests miss nothing, where deleted records are kept, also those of which each was made
-/// in another life, behind another checkpoint.
+/// **The theorem.** A server lives any number of times, and each life is a service as `Server::serve` promises it:
+/// rounds in which messages come over connections, are performed by a host whose exchanges are logged in a journal, and
+/// are answered once the journal is durable. However each ends, whatever a crash then leaves of its journal, whatever
+/// memory was refused and whichever device calls failed, the next one replays what is left; or a checkpoint of it. Then
+/// all of them are one history:
 ///
-/// The configuration is one that keeps its rules. The first life begins with no record, and each is over a store that gives back what was
-/// written to it. The lives between two checkpoints are an era; a checkpoint raises no number of a list beyond 64 bits. It does nothing.
+/// - each client that is connected at the end of a life was sent a prefix of the answers to its messages, in order;
+/// - each life begins with the records of every message that was answered before it, and a checkpoint ends the open
+///   lists, raises the number of the next, and changes nothing else;
+/// - at each repository each answer without a fault is the machine's after what was performed before it, in whichever
+///   life;
+/// - lists that are followed by their unexpired tokens, by requests without a fault, are what was selected at their
+///   first request; a token of a list that a checkpoint ended is refused;
+/// - harvests miss nothing, where deleted records are kept, even if each of them was made in another life, after
+///   another checkpoint.
+///
+/// The configuration is one that satisfies its rules. The first life begins with no record, and each is over a store
+/// that returns what was written to it. The lives between two checkpoints are an era; a checkpoint raises no number of
+/// a list beyond 64 bits. The function is empty.
 pub fn service_law<S: Stream, V: Versions + Drop, J: Journal>()
     ensures { (config : HostConfig) (eras : List (ServerEra S HostState J)) → HaveRules config
         → AreServerEras (record {
@@ -54,7 +61,8 @@ pub fn service_law<S: Stream, V: Versions + Drop, J: Journal>()
         → IsServed config S.contents S.remaining eras }
 {}
 
-/// The same at the types that the program runs: the store is the one of pages over a device, and the journal a file. It does nothing.
+/// The same at the types that the program runs: the store is the one of pages over a device, and the journal a file.
+/// The function is empty.
 pub fn service_on_files_law<S: Stream, P: PageDevice, D: Disk + Drop>()
     ensures { (config : HostConfig) (eras : List (ServerEra S HostState _)) → HaveRules config
         → AreServerEras (record {
@@ -81,12 +89,13 @@ pub fn service_on_files_law<S: Stream, P: PageDevice, D: Disk + Drop>()
         → IsServed config S.contents S.remaining eras }
 {}
 
-/// What the theorem speaks of is there: three lives of a server of two repositories, one before a checkpoint and two behind it. What is served in
-/// these two is given: there is an end in the middle of a list and of a harvest; a deposit is refused memory behind its first line, and is
-/// repeated; at the first repository a list is followed over three pages, at the second three harvests are made, by the visits of both lives. The
-/// messages that are answered in a life come over one connection, as bytes that are given; it is open at the end, and what was sent over it is the
-/// front of their answers, in the first of the two lives a part of them, and in the last all. It is computed from the bytes of the records and
-/// messages on, and does nothing.
+/// The premises of the theorem can be met: three lives of a server of two repositories, one before a checkpoint and two
+/// after it. What these two serve is given. The first of them ends in the middle of a list and of a harvest; a deposit
+/// runs out of memory after its first line, and is repeated; at the first repository a list is followed over three
+/// pages, at the second three harvests are made, by the visits of both lives. The messages that are answered in a life
+/// come over one connection, as bytes that are given; it is open at the end, and a prefix of their answers was sent
+/// over it: in the first of the two lives a part of them, and in the last all. It is computed from the bytes of the
+/// records and messages; the function is empty.
 pub fn worked_lives_law()
     ensures lived { AreWorkedLives }
     ensures turned { (first : Visit) × (second : Visit) × (last : Visit) × (one : Harvest) × (two : Harvest) × (three : Harvest)

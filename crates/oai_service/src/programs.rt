@@ -1,36 +1,41 @@
-//! That what the program serves is a life of the theorem: a theorem, on a function with an empty body.
-ghost use Rattle.std.specs.Prelude.{IsTrue, List, map, ℕ};
+//! What the program serves is a life of the theorem: a theorem, by an empty function.
+ghost use Rattle.std.specs.Prelude.{IsTrue, List, Result, map, ℕ};
 ghost use Rattle.oai_daemon.specs.Lives.{HasLived};
-ghost use Rattle.oai_durable.specs.Journaled.{IsExchange, IsSettled};
-ghost use Rattle.oai_host.specs.Hosts.{begun};
+ghost use Rattle.oai_durable.specs.Journaled.{IsExchange, IsSettled, Parts};
+ghost use Rattle.oai_host.specs.Hosts.{HostState, begun};
 ghost use Rattle.oai_journal.specs.Records.{Entry};
 ghost use Rattle.oai_journal.specs.Recovered.{disk_of};
+ghost use Rattle.oai_journal.specs.declared.file.FileJournal.{FileJournal as Filed};
 ghost use Rattle.oai_service.specs.Hosting.{hosting};
 ghost use Rattle.oai_service.specs.Lives.{IsServerLife, served_behind};
+ghost use Rattle.oai_serving.specs.Accepted.{Known};
+ghost use Rattle.oai_serving.specs.Rounds.{World};
+ghost use Rattle.oai_serving.specs.declared.faults.ServeFault.{ServeFault};
 
 use oai_journal::{FileJournal, Journal};
 use oai_serving::Stream;
 use sqlite_disk::Disk;
 
-/// What `serve` of oai_daemon serves, which `main` calls, is a life of the theorem, over any disk and stream: where the disk gave back what was
-/// written to it as the journal was read, and the device of the pages does so, it began with all records of the journal, and leaves whatever a
-/// crash may leave of it. It does nothing.
+/// What `serve` of oai_daemon, which `main` calls, returns is the end of a life of the theorem, over any disk and stream:
+/// provided that the disk returned what was written to it as the journal was read, and that the device of the pages does
+/// so, it began with all records of the journal, and leaves whatever a crash may leave of it. The function is empty.
 pub fn program_life_law<S: Stream, D: Disk + Drop>()
-    ensures { (text : List ℕ) (lived : HasLived ⟦<FileJournal<D> as Journal>⟧ D.Disk.seen D.Disk.is_clean S.contents S.remaining text)
+    ensures { (text : List ℕ) (later : Known S) (result : Result Unit ServeFault) (new : World S (Parts HostState (Filed D)))
+        (lived : HasLived ⟦<FileJournal<D> as Journal>⟧ D.Disk.seen D.Disk.is_clean S.contents S.remaining text later result new)
         (left : List Entry)
         → IsTrue (D.Disk.is_clean (disk_of lived.recovery)) → IsTrue lived.old.handler.handler.honest
-        → ⟦<FileJournal<D> as Journal>⟧.may_leave lived.new.handler.journal left
+        → ⟦<FileJournal<D> as Journal>⟧.may_leave new.handler.journal left
         → (found : List Entry)
         × IsServerLife (hosting (λ host. host)) ⟦<FileJournal<D> as Journal>⟧ S.contents S.remaining (map begun lived.config.repositories) (record {
           found = found;
           known = lived.known;
-          later = lived.later;
+          later = later;
           old = lived.old;
           rounds = lived.serves.rounds;
           behind = served_behind (IsExchange (hosting (λ host. host)) ⟦<FileJournal<D> as Journal>⟧) (IsSettled ⟦<FileJournal<D> as Journal>⟧)
-              lived.serves.mid lived.result lived.new.handler lived.serves.ends;
-          result = lived.result;
-          new = lived.new;
+              lived.serves.mid result new.handler lived.serves.ends;
+          result = result;
+          new = new;
           left = left;
         }) }
 {}

@@ -1,4 +1,5 @@
 pub mod KnownBytes
+pub mod PassLemmas
 pub mod TurnLemmas
 pub mod TableLemmas
 pub mod RoundLemmas

@@ -1,8 +1,9 @@
 -- Links under keys: a change of one of them, and what it leaves of the others.
 use Rattle.std.proofs.Common.{◌≡◌, ◌∙◌, inl, inr, ℕ, ℤ, true, false, cond, List, [], ◌∷◌, ◌++◌, append_assoc, length, map, ◌+◌, ◌<◌, arith, Option, Some, None, is_some, refl, sym, ap, subst}
-use Rattle.std.specs.Prelude.{◌==◌, OnSome, IfNone}
+use Rattle.std.specs.Prelude.{◌==◌, Contains}
 use Rattle.std.proofs.lemmas.Bool.{cases_Bool, cases_eq, eq-eqb, eqb-true}
 use Rattle.std.proofs.lemmas.List.{append-nil}
+use Rattle.std.proofs.lemmas.List.Elements.{Contains-append_left, Contains-push, Contains-push_cases}
 use Rattle.std.proofs.lemmas.List.Sums.{sum_by-set}
 use Rattle.slab.specs.Slab.{Slab, Updates, ContainsKey, get, slab_len, with_value}
 use Rattle.slab.proofs.SlabLemmas.{ContainsKey-within, Updates-with_value}
@@ -11,10 +12,12 @@ use Rattle.oai_front.specs.Connections.{Connection}
 use Rattle.oai_front.specs.Performing.{Done, Steps}
 use Rattle.oai_front.specs.Runs.{Piece, Served, done_on, served_with}
 use Rattle.oai_serving.proofs.KnownBytes.{consumes_none, consumes_then, keeps_same, keeps_then}
+use Rattle.oai_serving.proofs.PassLemmas.{passes_then}
 use Rattle.oai_serving.proofs.TurnLemmas.{received_still, sent_follows, sent_none, sent_then}
+use Rattle.oai_serving.specs.Accepted.{Known, Passes}
 use Rattle.oai_serving.specs.Links.{IsLinkFollowed, IsSent, IsTurn, Link}
 use Rattle.oai_serving.specs.Received.{IsReceived}
-use Rattle.oai_serving.specs.Tables.{AreLinksAnswered, AreAt, AreLinksKept, AreSent, AreTurned, IsLinkKept, IsNumbered, IsUnwritten}
+use Rattle.oai_serving.specs.Tables.{AreAllAnswered, AreAllKept, AreAllThere, AreAt, AreEnded, AreGoneAnswered, AreLinksAnswered, AreLinksKept, AreSent, AreTurned, HasLinkOf, IsAnswered, IsLinkKept, IsNumbered, IsUnwritten}
 
 pub none_there : {A : Type 0} (a : A) → None ≡ Some a → ⊥
 none_there a e = cc
@@ -49,9 +52,32 @@ at_each {T} P s key before after found here there other value is =
       | inr differs ↦ there other value differs (sym (u.others other differs) ∙ is)
     ]
 
+-- a link that has a number stays, once one link is changed
+link_stays : {S : Type 0} (links : Slab (Link S)) (key : ℕ) (before after : Link S) → get links key ≡ Some before → after.connection.number ≡ before.connection.number
+    → (number : ℕ) → HasLinkOf number links → HasLinkOf number (with_value links key after)
+link_stays {S} links key before after found same number h =
+    let u = Updates-with_value links key after (present links key before found) in
+    elim (cases_eq h.key key) [
+      | inl here ↦
+          let e : h.link ≡ before = same_value h.link before (sym h.stands ∙ ap (get links) here ∙ found) in
+          record { key = key; link = after; stands = u.changed; is = same ∙ sym (ap (λ (l : Link S). l.connection.number) e) ∙ h.is }
+      | inr differs ↦ record { key = h.key; link = h.link; stands = u.others h.key differs ∙ h.stands; is = h.is }
+    ]
+
+-- each stream stands under a link or was let go, where each link stays
+pub there_still : {S : Type 0} (accepted : List S) (gone : List (ℕ × S)) (old new : Slab (Link S)) → ((number : ℕ) → HasLinkOf number old → HasLinkOf number new)
+    → AreAllThere accepted gone old → AreAllThere accepted gone new
+there_still accepted gone old new stay all number low high = elim (all number low high) [
+  | inl h ↦ inl (stay number h)
+  | inr g ↦ inr g
+]
+
 module _ {S : Type 0} (contents remaining : S → Option (List ℕ)) where
+  number_sent : (a b : Link S) → IsSent contents remaining a b → b.connection.number ≡ a.connection.number
+  number_sent a b s = ap (λ (c : Connection). c.number) s.others
+
   pub sent_same : (links : Slab (Link S)) → AreSent contents remaining links links
-  sent_same links = record { each = λ key link is. (link, is, sent_none contents remaining link); count = omega arith }
+  sent_same links = record { each = λ key link is. (link, is, sent_none contents remaining link); stay = λ number h. h; count = omega arith }
 
   pub sent_on : (a b c : Slab (Link S)) → AreSent contents remaining a b → AreSent contents remaining b c → AreSent contents remaining a c
   sent_on a b c s t = record {
@@ -59,6 +85,7 @@ module _ {S : Type 0} (contents remaining : S → Option (List ℕ)) where
         let second = t.each key link is in
         let first = s.each key second.0 second.1 in
         (first.0, first.1, sent_then contents remaining first.0 second.0 link first.2 second.2);
+    stay = λ number h. t.stay number (s.stay number h);
     count = omega (arith, s.count, t.count);
   }
 
@@ -67,6 +94,7 @@ module _ {S : Type 0} (contents remaining : S → Option (List ℕ)) where
   sent_at links key before after found sent = record {
     each = at_each (λ (k : ℕ) (link : Link S). (b : Link S) × (get links k ≡ Some b) × IsSent contents remaining b link) links key before after found (before, found, sent)
         (λ other value differs is. (value, is, sent_none contents remaining value));
+    stay = link_stays links key before after found (number_sent before after sent);
     count = omega (arith, count_changed links key before after found);
   }
 
@@ -77,18 +105,11 @@ module _ {S : Type 0} (contents remaining : S → Option (List ℕ)) where
     | inr differs ↦ sym (u.others other differs) ∙ is
   ]
 
-  pub sent_away : (old new : Slab (Link S)) (key : ℕ) (result : Option (Link S)) → Updates old new key None → OnSome result (slab_len new + 1 ≡ slab_len old)
-      → IfNone result (new ≡ old) → AreSent contents remaining old new
-  sent_away old new key None u some none = subst (λ (s : Slab (Link S)). AreSent contents remaining old s) (sym none) (sent_same old)
-  sent_away old new key (Some gone) u some none = record {
-    each = λ other link is. (link, gone_each old new key u other link is, sent_none contents remaining link);
-    count = omega (arith, some);
-  }
+  -- a link that has a number had it before
+  gone_back : (old new : Slab (Link S)) (key : ℕ) → Updates old new key None → (number : ℕ) → HasLinkOf number new → HasLinkOf number old
+  gone_back old new key u number h = record { key = h.key; link = h.link; stands = gone_each old new key u h.key h.link h.stands; is = h.is }
 
   -- ---- what is kept
-
-  number_sent : (a b : Link S) → IsSent contents remaining a b → b.connection.number ≡ a.connection.number
-  number_sent a b s = ap (λ (c : Connection). c.number) s.others
 
   pub sent_kept : (accepted : List S) (served : List Served) (old new : Slab (Link S)) → AreSent contents remaining old new → AreLinksKept contents remaining accepted served old
       → AreLinksKept contents remaining accepted served new
@@ -114,6 +135,108 @@ module _ {S : Type 0} (contents remaining : S → Option (List ℕ)) where
   kept_answered accepted served links k key link is =
       let kept = k.each key link is in
       record { first = kept.first; numbered = kept.numbered; received = kept.follows.received }
+
+  pub all_answered : (accepted : List S) (gone : List (ℕ × S)) (served : List Served) (links : Slab (Link S)) → AreAllKept contents remaining accepted gone served links
+      → AreAllAnswered contents remaining accepted gone served links
+  all_answered accepted gone served links k = record { linked = kept_answered accepted served links k.kept; over = k.over; all = k.all }
+
+  -- of as many streams, let go and served as before
+  pub all_as : (accepted others : List S) (gone away : List (ℕ × S)) (served more : List Served) (links : Slab (Link S)) → accepted ≡ others → gone ≡ away → served ≡ more
+      → AreAllKept contents remaining accepted gone served links → AreAllKept contents remaining others away more links
+  all_as accepted others gone away served more links a g s k =
+      subst (λ (xs : List S). AreAllKept contents remaining xs away more links) a
+      (subst (λ (ps : List (ℕ × S)). AreAllKept contents remaining accepted ps more links) g
+      (subst (λ (ds : List Served). AreAllKept contents remaining accepted gone ds links) s k))
+
+  pub answered_as : (accepted others : List S) (gone away : List (ℕ × S)) (served : List Served) (links : Slab (Link S)) → accepted ≡ others → gone ≡ away
+      → AreAllAnswered contents remaining accepted gone served links → AreAllAnswered contents remaining others away served links
+  answered_as accepted others gone away served links a g k =
+      subst (λ (xs : List S). AreAllAnswered contents remaining xs away served links) a
+      (subst (λ (ps : List (ℕ × S)). AreAllAnswered contents remaining accepted ps served links) g k)
+
+  pub all_sent : (accepted : List S) (gone : List (ℕ × S)) (served : List Served) (old new : Slab (Link S)) → AreSent contents remaining old new
+      → AreAllKept contents remaining accepted gone served old → AreAllKept contents remaining accepted gone served new
+  all_sent accepted gone served old new s k = record {
+    kept = sent_kept accepted served old new s k.kept;
+    over = k.over;
+    apart = λ number last is h.
+        let b = s.each h.key h.link h.stands in
+        k.apart number last is (record { key = h.key; link = b.0; stands = b.1; is = sym (number_sent b.0 h.link b.2) ∙ h.is });
+    all = there_still accepted gone old new s.stay k.all;
+  }
+
+  -- ---- what is let go
+
+  -- one more was let go
+  pub over_more : (accepted : List S) (gone : List (ℕ × S)) (served : List Served) (number : ℕ) (stream : S) → AreGoneAnswered contents remaining accepted gone served
+      → IsAnswered contents remaining accepted served number stream → AreGoneAnswered contents remaining accepted (gone ++ (number, stream) ∷ []) served
+  over_more accepted gone served number stream over own n last is = elim (Contains-push_cases gone (number, stream) (n, last) is) [
+    | inl before ↦ over n last before
+    | inr same ↦ subst (λ (p : ℕ × S). IsAnswered contents remaining accepted served p.0 p.1) same own
+  ]
+
+  away_there : (accepted : List S) (gone : List (ℕ × S)) (old new : Slab (Link S)) (key : ℕ) (link : Link S) → get old key ≡ Some link → Updates old new key None
+      → AreAllThere accepted gone old → AreAllThere accepted (gone ++ (link.connection.number, link.stream) ∷ []) new
+  away_there accepted gone old new key link found u all number low high = elim (all number low high) [
+    | inl h ↦ elim (cases_eq h.key key) [
+      | inl here ↦
+          let e : h.link ≡ link = same_value h.link link (sym h.stands ∙ ap (get old) here ∙ found) in
+          let is : link.connection.number ≡ number = sym (ap (λ (l : Link S). l.connection.number) e) ∙ h.is in
+          inr (link.stream, subst (λ (n : ℕ). Contains (gone ++ (link.connection.number, link.stream) ∷ []) (n, link.stream)) is (Contains-push gone (link.connection.number, link.stream)))
+      | inr differs ↦ inl (record { key = h.key; link = h.link; stands = u.others h.key differs ∙ h.stands; is = h.is })
+    ]
+    | inr g ↦ inr (g.0, Contains-append_left gone ((link.connection.number, link.stream) ∷ []) (number, g.0) g.1)
+  ]
+
+  away_all : (accepted : List S) (gone : List (ℕ × S)) (served : List Served) (old new : Slab (Link S)) (key : ℕ) (link : Link S) → get old key ≡ Some link
+      → Updates old new key None → AreAllKept contents remaining accepted gone served old
+      → AreAllKept contents remaining accepted (gone ++ (link.connection.number, link.stream) ∷ []) served new
+  away_all accepted gone served old new key link found u k =
+      let own = k.kept.each key link found in
+      record {
+        kept = record {
+          each = λ other l is. k.kept.each other l (gone_each old new key u other l is);
+          one = λ other third a b is js same. k.kept.one other third a b (gone_each old new key u other a is) (gone_each old new key u third b js) same;
+          later = k.kept.later;
+        };
+        over = over_more accepted gone served link.connection.number link.stream k.over (record { first = own.first; numbered = own.numbered; received = own.follows.received });
+        apart = λ number last is h. elim (Contains-push_cases gone (link.connection.number, link.stream) (number, last) is) [
+          | inl before ↦ k.apart number last before (gone_back old new key u number h)
+          | inr same ↦
+              let e : link.connection.number ≡ number = ap (λ (p : ℕ × S). p.0) same in
+              let one : h.key ≡ key = k.kept.one h.key key h.link link (gone_each old new key u h.key h.link h.stands) found (h.is ∙ sym e) in
+              none_there h.link (sym u.changed ∙ sym (ap (get new) one) ∙ h.stands)
+        ];
+        all = away_there accepted gone old new key link found u k.all;
+      }
+
+  pub ended_none : (known later : Known S) (links : Slab (Link S)) → Passes known later [] [] → AreEnded contents remaining known later links links
+  ended_none known later links passes = record {
+    parted = [];
+    passes = passes;
+    kept = λ accepted gone served k. all_as accepted accepted gone (gone ++ []) served served links refl (sym (append-nil gone)) refl k;
+    count = omega arith;
+  }
+
+  pub ended_then : (known mid later : Known S) (a b c : Slab (Link S)) → AreEnded contents remaining known mid a b → AreEnded contents remaining mid later b c
+      → AreEnded contents remaining known later a c
+  ended_then known mid later a b c s t = record {
+    parted = s.parted ++ t.parted;
+    passes = passes_then known mid later [] [] s.parted t.parted s.passes t.passes;
+    kept = λ accepted gone served k.
+        all_as accepted accepted ((gone ++ s.parted) ++ t.parted) (gone ++ (s.parted ++ t.parted)) served served c refl (append_assoc gone s.parted t.parted) refl
+        (t.kept accepted (gone ++ s.parted) served (s.kept accepted gone served k));
+    count = omega (arith, s.count, t.count);
+  }
+
+  pub ended_away : (known later : Known S) (old new : Slab (Link S)) (key : ℕ) (link : Link S) → get old key ≡ Some link → Updates old new key None
+      → slab_len new + 1 ≡ slab_len old → Passes known later [] ((link.connection.number, link.stream) ∷ []) → AreEnded contents remaining known later old new
+  ended_away known later old new key link found u less passes = record {
+    parted = (link.connection.number, link.stream) ∷ [];
+    passes = passes;
+    kept = λ accepted gone served k. away_all accepted gone served old new key link found u k;
+    count = omega (arith, less);
+  }
 
 -- ---- turns
 
@@ -146,7 +269,8 @@ module _ {S H : Type 0} (step : Steps H) (contents remaining : S → Option (Lis
     run = refl;
     at = tt;
     unwritten = unwritten_none links;
-    follows = λ accepted earlier k. subst (λ (served : List Served). AreLinksKept contents remaining accepted served links) (sym (append-nil earlier)) k;
+    stay = λ number h. h;
+    follows = λ accepted gone earlier k. all_as contents remaining accepted accepted gone gone earlier (earlier ++ []) links refl refl (sym (append-nil earlier)) k;
     count = refl;
   }
 
@@ -167,9 +291,10 @@ module _ {S H : Type 0} (step : Steps H) (contents remaining : S → Option (Lis
           read = first.read ++ second.read;
           consumed = consumes_then (remaining first.before.stream) (remaining second.before.stream) (remaining link.stream) first.read second.read first.consumed second.consumed;
         };
-    follows = λ accepted earlier kept.
-        subst (λ (served : List Served). AreLinksKept contents remaining accepted served c) (append_assoc earlier s.served t.served)
-        (t.follows accepted (earlier ++ s.served) (s.follows accepted earlier kept));
+    stay = λ number h. t.stay number (s.stay number h);
+    follows = λ accepted gone earlier kept.
+        all_as contents remaining accepted accepted gone gone ((earlier ++ s.served) ++ t.served) (earlier ++ (s.served ++ t.served)) c refl refl
+        (append_assoc earlier s.served t.served) (t.follows accepted gone (earlier ++ s.served) (s.follows accepted gone earlier kept));
     count = t.count ∙ s.count;
   }
 
@@ -237,6 +362,26 @@ module _ {S H : Type 0} (step : Steps H) (contents remaining : S → Option (Lis
       lengths [] first later = omega arith
       lengths (x ∷ front) first later = omega (arith, lengths front first later)
 
+  -- and those that were let go had no turn
+  turn_all : (accepted : List S) (gone : List (ℕ × S)) (earlier : List Served) (links : Slab (Link S)) (key : ℕ) (before after : Link S) (h k : H) → get links key ≡ Some before
+      → (t : IsTurn step contents remaining moment before h after k) → AreAllKept contents remaining accepted gone earlier links
+      → AreAllKept contents remaining accepted gone (earlier ++ map (served_with (piece_at before.connection.number moment)) t.done) (with_value links key after)
+  turn_all accepted gone earlier links key before after h k found t all = record {
+    kept = turn_kept accepted earlier links key before after h k found t all.kept;
+    over = λ number last is.
+        let a = all.over number last is in
+        let away = apart before.connection.number number (λ same. all.apart number last is (record { key = key; link = before; stands = found; is = same })) in
+        record {
+          first = a.first;
+          numbered = a.numbered;
+          received = subst (λ (ds : List Done). IsReceived contents remaining a.first last ds) (sym (served_other before.connection.number number earlier t.done away)) a.received;
+        };
+    apart = λ number last is l.
+        let p = numbers_stay links key before after found t.same l.key l.link l.stands in
+        all.apart number last is (record { key = l.key; link = p.0; stands = p.1; is = sym p.2 ∙ l.is });
+    all = there_still accepted gone links (with_value links key after) (link_stays links key before after found t.same) all.all;
+  }
+
   pub turned_at : (links : Slab (Link S)) (key : ℕ) (before after : Link S) (h k : H) → get links key ≡ Some before → IsTurn step contents remaining moment before h after k
       → AreTurned step contents remaining moment links h (with_value links key after) k
   unfolding piece_at
@@ -247,14 +392,15 @@ module _ {S H : Type 0} (step : Steps H) (contents remaining : S → Option (Lis
     unwritten = at_each (λ (key : ℕ) (link : Link S). IsUnwritten contents remaining links key link) links key before after found
         (record { before = before; stood = found; same = t.same; unwritten = t.unwritten; read = t.read; consumed = t.consumed })
         (λ other link differs is. unwritten_none links other link is);
-    follows = λ accepted earlier kept. turn_kept accepted earlier links key before after h k found t kept;
+    stay = link_stays links key before after found t.same;
+    follows = λ accepted gone earlier kept. turn_all accepted gone earlier links key before after h k found t kept;
     count = count_changed links key before after found;
   }
 
   -- what was received stays
-  pub turned_answered : (accepted : List S) (served : List Served) (old new : Slab (Link S)) (h k : H) → AreTurned step contents remaining moment old h new k
+  links_answered : (accepted : List S) (served : List Served) (old new : Slab (Link S)) (h k : H) → AreTurned step contents remaining moment old h new k
       → AreLinksAnswered contents remaining accepted served old → AreLinksAnswered contents remaining accepted served new
-  turned_answered accepted served old new h k t a key link is =
+  links_answered accepted served old new h k t a key link is =
       let u = t.unwritten key link is in
       let b = a key u.before u.stood in
       record {
@@ -263,3 +409,11 @@ module _ {S H : Type 0} (step : Steps H) (contents remaining : S → Option (Lis
         received = subst (λ (n : ℕ). IsReceived contents remaining b.first link.stream (done_on n served)) (sym u.same)
             (received_still step contents remaining moment b.first u.before.stream link.stream (done_on u.before.connection.number served) u.read u.unwritten u.consumed b.received);
       }
+
+  pub turned_answered : (accepted : List S) (gone : List (ℕ × S)) (served : List Served) (old new : Slab (Link S)) (h k : H) → AreTurned step contents remaining moment old h new k
+      → AreAllAnswered contents remaining accepted gone served old → AreAllAnswered contents remaining accepted gone served new
+  turned_answered accepted gone served old new h k t a = record {
+    linked = links_answered accepted served old new h k t a.linked;
+    over = a.over;
+    all = there_still accepted gone old new t.stay a.all;
+  }

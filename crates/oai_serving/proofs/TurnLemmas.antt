@@ -381,6 +381,15 @@ module _ {S : Type 0} (contents remaining : S → Option (List ℕ)) where
       (record { stream = after; connection = with_gathered (drop count gathered) x; held = held; able = able })
       gathered x.output count refl within appends unread (ap (λ (xs : List ℕ). record x { output = xs }) (sym (drop-append-le count gathered x.output within))) (λ a. (a, refl))
 
+  -- no byte was written, and nothing more is performed
+  pub over_sent : (bytes : List ℕ) (count : ℕ) (stream after : S) (x : Connection) (held : List ℕ) (able : Bool) → count ≡ 0 → Appends (contents stream) (contents after) (take count bytes)
+      → Keeps (remaining stream) (remaining after)
+      → IsSent contents remaining (record { stream = stream; connection = x; held = held; able = able }) (record { stream = after; connection = x; held = held; able = false })
+  over_sent bytes count stream after x held able none appends unread =
+      let nothing : Appends (contents stream) (contents after) [] = subst (λ (n : ℕ). Appends (contents stream) (contents after) (take n bytes)) none appends in
+      written_sent contents remaining (record { stream = stream; connection = x; held = held; able = able }) (record { stream = after; connection = x; held = held; able = false })
+      [] x.output 0 refl (omega arith) nothing unread refl (λ a. absurd (false≢true a))
+
   -- nothing was written
   pub unwritten_sent : (stream after : S) (x : Connection) (held : List ℕ) (able : Bool) (new : Link S) → Keeps (contents stream) (contents after) → Keeps (remaining stream) (remaining after)
       → IsHolding [] (record { stream = after; connection = x; held = held; able = able }) new

@@ -1,10 +1,10 @@
--- What contracts see of the fields of a `Link`, and what is true of them.
+-- What contracts see of the fields of a `Link`, and its invariant.
 use Rattle.std.specs.Prelude.{ℕ, ◌≤◌, List, ◌++◌, drop, length}
 use Rattle.oai_front.specs.Connections.{Connection}
 use Rattle.oai_serving.specs.Links.{Link, is_able}
 use Rattle.oai_serving.specs.declared.links.Link.TheInside.{Inside}
 
--- the bytes that were gathered are in front of those that wait
+-- the bytes that were gathered, followed by the output that waits
 abbrev pub with_gathered : List ℕ → Connection → Connection
 with_gathered bytes c = record c { output = bytes ++ c.output }
 

@@ -1,4 +1,4 @@
--- Connections over streams, and what a turn does to one. This repository's own.
+-- Connections over streams, and what a step does to one. This repository's own.
 use Rattle.std.specs.Prelude.{◌≡◌, ◌⊎◌, ℕ, ℤ, Bool, true, false, List, [], ◌++◌, Option}
 use Rattle.std.specs.Io.KnownBytes.{Appends, Consumes, Keeps}
 use Rattle.oai_front.specs.Connections.{Connection, fresh, rest_at, stage_at}
@@ -15,20 +15,21 @@ is_able Last = false
 is_able (Closing since dropped) = false
 is_able Over = false
 
--- a stream, its connection, the bytes that were read and did not yet come to the connection, and whether they still may
+-- a stream, its connection, the bytes that were read and not yet passed to the connection, and whether they still may
+-- be
 pub record Link (S : Type 0) : Type 0 where
   pub stream : S
   pub connection : Connection
   pub held : List ℕ
   pub able : Bool
 
--- one that was opened just now
+-- one that was just opened
 abbrev pub opened : {S : Type 0} → ℕ → S → Link S
 opened number stream = record { stream = stream; connection = fresh number; held = []; able = true }
 
--- the stream was that one when it was accepted, these messages of it were performed, and the link is what comes of that: what waits to be
--- written is the rest of their answers, what the connection keeps is the rest of the bytes that came to it, and while the link is able what is
--- held is all that was read and has not come
+-- the stream was that one when it was accepted, these messages of it were performed, and the link is the result: its
+-- waiting output is the rest of their answers, what the connection holds is the rest of the bytes that were passed to
+-- it, and while the link is able what is held is all that was read and not passed
 pub record IsLinkFollowed {S : Type 0} (contents remaining : S → Option (List ℕ)) (first : S) (done : List Done) (link : Link S) : Type 0 where
   pub received : IsReceived contents remaining first link.stream done
   pub waiting : received.waiting ≡ link.connection.output
@@ -42,7 +43,7 @@ pub record IsHolding {S : Type 0} (read : List ℕ) (old new : Link S) : Type 0 
   pub connection : new.connection ≡ old.connection
   pub held : new.able ≡ true → (old.able ≡ true) × (new.held ≡ old.held ++ read)
 
--- the stream of the link was read, and what came is held, or nothing more is performed
+-- the stream of the link was read, and the input is held, or nothing more is performed
 pub record IsLinkRead {S : Type 0} (contents remaining : S → Option (List ℕ)) (old new : Link S) : Type 0 where
   pub read : List ℕ
   pub consumed : Consumes (remaining old.stream) (remaining new.stream) read
@@ -50,8 +51,8 @@ pub record IsLinkRead {S : Type 0} (contents remaining : S → Option (List ℕ)
   pub connection : new.connection ≡ old.connection
   pub held : new.able ≡ true → (old.able ≡ true) × (new.held ≡ old.held ++ read)
 
--- a turn in which a link is read: some messages are performed, at that moment, nothing is written, and whatever came of the link before, these
--- messages come behind it; while something waits to be written nothing is read and nothing performed
+-- a read step of a link: some messages are performed, at that moment, nothing is written, and these messages follow all
+-- that came of the link before; while output waits nothing is read and nothing performed
 pub record IsTurn {S H : Type 0} (step : Steps H) (contents remaining : S → Option (List ℕ)) (moment : ℤ) (old : Link S) (before : H) (new : Link S) (after : H) : Type 0 where
   pub done : List Done
   pub run : Run step moment before done after
@@ -62,7 +63,8 @@ pub record IsTurn {S H : Type 0} (step : Steps H) (contents remaining : S → Op
   pub idle : (old.connection.output ≡ []) ⊎ (new ≡ old)
   pub follows : (first : S) (earlier : List Done) → IsLinkFollowed contents remaining first earlier old → IsLinkFollowed contents remaining first (earlier ++ done) new
 
--- a turn in which a link is written: the front of what waits goes to the stream, once and in order; nothing is read, and nothing performed
+-- a write step of a link: a prefix of the waiting output goes to the stream, once and in order; nothing is read, and
+-- nothing performed
 pub record IsSent {S : Type 0} (contents remaining : S → Option (List ℕ)) (old new : Link S) : Type 0 where
   pub sent : List ℕ
   pub written : Appends (contents old.stream) (contents new.stream) sent

@@ -1,15 +1,15 @@
--- Pieces that end where a head may end: at a line feed behind the end of a line. This repository's own.
+-- Pieces that end where a head may end: at a line feed after the end of a line. This repository's own.
 use Rattle.std.specs.Prelude.{ℕ, ◌+◌, Bool, true, false, ◌&&◌, ◌==◌, if◌then◌else◌, List, [], ◌∷◌}
 use Rattle.oai_serving.specs.declared.pieces.Line.{Line}
 use Rattle.oai_serving.specs.declared.pieces.Line.TheVariants.{Begun, Ended, Returned}
 
--- a carriage return behind a line feed, or behind something else
+-- a carriage return after a line feed, or after something else
 abbrev pub returned : Line → Line
 returned Ended = Returned
 returned Begun = Begun
 returned Returned = Begun
 
--- what the bytes end with once that byte came behind them
+-- what the bytes end with after that byte
 abbrev pub line_after : Line → ℕ → Line
 line_after line byte = if byte == 10 then Ended else (if byte == 13 then returned line else Begun)
 
@@ -18,11 +18,11 @@ is_ended Ended = true
 is_ended Returned = true
 is_ended Begun = false
 
--- the byte ends a piece: a line feed behind the end of a line
+-- the byte ends a piece: a line feed after the end of a line
 abbrev pub ends_piece : Line → ℕ → Bool
 ends_piece line byte = (byte == 10) && is_ended line
 
--- so many bytes more
+-- that many bytes more
 abbrev pub more : ℕ → ℕ × Line → ℕ × Line
 more count piece = (count + piece.0, piece.1)
 

@@ -5,8 +5,9 @@ use Rattle.oai_front.specs.Messages.{End}
 use Rattle.oai_front.specs.Performing.{Done, answers_of, end_bytes, messages_of}
 use Rattle.oai_front.specs.Runs.{ArePerformed}
 
--- of the bytes that were read of the stream the first ones, `came`, were looked at for messages; these were performed, all or the first of
--- them; and what was written to it is the front of their answers, and of the answer to a connection fault behind them
+-- the first of the bytes that were read of the stream, `came`, were parsed for messages; these were performed, all or
+-- the first of them; and what was written to it is a prefix of their answers, followed by the answer to a connection
+-- fault
 pub record IsReceived {S : Type 0} (contents remaining : S → Option (List ℕ)) (first last : S) (done : List Done) : Type 0 where
   pub came : List ℕ
   pub others : List ℕ

@@ -3,7 +3,7 @@ use thiserror::Error;
 /// Why a server ended.
 #[derive(Clone, Copy, Debug, PartialEq, Eq, Error)]
 pub enum ServeFault {
-    /// It could not wait for what becomes ready.
+    /// It could not wait for readiness.
     #[error("the sockets could not be waited for")]
     Wait,
     /// The clock could not be read.

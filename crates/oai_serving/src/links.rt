@@ -12,30 +12,30 @@ use std::alloc::Global;
 use std::io::{self, ErrorKind};
 use std::marker::Model;
 
-/// The most bytes of one read.
+/// The maximum number of bytes of one read.
 pub const READ_BYTES: usize = 65_536;
 
-/// The most writes of a turn.
+/// The maximum number of writes of one step.
 const MAX_WRITES: usize = 64;
 
-/// So many bytes are gathered at most before they are written.
+/// The maximum number of bytes that are gathered for one write.
 const GATHERED_BYTES: usize = 16_384;
 
-/// The seconds in which no byte goes either way after which a connection is closed.
+/// The idle timeout: seconds without a byte in either direction after which a connection is closed.
 const IDLE_SECONDS: u64 = 60;
 
-/// The seconds after its first byte within which a message has to become whole.
+/// The message timeout: seconds after its first byte within which a message has to be complete.
 const MESSAGE_SECONDS: u64 = 300;
 
-/// The seconds for which a connection that is shut for writing is still read.
+/// The seconds for which a connection that is shut down for writing is still read (lingering close).
 const CLOSING_SECONDS: u64 = 2;
 
-/// The bytes that are read, and dropped, of a connection that is shut for writing.
+/// The bytes that are read, and dropped, of a connection that is shut down for writing.
 const CLOSING_BYTES: usize = 1_048_576;
 
-/// A connection over a stream: the bytes that were read and did not yet come to the connection, those from
-/// `start` on in `held`; the bytes that were taken of its output to be written together; and when a byte went either way last, and the message that is not whole began, in
-/// seconds of a clock.
+/// A connection over a stream: the bytes that were read and not yet passed to the connection, those from `start` on in
+/// `held`; the bytes that were taken of its output to be written together; and the second of the last byte in either
+/// direction, and of the start of the incomplete message, on a monotonic clock.
 #[derive(Drop)]
 pub struct Link<S> {
     stream: S,
@@ -65,7 +65,7 @@ impl<S> Model for Link<S> {
 }
 
 impl<S: Stream> Link<S> {
-    /// A connection of that number that was opened over the stream in that second.
+    /// A connection with that number that was opened over the stream in that second.
     pub(crate) fn new(alloc: Global, number: u64, stream: S, second: u64) -> Link<S>
         ensures { result ≡ opened number stream }
     {
@@ -85,7 +85,7 @@ impl<S: Stream> Link<S> {
         }
     }
 
-    /// Whether something waits to be written.
+    /// Whether output waits to be written.
     fn waits(&self) -> bool
         ensures { result ≡ false → self.now.connection.output ≡ [] }
     {
@@ -95,7 +95,7 @@ impl<S: Stream> Link<S> {
         !self.connection.output().is_empty()
     }
 
-    /// Whether there is a piece that may be performed: one is held, and nothing waits to be written.
+    /// Whether a piece may be performed: one is held, and no output waits.
     fn has_piece(&self) -> bool
         ensures able { result ≡ true → self.now.able ≡ true }
         ensures reads { result ≡ true → is_closing self.now.connection.stage ≡ false }
@@ -110,7 +110,7 @@ impl<S: Stream> Link<S> {
         !self.waits()
     }
 
-    /// Hands in the next piece, and performs what is whole with it. Nothing may wait to be written.
+    /// Passes the next piece to the connection, which performs what it completes. No output may wait.
     fn hand_in<H: Handler>(&mut self, alloc: Global, handler: &mut H, moment: i64)
         requires able { self.old.able ≡ true }
         requires reads { is_closing self.old.connection.stage ≡ false }
@@ -128,7 +128,7 @@ impl<S: Stream> Link<S> {
         }
     }
 
-    /// Hands in pieces until something waits to be written, or none is held.
+    /// Passes pieces to the connection until output waits, or none is held.
     fn perform<H: Handler>(&mut self, alloc: Global, handler: &mut H, moment: i64)
         ensures { IsTurn H.step S.contents S.remaining moment self.old handler.old self.new handler.new }
     {
@@ -140,9 +140,8 @@ impl<S: Stream> Link<S> {
         }
     }
 
-    /// A turn in which it is read: reads at most once, and performs what came, until something waits to be
-    /// written. While something waits nothing is read and nothing performed. Returns how many bytes it then
-    /// keeps, none where something waited.
+    /// A read step: reads at most once, and performs what came, until output waits (backpressure: while output waits,
+    /// nothing is read and nothing performed). Returns how many bytes it then holds, 0 if output waited.
     pub(crate) fn read<H: Handler>(
         &mut self,
         alloc: Global,
@@ -161,14 +160,14 @@ impl<S: Stream> Link<S> {
         self.size()
     }
 
-    /// Whether the stream may have something, and all that was read has come to the connection.
+    /// Whether the stream may have input, and all that was read was passed to the connection.
     fn may_read(&self) -> bool
         ensures { result ≡ true → self.now.held ≡ [] }
     {
         self.readable && self.start == self.held.len()
     }
 
-    /// Reads once where it may: what comes is held.
+    /// Reads once if it may; holds the input.
     fn take_input(&mut self, alloc: Global, second: u64, buffer: &mut [u8])
         ensures { IsLinkRead S.contents S.remaining self.old self.new }
     {
@@ -185,7 +184,7 @@ impl<S: Stream> Link<S> {
         }
     }
 
-    /// Holds the bytes that were read, where they are performed; whether they filled the buffer.
+    /// Holds the bytes that were read, if they are to be performed; `whole` says whether they filled the buffer.
     fn keep(&mut self, alloc: Global, second: u64, bytes: &[u8], whole: bool)
         requires { self.old.held ≡ [] }
         ensures { IsHolding bytes.now self.old self.new }
@@ -202,7 +201,7 @@ impl<S: Stream> Link<S> {
         }
     }
 
-    /// Holds the bytes; where memory is refused nothing more is performed.
+    /// Holds the bytes; out of memory, nothing more is performed.
     fn hold(&mut self, alloc: Global, bytes: &[u8])
         requires { self.old.held ≡ [] }
         ensures { IsHolding bytes.now self.old self.new }
@@ -217,7 +216,7 @@ impl<S: Stream> Link<S> {
         }
     }
 
-    /// What a read that failed makes of it: it waits, tries again or is over.
+    /// After a read that failed: waits for readiness, tries again or is over.
     fn unread(&mut self, error: io::Error)
         ensures { IsHolding [] self.old self.new }
     {
@@ -228,12 +227,12 @@ impl<S: Stream> Link<S> {
         }
     }
 
-    /// Whether something waits to be written, and may be.
+    /// Whether output waits, and the stream may be written.
     fn may_write(&self) -> bool {
         self.writable && self.phase != Phase::Over && self.waits()
     }
 
-    /// A turn in which it is written: what waits is written as far as it goes; and it goes on in its life.
+    /// A write step: writes the waiting output as far as the stream takes it, and moves on to the next phase.
     pub(crate) fn put(&mut self, alloc: Global, second: u64)
         ensures { IsSent S.contents S.remaining self.old self.new }
     {
@@ -242,7 +241,7 @@ impl<S: Stream> Link<S> {
         self.go_on(alloc, second);
     }
 
-    /// Writes what waits as far as it goes.
+    /// Writes the waiting output as far as the stream takes it.
     fn write_all(&mut self, second: u64)
         ensures { IsSent S.contents S.remaining self.old self.new }
     {
@@ -262,7 +261,7 @@ impl<S: Stream> Link<S> {
         self.write_next(second);
     }
 
-    /// Gathers the outputs that are short, as far as memory is there.
+    /// Gathers the outputs that are short, as far as memory is available.
     fn gather(&mut self)
         ensures { self.new ≡ self.old }
     {
@@ -280,7 +279,7 @@ impl<S: Stream> Link<S> {
         count > 0 && count <= GATHERED_BYTES && self.gathered.len() <= GATHERED_BYTES - count
     }
 
-    /// Gathers the next output, where memory is there.
+    /// Gathers the next output, if memory is available.
     fn gather_next(&mut self)
         ensures { self.new ≡ self.old }
     {
@@ -317,7 +316,7 @@ impl<S: Stream> Link<S> {
         }
     }
 
-    /// What a write that failed makes of it: it waits, tries again or is over.
+    /// After a write that failed: waits for readiness, tries again or is over.
     fn unwritten(&mut self, error: io::Error)
         ensures { IsHolding [] self.old self.new }
     {
@@ -328,7 +327,7 @@ impl<S: Stream> Link<S> {
         }
     }
 
-    /// Takes note of what became ready.
+    /// Notes what became ready.
     pub(crate) fn note(&mut self, readable: bool, writable: bool, ended: bool)
         ensures { self.new ≡ self.old }
     {
@@ -337,8 +336,8 @@ impl<S: Stream> Link<S> {
         self.writable = self.writable || writable;
     }
 
-    /// Goes on in its life, in that second: once nothing waits to be written it is shut where the connection
-    /// is closed, and over where nothing more is performed; and it is over when its time is.
+    /// Moves on to the next phase, in that second: once no output waits, it is shut down for writing if the connection
+    /// is closed, and over if nothing more is performed; and it is over at its timeout.
     fn go_on(&mut self, alloc: Global, second: u64)
         ensures { IsSent S.contents S.remaining self.old self.new }
     {
@@ -360,7 +359,7 @@ impl<S: Stream> Link<S> {
         }
     }
 
-    /// Shuts it for writing, where the connection is closed.
+    /// Shuts the stream down for writing, if the connection is closed.
     fn close_after(&mut self, alloc: Global, second: u64)
         ensures { IsSent S.contents S.remaining self.old self.new }
     {
@@ -373,7 +372,7 @@ impl<S: Stream> Link<S> {
         self.start = 0;
     }
 
-    /// Takes note of when the message began that is not whole: now, where something waits to be written.
+    /// Notes when the incomplete message began: now, if output waits.
     fn note_begun(&mut self, second: u64)
         ensures { self.new ≡ self.old }
     {
@@ -398,7 +397,7 @@ impl<S: Stream> Link<S> {
         }
     }
 
-    /// Whether no byte went either way for 60 seconds, or a message has not become whole for 300.
+    /// Whether no byte was sent or received for 60 seconds, or a message is incomplete for 300.
     fn is_idle(&self, second: u64) -> bool {
         if second.saturating_sub(self.heard) >= IDLE_SECONDS {
             return true;
@@ -409,7 +408,21 @@ impl<S: Stream> Link<S> {
         }
     }
 
-    /// Whether it is to be taken away.
+    /// The number of its connection.
+    pub(crate) fn number(&self) -> u64
+        ensures { result ≡ self.now.connection.number }
+    {
+        self.connection.number()
+    }
+
+    /// Its stream.
+    pub(crate) fn into_stream(self) -> S
+        ensures { result ≡ self.stream }
+    {
+        self.stream
+    }
+
+    /// Whether it has to be removed.
     pub(crate) fn is_over(&self) -> bool {
         self.phase == Phase::Over
     }
@@ -425,12 +438,12 @@ impl<S: Stream> Link<S> {
         self.has_piece() || self.may_read()
     }
 
-    /// The second in which a byte went either way last.
+    /// The second of the last byte in either direction.
     pub(crate) fn heard(&self) -> u64 {
         self.heard
     }
 
-    /// How many bytes it keeps, at most `usize::MAX`.
+    /// How many bytes it holds; saturates at `usize::MAX`.
     pub(crate) fn size(&self) -> usize {
         let held = self.held.len().saturating_add(self.gathered.len());
         self.connection.size().saturating_add(held)
@@ -452,7 +465,7 @@ fn drop_front(bytes: &mut Vec<u8>, count: usize)
     bytes.drain(..count);
 }
 
-/// It was shut for writing in that second, and so many bytes were dropped since.
+/// It was shut down for writing in that second, and that many bytes were dropped since.
 fn closing(since: u64, dropped: usize) -> Phase
     ensures { is_able result ≡ false }
 {

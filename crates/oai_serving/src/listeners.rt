@@ -9,13 +9,13 @@ use std::io::{self, Read, Write};
 use std::net::{Net, Shutdown, SocketAddr};
 use std::time::Duration;
 
-/// The token of the listener; that of a stream is its key and one more.
+/// The token of the listener; that of a stream is its key plus one.
 const LISTENER: usize = 0;
 
-/// The most events of a wait.
+/// The maximum number of events of a wait.
 const MAX_EVENTS: usize = 1_024;
 
-/// A TCP stream. What is written to it and what comes of it no contract knows.
+/// A TCP stream. No contract knows the bytes that are written to it and read from it.
 #[derive(Drop)]
 pub struct Socket {
     stream: TcpStream,
@@ -106,5 +106,9 @@ impl Sockets<Socket> for Listener {
         self.poll
             .registry()
             .register(&mut stream.stream, token, interests)
+    }
+
+    fn let_go(&mut self, _number: u64, stream: Socket) {
+        drop(stream);
     }
 }

@@ -1,21 +1,21 @@
 ghost use Rattle.std.specs.Prelude.{◌≡◌, false};
 ghost use Rattle.oai_serving.specs.Links.{is_able};
 
-/// How far a link has come.
+/// The phase of a link.
 #[derive(Clone, Copy, Debug, PartialEq, Eq)]
 pub enum Phase {
     /// It is read, and its messages are performed.
     Open,
-    /// Nothing more is read or performed; what waits is written, and then it is over.
+    /// Nothing more is read or performed; the waiting output is written, and then it is over.
     Last,
-    /// It was shut for writing in that second, and so many bytes were dropped since.
+    /// It was shut down for writing in that second, and that many bytes were dropped since.
     Closing {
         /// The second.
         since: u64,
         /// The bytes.
         dropped: usize,
     },
-    /// It is to be taken away.
+    /// It has to be removed.
     Over,
 }
 
@@ -35,7 +35,7 @@ impl Phase {
         }
     }
 
-    /// How far it is once its stream has ended.
+    /// The phase once its stream has ended.
     pub(crate) fn at_end(self) -> Phase
         ensures { is_able result ≡ false }
     {

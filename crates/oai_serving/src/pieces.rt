@@ -1,8 +1,8 @@
-//! Pieces that end where a head may end.
+//! Splits input into pieces that end where a head may end.
 ghost use Rattle.std.specs.Prelude.{◌≡◌, ◌≤◌, length};
 ghost use Rattle.oai_serving.specs.Pieces as spec;
 
-/// What the bytes before end with.
+/// What the preceding bytes end with.
 #[derive(Clone, Copy, Debug, PartialEq, Eq)]
 pub enum Line {
     /// A line that has begun.
@@ -13,7 +13,7 @@ pub enum Line {
     Returned,
 }
 
-/// What the bytes end with, once that byte came behind them.
+/// What the bytes end with after that byte.
 pub(crate) fn line_after(line: Line, byte: u8) -> Line
     ensures { result ≡ spec.line_after line byte }
 {
@@ -30,15 +30,15 @@ pub(crate) fn line_after(line: Line, byte: u8) -> Line
     }
 }
 
-/// Whether that byte ends a piece: a line feed behind the end of a line, or behind that and a carriage return.
+/// Whether that byte ends a piece: a line feed after the end of a line, or after that and a carriage return.
 fn ends_piece(line: Line, byte: u8) -> bool
     ensures { result ≡ spec.ends_piece line byte }
 {
     byte == b'\n' && line != Line::Begun
 }
 
-/// How many of the bytes, which come behind a line, are the next piece: those through the first that ends one,
-/// or all; and what they end with.
+/// How many of the bytes, which follow a line, are the next piece: those through the first that ends one, or all; and
+/// what they end with.
 pub(crate) fn next_piece(line: Line, bytes: &[u8]) -> (usize, Line)
     ensures piece { (result.0, result.1) ≡ spec.piece_of line bytes.now }
     ensures within { result.0 ≤ length bytes.now }

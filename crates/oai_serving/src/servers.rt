@@ -1,14 +1,16 @@
-//! Rounds of all connections.
+//! The event loop: rounds over all connections.
 ghost use Rattle.std.specs.Prelude.{◌≡◌, ◌<◌, ◌+◌, ◌^◌, [], IfOk};
 ghost use Rattle.oai_serving.specs.declared.tables.TheConstants.{MAX_LINKS};
 ghost use Rattle.slab.specs.Slab.{slab_len};
-ghost use Rattle.oai_serving.specs.Accepted.{Accepts};
-ghost use Rattle.oai_serving.specs.Rounds.{AreAccepted, HasOneMore, IsAdmitted, IsPerformance, IsRound, IsService, AreLinksWritten};
+ghost use Rattle.oai_serving.specs.Accepted.{known_of};
+ghost use Rattle.oai_serving.specs.Rounds.{AreAccepted, AreLinksEnded, AreLinksWritten, IsAdmitted, IsPerformance, IsPlaced, IsRound, IsService};
 
 use crate::faults::ServeFault;
 use crate::links::{Link, READ_BYTES};
 use crate::sockets::{Readiness, Sockets, Stream};
-use crate::tables::{MAX_LINKS, end_all, is_any_busy, note_at, put_all, read_all, shed_all};
+use crate::tables::{
+    MAX_LINKS, end_all, is_any_busy, let_go, note_at, put_all, read_all, shed_all,
+};
 use oai_http::Settled;
 use slab::Slab;
 use std::alloc::{AllocError, Global};
@@ -16,14 +18,15 @@ use std::marker::Model;
 use std::rt::Clock;
 use std::time::Duration;
 
-/// The most seconds of a wait.
+/// The maximum number of seconds of a wait.
 const WAIT_SECONDS: u64 = 1;
 
-/// The seconds after which a failed `accept` is tried again.
+/// The seconds after which a failed `accept` is retried.
 const RETRY_SECONDS: u64 = 1;
 
-/// Connections, and the handler that performs their messages; `keys` is above each key that a link had. It goes in rounds: what became ready is read and
-/// performed, the handler settles, and then what was answered is written.
+/// Connections, and the handler that performs their messages; `keys` is above each key that a link had. It runs in
+/// rounds: input that is ready is read and performed, the handler settles (group commit), and then the answers are
+/// written.
 #[derive(Drop)]
 pub struct Server<S, H> {
     handler: H,
@@ -50,7 +53,7 @@ impl<S, H> Model for Server<S, H> {
 }
 
 impl<S: Stream + Drop, H: Settled> Server<S, H> {
-    /// A server of no connections. The error is out of memory.
+    /// A server without connections. The error is out of memory.
     pub fn new(alloc: Global, handler: H) -> Result<Server<S, H>, AllocError>
     where
         H: Drop,
@@ -73,17 +76,17 @@ impl<S: Stream + Drop, H: Settled> Server<S, H> {
         })
     }
 
-    /// Serves until it cannot wait, the clock cannot be read, or the handler does not settle. What a client
-    /// receives is the front of the answers to its messages, each of which the handler settled before.
+    /// Serves until it cannot wait, the clock cannot be read, or the handler does not settle. A client receives a
+    /// prefix of the answers to its messages, each of which the handler settled before.
     pub fn serve<K: Sockets<S>, C: Clock>(
         &mut self,
         sockets: &mut K,
         clock: &C,
     ) -> Result<(), ServeFault>
-        ensures { IsService H.step H.settled S.contents S.remaining (K.accepted sockets.old)
-            (K.accepted sockets.new) self.old result self.new }
+        ensures { IsService H.step H.settled S.contents S.remaining (known_of (K.accepted sockets.old) (K.gone sockets.old))
+            (known_of (K.accepted sockets.new) (K.gone sockets.new)) self.old result self.new }
     {
-        for _ in 0..u64::MAX {
+        for _count in 0..u64::MAX {
             match self.round(sockets, clock) {
                 Ok(()) => {}
                 Err(fault) => return Err(fault),
@@ -92,16 +95,16 @@ impl<S: Stream + Drop, H: Settled> Server<S, H> {
         Ok(())
     }
 
-    /// A round: waits until something becomes ready, at most a second, accepts connections, reads each that can
-    /// be read once, and performs what came; then the handler settles; and then what waits is written. Where
-    /// the handler does not settle nothing is written.
+    /// A round: waits until something becomes ready, at most a second, accepts connections, reads each readable one
+    /// once, and performs what came; then the handler settles; and then the output is written. If the handler does not
+    /// settle, nothing is written.
     pub fn round<K: Sockets<S>, C: Clock>(
         &mut self,
         sockets: &mut K,
         clock: &C,
     ) -> Result<(), ServeFault>
-        ensures { IsRound H.step H.settled S.contents S.remaining (K.accepted sockets.old)
-            (K.accepted sockets.new) self.old result self.new }
+        ensures { IsRound H.step H.settled S.contents S.remaining (known_of (K.accepted sockets.old) (K.gone sockets.old))
+            (known_of (K.accepted sockets.new) (K.gone sockets.new)) self.old result self.new }
     {
         let Ok(count) = sockets.wait(self.patience()) else {
             return Err(ServeFault::Wait);
@@ -113,12 +116,12 @@ impl<S: Stream + Drop, H: Settled> Server<S, H> {
             return Err(ServeFault::Clock);
         };
         self.note_all(sockets, count);
-        self.end_links();
+        self.end_links(sockets);
         self.accept_all(sockets, second);
         self.perform(moment, second)
     }
 
-    /// How long to wait at most: not at all where something can be done.
+    /// The maximum time to wait: 0 if something can be done.
     fn patience(&self) -> Duration {
         if self.is_accepting() || is_any_busy(&self.links) {
             return Duration::ZERO;
@@ -126,7 +129,7 @@ impl<S: Stream + Drop, H: Settled> Server<S, H> {
         Duration::from_secs(WAIT_SECONDS)
     }
 
-    /// Whether a connection may wait for which there is a place.
+    /// Whether a connection may wait to be accepted for which there is a place.
     fn is_accepting(&self) -> bool {
         self.waiting && self.retry == 0 && self.links.len() < MAX_LINKS
     }
@@ -154,23 +157,24 @@ impl<S: Stream + Drop, H: Settled> Server<S, H> {
         }
     }
 
-    /// Writes what waits on all links.
+    /// Writes the waiting output of all links.
     fn put(&mut self, second: u64)
         ensures { AreLinksWritten S.contents S.remaining self.old self.new }
     {
         put_all(self.alloc, &mut self.links, self.keys, second);
     }
 
-    /// Takes away the links that are over, and others while all keep more than they may. It comes at the
-    /// beginning of a round, so that at the end of each the links are there that were written in it.
-    fn end_links(&mut self)
-        ensures { AreLinksWritten S.contents S.remaining self.old self.new }
+    /// Removes the links that are over, and others while all together hold more than they may. It is called at the
+    /// beginning of a round, so that at the end of each the links that it wrote to still exist.
+    fn end_links<K: Sockets<S>>(&mut self, sockets: &mut K)
+        ensures { AreLinksEnded S.contents S.remaining (known_of (K.accepted sockets.old) (K.gone sockets.old))
+            (known_of (K.accepted sockets.new) (K.gone sockets.new)) self.old self.new }
     {
-        end_all(&mut self.links, self.keys);
-        shed_all(&mut self.links);
+        end_all(sockets, &mut self.links, self.keys);
+        shed_all(sockets, &mut self.links);
     }
 
-    /// Takes note of what became ready.
+    /// Notes what became ready.
     fn note_all<K: Sockets<S>>(&mut self, sockets: &K, count: usize)
         ensures { AreLinksWritten S.contents S.remaining self.old self.new }
     {
@@ -179,7 +183,7 @@ impl<S: Stream + Drop, H: Settled> Server<S, H> {
         }
     }
 
-    /// Takes note of one readiness.
+    /// Notes one readiness.
     fn note(&mut self, readiness: Option<Readiness>)
         ensures { AreLinksWritten S.contents S.remaining self.old self.new }
     {
@@ -197,10 +201,10 @@ impl<S: Stream + Drop, H: Settled> Server<S, H> {
         }
     }
 
-    /// Accepts the connections that wait, as far as there are places.
+    /// Accepts the waiting connections, as far as there are places.
     fn accept_all<K: Sockets<S>>(&mut self, sockets: &mut K, second: u64)
-        ensures { AreAccepted S.contents S.remaining (K.accepted sockets.old) (K.accepted sockets.new)
-            self.old self.new }
+        ensures { AreAccepted S.contents S.remaining (known_of (K.accepted sockets.old) (K.gone sockets.old))
+            (known_of (K.accepted sockets.new) (K.gone sockets.new)) self.old self.new }
     {
         if second < self.retry {
             return;
@@ -213,10 +217,10 @@ impl<S: Stream + Drop, H: Settled> Server<S, H> {
         }
     }
 
-    /// Accepts the next connection, where there is a place; whether a further one may wait.
+    /// Accepts the next connection, if there is a place; returns whether a further one may wait.
     fn accept_next<K: Sockets<S>>(&mut self, sockets: &mut K, second: u64) -> bool
-        ensures { AreAccepted S.contents S.remaining (K.accepted sockets.old) (K.accepted sockets.new)
-            self.old self.new }
+        ensures { AreAccepted S.contents S.remaining (known_of (K.accepted sockets.old) (K.gone sockets.old))
+            (known_of (K.accepted sockets.new) (K.gone sockets.new)) self.old self.new }
     {
         if !self.waiting || self.links.len() >= MAX_LINKS || self.last == u64::MAX {
             return false;
@@ -237,35 +241,36 @@ impl<S: Stream + Drop, H: Settled> Server<S, H> {
         }
     }
 
-    /// Begins a link with the stream, which was accepted. It is let go where it cannot be watched or memory is
-    /// refused.
+    /// Begins a link with the accepted stream, which is dropped if it cannot be watched or memory runs out.
     fn admit<K: Sockets<S>>(&mut self, sockets: &mut K, mut stream: S, second: u64)
         requires place { slab_len self.old.links < MAX_LINKS }
         requires number { self.old.last + 1 < 2 ^ 64 }
-        ensures admitted { IsAdmitted S.contents S.remaining stream self.old self.new }
-        ensures accepted { Accepts (K.accepted sockets.old) (K.accepted sockets.new) [] }
+        ensures { IsAdmitted S.contents S.remaining (known_of (K.accepted sockets.old) (K.gone sockets.old))
+            (known_of (K.accepted sockets.new) (K.gone sockets.new)) stream self.old self.new }
     {
         let number = self.last + 1;
         self.last = number;
         let key = self.links.vacant_key();
         self.keys = self.keys.max(key.saturating_add(1));
         if sockets.watch(&mut stream, key).is_err() {
+            sockets.let_go(number, stream);
             return;
         }
         let link = Link::new(self.alloc, number, stream, second);
-        self.keep(link);
+        self.keep(sockets, link);
     }
 
-    /// Keeps a link; it is let go where memory is refused.
-    fn keep(&mut self, link: Link<S>)
+    /// Stores a link; its stream is let go if memory runs out.
+    fn keep<K: Sockets<S>>(&mut self, sockets: &mut K, link: Link<S>)
         requires { slab_len self.old.links < MAX_LINKS }
         ensures handler { self.new.handler ≡ self.old.handler }
         ensures last { self.new.last ≡ self.old.last }
-        ensures links { HasOneMore link self.old.links self.new.links }
+        ensures links { IsPlaced (known_of (K.accepted sockets.old) (K.gone sockets.old))
+            (known_of (K.accepted sockets.new) (K.gone sockets.new)) link self.old.links self.new.links }
     {
         match self.links.insert(link) {
             Ok(_) => {}
-            Err(_) => {}
+            Err(failed) => let_go(sockets, failed.value),
         }
     }
 }
@@ -278,7 +283,7 @@ fn moment_of<C: Clock>(clock: &C) -> Result<i64, ServeFault> {
     }
 }
 
-/// The second of a clock that does not go back. The error is that it cannot be read.
+/// The second of a monotonic clock. The error is that it cannot be read.
 fn second_of<C: Clock>(clock: &C) -> Result<u64, ServeFault> {
     match clock.monotonic() {
         Ok(time) => Ok(time.as_secs()),

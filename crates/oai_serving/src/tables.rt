@@ -1,24 +1,24 @@
 //! Links under keys.
-ghost use Rattle.std.specs.Prelude.{◌≡◌, ◌≤◌, ◌<◌, length};
-ghost use Rattle.oai_serving.specs.Tables.{AreSent, AreTurned};
+ghost use Rattle.std.specs.Prelude.{◌≡◌, ◌≤◌, ◌<◌, [], ◌∷◌, length};
+ghost use Rattle.oai_serving.specs.Accepted.{Passes, known_of};
+ghost use Rattle.oai_serving.specs.Tables.{AreEnded, AreSent, AreTurned};
 
 use crate::links::Link;
-use crate::sockets::Stream;
+use crate::sockets::{Sockets, Stream};
 use oai_http::Handler;
 use slab::Slab;
 use std::alloc::Global;
 
-/// The most connections that are open at once.
+/// The maximum number of open connections.
 pub const MAX_LINKS: usize = 1_024;
 
-/// The bytes that may be held back in a round before it performs no more.
+/// The bytes that may be held in a round before it performs no more.
 const MAX_ROUND_BYTES: usize = 16_777_216;
 
-/// The bytes that all links may keep.
+/// The bytes that all links together may hold.
 const MAX_BYTES: usize = 268_435_456;
 
-/// Reads the link of the key, and performs what came; how many bytes it keeps then, none where it waited to be
-/// written.
+/// Reads the link with the key, and performs what came; returns how many bytes it then holds, 0 if output waited.
 fn read_at<S: Stream, H: Handler>(
     alloc: Global,
     links: &mut Slab<Link<S>>,
@@ -36,8 +36,8 @@ fn read_at<S: Stream, H: Handler>(
     }
 }
 
-/// Reads the links of the first `most` keys, from the key `first` on, and performs what comes, until more is
-/// held back than a round may; the key at which the next round begins.
+/// Reads the links with the first `most` keys, from the key `first` on, and performs what comes, until more is held
+/// than a round may; returns the key at which the next round begins.
 pub(crate) fn read_all<S: Stream, H: Handler>(
     alloc: Global,
     links: &mut Slab<Link<S>>,
@@ -65,7 +65,7 @@ pub(crate) fn read_all<S: Stream, H: Handler>(
     first
 }
 
-/// Takes note that the link of the key became ready.
+/// Notes that the link with the key became ready.
 pub(crate) fn note_at<S: Stream>(
     links: &mut Slab<Link<S>>,
     key: usize,
@@ -81,7 +81,8 @@ pub(crate) fn note_at<S: Stream>(
     }
 }
 
-/// Writes what waits on the link of the key, as far as it goes, and lets it go on in its life.
+/// Writes the waiting output of the link with the key, as far as the stream takes it, and moves it on to its next
+/// phase.
 fn put_at<S: Stream>(alloc: Global, links: &mut Slab<Link<S>>, key: usize, second: u64)
     ensures { AreSent S.contents S.remaining links.old links.new }
 {
@@ -91,23 +92,41 @@ fn put_at<S: Stream>(alloc: Global, links: &mut Slab<Link<S>>, key: usize, secon
     }
 }
 
-/// Takes the link of the key away, where it is over.
-fn end_at<S: Stream + Drop>(links: &mut Slab<Link<S>>, key: usize)
-    ensures { AreSent S.contents S.remaining links.old links.new }
+/// Removes the link with the key, if it is over.
+fn end_at<S: Stream + Drop, K: Sockets<S>>(sockets: &mut K, links: &mut Slab<Link<S>>, key: usize)
+    ensures { AreEnded S.contents S.remaining (known_of (K.accepted sockets.old) (K.gone sockets.old))
+        (known_of (K.accepted sockets.new) (K.gone sockets.new)) links.old links.new }
 {
     if is_over_at(links, key) {
-        take_away(links, key);
+        take_away(sockets, links, key);
     }
 }
 
-/// Takes the link of the key away, where there is one.
-fn take_away<S: Stream + Drop>(links: &mut Slab<Link<S>>, key: usize)
-    ensures { AreSent S.contents S.remaining links.old links.new }
+/// Removes the link with the key, if there is one, and lets its stream go.
+fn take_away<S: Stream + Drop, K: Sockets<S>>(
+    sockets: &mut K,
+    links: &mut Slab<Link<S>>,
+    key: usize,
+)
+    ensures { AreEnded S.contents S.remaining (known_of (K.accepted sockets.old) (K.gone sockets.old))
+        (known_of (K.accepted sockets.new) (K.gone sockets.new)) links.old links.new }
 {
-    links.try_remove(key);
+    match links.try_remove(key) {
+        Some(link) => let_go(sockets, link),
+        None => {}
+    }
 }
 
-/// Whether the link of the key is over.
+/// Lets the stream of a link go, with its number.
+pub(crate) fn let_go<S: Stream + Drop, K: Sockets<S>>(sockets: &mut K, link: Link<S>)
+    ensures { Passes (known_of (K.accepted sockets.old) (K.gone sockets.old))
+        (known_of (K.accepted sockets.new) (K.gone sockets.new)) [] ((link.connection.number, link.stream) ∷ []) }
+{
+    let number = link.number();
+    sockets.let_go(number, link.into_stream());
+}
+
+/// Whether the link with the key is over.
 fn is_over_at<S: Stream>(links: &Slab<Link<S>>, key: usize) -> bool {
     match links.get(key) {
         Some(link) => link.is_over(),
@@ -115,7 +134,7 @@ fn is_over_at<S: Stream>(links: &Slab<Link<S>>, key: usize) -> bool {
     }
 }
 
-/// Writes what waits on the links of the first `most` keys, as far as it goes.
+/// Writes the waiting output of the links with the first `most` keys, as far as the streams take it.
 pub(crate) fn put_all<S: Stream>(alloc: Global, links: &mut Slab<Link<S>>, most: usize, second: u64)
     ensures { AreSent S.contents S.remaining links.old links.new }
 {
@@ -124,29 +143,35 @@ pub(crate) fn put_all<S: Stream>(alloc: Global, links: &mut Slab<Link<S>>, most:
     }
 }
 
-/// Takes away those of the links of the first `most` keys that are over.
-pub(crate) fn end_all<S: Stream + Drop>(links: &mut Slab<Link<S>>, most: usize)
-    ensures { AreSent S.contents S.remaining links.old links.new }
+/// Removes those of the links with the first `most` keys that are over.
+pub(crate) fn end_all<S: Stream + Drop, K: Sockets<S>>(
+    sockets: &mut K,
+    links: &mut Slab<Link<S>>,
+    most: usize,
+)
+    ensures { AreEnded S.contents S.remaining (known_of (K.accepted sockets.old) (K.gone sockets.old))
+        (known_of (K.accepted sockets.new) (K.gone sockets.new)) links.old links.new }
 {
     for key in 0..most {
-        end_at(links, key);
+        end_at(sockets, links, key);
     }
 }
 
-/// Takes links away while all keep more than they may, the one on which no byte went for the longest first.
-pub(crate) fn shed_all<S: Stream + Drop>(links: &mut Slab<Link<S>>)
-    ensures { AreSent S.contents S.remaining links.old links.new }
+/// Removes links while all together hold more than they may, the one that was idle longest first.
+pub(crate) fn shed_all<S: Stream + Drop, K: Sockets<S>>(sockets: &mut K, links: &mut Slab<Link<S>>)
+    ensures { AreEnded S.contents S.remaining (known_of (K.accepted sockets.old) (K.gone sockets.old))
+        (known_of (K.accepted sockets.new) (K.gone sockets.new)) links.old links.new }
 {
     for _ in 0..links.capacity() {
         if size_of(links) <= MAX_BYTES {
             return;
         }
         let key = idlest_of(links);
-        take_away(links, key);
+        take_away(sockets, links, key);
     }
 }
 
-/// How many bytes all links keep, at most `usize::MAX`.
+/// How many bytes all links hold; saturates at `usize::MAX`.
 fn size_of<S: Stream>(links: &Slab<Link<S>>) -> usize {
     let mut size: usize = 0;
     for (_, link) in links.iter() {
@@ -155,7 +180,7 @@ fn size_of<S: Stream>(links: &Slab<Link<S>>) -> usize {
     size
 }
 
-/// The key of the link on which no byte went for the longest; 0 where there is none.
+/// The key of the link that was idle longest; 0 if there is none.
 fn idlest_of<S: Stream>(links: &Slab<Link<S>>) -> usize {
     let mut idlest = 0;
     let mut heard = u64::MAX;

@@ -3,7 +3,7 @@ ghost use Rattle.std.specs.Prelude.{◌≡◌, Ok};
 
 use oai_http::{Answer, Exchange, Handler, SettleFault, Settled};
 
-/// A handler of which nothing is to be made durable: settling does nothing.
+/// A handler that makes nothing durable: settling does nothing.
 #[derive(Drop)]
 pub struct Volatile<H> {
     handler: H,

@@ -1,4 +1,4 @@
--- A repository as it is configured, and the rules of its configuration.
+-- The configuration of a repository, and its rules.
 use Rattle.std.specs.Prelude.{◌≡◌, ℕ, ℤ, pos, neg_ℤ, Bool, true, ◌==◌, ◌||◌, ◌&&◌, not, int_lt, List, length}
 use Rattle.std.specs.Char.{is_ascii_digit, is_ascii_lowercase}
 use Rattle.std.specs.Int.{is_in_range}
@@ -12,7 +12,7 @@ use Rattle.oai_item.specs.ShortTexts.{is_short_text}
 use Rattle.oai_item.specs.declared.formats.Format.{Format}
 use Rattle.oai_item.specs.declared.deleted_record.DeletedRecord.{DeletedRecord}
 
--- what Identify returns of a repository (OAI-PMH 2.0, section 4.2), the most that it holds, and its metadata formats
+-- what Identify returns of a repository (OAI-PMH 2.0, section 4.2), its limits, and its metadata formats
 pub record Config : Type 0 where
   pub base : List ℕ
   pub repository_name : List ℕ
@@ -34,7 +34,7 @@ is_repository_byte b = is_ascii_lowercase b || is_ascii_digit b || b == 45
 unfoldable pub is_repository_name : List ℕ → Bool
 is_repository_name name = is_in_range 1 32 (length name) && list_all is_repository_byte name
 
--- a name for people, and 1 to 16 addresses (OAI-PMH 2.0, section 4.2; the numbers are this repository's own)
+-- a repositoryName, and 1 to 16 addresses (OAI-PMH 2.0, section 4.2; the numbers are this repository's own)
 unfoldable pub is_described : List ℕ → List (List ℕ) → Bool
 is_described name addresses =
     is_short_text name && is_in_range 1 16 (length addresses) && list_all is_short_text addresses
@@ -44,7 +44,7 @@ abbrev pub is_in_years : ℤ → Bool
 is_in_years seconds =
     not (int_lt seconds (neg_ℤ (pos 62_135_596_800))) && not (int_lt LAST_TICK seconds)
 
--- a datestamp of the granularity (OAI-PMH 2.0, section 2.7.1), of these years
+-- a datestamp at the granularity (OAI-PMH 2.0, section 2.7.1), in these years
 unfoldable pub is_date : Granularity → ℤ → Bool
 is_date granularity seconds = is_in_years seconds && int_eq (stamp_of granularity seconds) seconds
 
@@ -62,7 +62,7 @@ is_lifetime n = is_in_range 1 31_536_000 n
 abbrev pub is_lists : ℕ → Bool
 is_lists n = is_in_range 1 10_000 n
 
--- items, deleted ones included
+-- items, including deleted ones
 abbrev pub is_items : ℕ → Bool
 is_items n = is_in_range 1 1_000_000 n
 
@@ -70,7 +70,7 @@ is_items n = is_in_range 1 1_000_000 n
 unfoldable pub are_limits : ℕ → ℕ → ℕ → ℕ → Bool
 are_limits chunk lifetime lists items = is_chunk chunk && is_lifetime lifetime && is_lists lists && is_items items
 
--- the rules that a configuration keeps
+-- the rules that a configuration satisfies
 pub record IsConfig (config : Config) : Type 0 where
   pub based : is_xml_text config.base ≡ true
   pub described : is_described config.repository_name config.addresses ≡ true

@@ -1,5 +1,5 @@
--- The settings of a repository: what Identify returns of it (OAI-PMH 2.0, section 4.2), its formats and its limits; why they make no
--- configuration, and the configuration that they make.
+-- The settings of a repository: what Identify returns of it (OAI-PMH 2.0, section 4.2), its formats and its limits; why
+-- they make no configuration, and the configuration that they make.
 use Rattle.std.specs.Prelude.{◌≡◌, ℕ, ℤ, Bool, true, false, ◌&&◌, not, nat_le, List, ◌∷◌, ◌++◌, map, length, codes, Option, Some, None, is_none, option_and_then, if◌then◌else◌, Result, Ok, Err}
 use Rattle.std.specs.List.{list_all}
 use Rattle.oai_names.specs.Names.{is_among, may_be_prefix}
@@ -18,7 +18,7 @@ use Rattle.oai_settings.specs.declared.settings.ConfigFault.{ConfigFault}
 use Rattle.oai_settings.specs.declared.settings.ConfigFault.TheVariants.{BadShape, BadName, BadFormat, BadDate, BadNumber, NoMemory}
 use Rattle.oai_settings.specs.Config.{Config, is_described, is_repository_name, is_in_years, is_chunk, is_lifetime, is_lists, is_items}
 
--- the base, the name for people and the addresses are of their lengths and their number, and of such characters
+-- the base, the repositoryName and the addresses are valid in length, number and characters
 abbrev pub has_shape : Settings → Bool
 has_shape s = is_short_text s.base && is_described s.repository_name s.addresses
 
@@ -28,7 +28,7 @@ has_shape s = is_short_text s.base && is_described s.repository_name s.addresses
 abbrev pub format_of : FormatSettings → Format
 format_of s = record { prefix = s.prefix; schema = s.schema; namespace = s.namespace; root = s.root; fields = s.fields }
 
--- it has a metadataPrefix, and keeps the rules of a declared format
+-- it has a metadataPrefix, and satisfies the rules of a declared format
 abbrev pub is_good_format : FormatSettings → Bool
 is_good_format s = may_be_prefix s.prefix && is_allowed (format_of s)
 
@@ -51,18 +51,18 @@ formats_of settings = dublin_core ∷ map format_of settings
 
 -- ---- the earliest datestamp
 
--- the seconds, where they are of the years 0001 to 9998
+-- the seconds, if they lie in the years 0001 to 9998
 abbrev pub in_years : ℤ → Option ℤ
 in_years seconds = if is_in_years seconds then Some seconds else None
 
--- the seconds of a bound of just the granularity, and of these years
+-- the seconds of a bound with exactly the granularity, in these years
 abbrev pub seconds_of : Granularity → Bound → Option ℤ
 seconds_of Day (WholeDay midnight) = in_years midnight
 seconds_of Day (OneSecond second) = None
 seconds_of Second (WholeDay midnight) = None
 seconds_of Second (OneSecond second) = in_years second
 
--- the seconds of the text, where it is such a bound (OAI-PMH 2.0, sections 2.7.1 and 3.3)
+-- the seconds of the text, if it is such a bound (OAI-PMH 2.0, sections 2.7.1 and 3.3)
 unfoldable pub earliest_of : Granularity → List ℕ → Option ℤ
 earliest_of granularity text = option_and_then (seconds_of granularity) (bound_of text)
 
@@ -90,7 +90,8 @@ config_fault s =
     else (if not (are_numbers s.chunk s.lifetime s.lists s.items) then Some BadNumber
     else None))))
 
--- the settings have no fault, and each part of the configuration is what they say; the base URL is the base, `/oai/` and the name
+-- the settings have no fault, and each part of the configuration is what they say; the base URL is the base, `/oai/`
+-- and the name
 pub record Configures (settings : Settings) (config : Config) : Type 0 where
   pub faultless : config_fault settings ≡ None
   pub base : config.base ≡ settings.base ++ codes "/oai/" ++ settings.name
@@ -105,7 +106,7 @@ pub record Configures (settings : Settings) (config : Config) : Type 0 where
   pub items : settings.items ≡ Some config.items
   pub formats : config.formats ≡ formats_of settings.formats
 
--- what making a configuration of the settings answers; memory may be refused once shape and name are found good
+-- the result of making a configuration of the settings; out of memory is possible once shape and name are good
 abbrev pub IsConfigured : Settings → Result Config ConfigFault → Type 0
 IsConfigured settings (Ok config) = Configures settings config
 IsConfigured settings (Err NoMemory) = (has_shape settings ≡ true) × (is_repository_name settings.name ≡ true)

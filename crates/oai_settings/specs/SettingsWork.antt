@@ -1,15 +1,18 @@
--- The calls behind making a configuration: each returns its value, or that the settings are bad, or that memory was refused.
+-- The calls behind making a configuration: each returns its value, or that the settings are bad, or that memory was
+-- refused.
 use Rattle.std.specs.Prelude.{◌≡◌, ℕ, true, false, List, ◌∷◌, [], ◌++◌, Option, Some, None, is_none, Result, Ok, Err}
 use Rattle.std.specs.Int.{is_in_range}
 use Rattle.oai_names.specs.Names.{may_be_prefix}
 use Rattle.oai_item.specs.Declaring.{HasGoodTexts, declare_fault}
 use Rattle.oai_item.specs.declared.formats.Format.{Format}
 use Rattle.oai_settings.specs.declared.config.parts.Limits.{Limits}
+use Rattle.oai_settings.specs.declared.config.parts.Made.{Made}
 use Rattle.oai_settings.specs.declared.settings.FormatSettings.{FormatSettings}
+use Rattle.oai_settings.specs.declared.settings.Settings.{Settings}
 use Rattle.oai_settings.specs.declared.settings.ConfigFault.{ConfigFault}
 use Rattle.oai_settings.specs.declared.settings.ConfigFault.TheVariants.{BadFormat, NoMemory}
-use Rattle.oai_settings.specs.Config.{are_limits}
-use Rattle.oai_settings.specs.Settings.{are_formats, are_numbers, format_of, formats_of, passes_number}
+use Rattle.oai_settings.specs.Config.{Config, IsConfig, are_limits}
+use Rattle.oai_settings.specs.Settings.{Configures, IsConfigured, are_formats, are_numbers, format_of, formats_of, passes_number}
 
 -- memory was refused, and so much was found good before it; or the format is a bad one
 abbrev pub IsSettingsRefused : ConfigFault → Type 0 → Type 0 → Type 0
@@ -48,3 +51,24 @@ AreLimits chunk lifetime lists items (Some limits) =
     × (are_numbers chunk lifetime lists items ≡ true)
     × (are_limits limits.chunk limits.lifetime limits.lists limits.items ≡ true)
 AreLimits chunk lifetime lists items None = are_numbers chunk lifetime lists items ≡ false
+
+-- the configuration with what was made of its settings
+abbrev pub config_with : Settings → Made → Config
+config_with settings made = record {
+  base = made.base;
+  repository_name = settings.repository_name;
+  addresses = settings.addresses;
+  earliest = made.earliest;
+  deleted = settings.deleted;
+  granularity = settings.granularity;
+  chunk = made.limits.chunk;
+  lifetime = made.limits.lifetime;
+  lists = made.limits.lists;
+  items = made.limits.items;
+  formats = made.formats;
+}
+
+-- with what was made they are configured; or they have the fault
+abbrev pub IsMade : Settings → Result Made ConfigFault → Type 0
+IsMade settings (Ok made) = Configures settings (config_with settings made) × IsConfig (config_with settings made)
+IsMade settings (Err fault) = IsConfigured settings (Err fault)

@@ -5,11 +5,11 @@ ghost use Rattle.oai_time.specs.Stamp.{IsWritable};
 ghost use Rattle.oai_settings.specs.Config.{IsConfig};
 ghost use Rattle.oai_settings.specs.Settings.{IsConfigured};
 
-use crate::settings::{ConfigFault, Settings, has_shape, is_repository_name};
+use crate::settings::{ConfigFault, Settings};
 use oai_item::{DeletedRecord, Formats};
 use oai_names::{Sequence, Text};
 use oai_time::Granularity;
-use parts::{Limits, base_url, declared_formats, limits_of, read_earliest};
+use parts::{Limits, made_of};
 use std::alloc::Global;
 use std::marker::Model;
 
@@ -45,38 +45,19 @@ impl RepoConfig {
     /// `NoMemory`, which may come in place of any but the first two: their causes are looked for
     /// before any memory is taken. Of the texts only the prefixes of the formats are copied, and
     /// the base where the name finds no room behind it.
-    #[tactic(auto, unfolding(crate::specs::Settings::config_fault))]
-    pub fn new(alloc: Global, settings: Settings) -> Result<RepoConfig, ConfigFault>
+    pub fn new(alloc: Global, mut settings: Settings) -> Result<RepoConfig, ConfigFault>
         ensures { IsConfigured settings result }
     {
-        if !has_shape(&settings) {
-            return Err(ConfigFault::BadShape);
-        }
-        if !is_repository_name(settings.name.as_str()) {
-            return Err(ConfigFault::BadName);
-        }
-        let formats = declared_formats(alloc, settings.formats)?;
-        let Some(earliest) = read_earliest(settings.granularity, settings.earliest.as_str()) else {
-            return Err(ConfigFault::BadDate);
-        };
-        let Some(limits) = limits_of(
-            settings.chunk,
-            settings.lifetime,
-            settings.lists,
-            settings.items,
-        ) else {
-            return Err(ConfigFault::BadNumber);
-        };
-        let base = base_url(settings.base, settings.name.as_str())?;
+        let made = made_of(alloc, &mut settings)?;
         Ok(RepoConfig {
-            base,
+            base: made.base,
             repository_name: settings.repository_name,
             addresses: settings.addresses,
-            earliest,
+            earliest: made.earliest,
             deleted: settings.deleted,
             granularity: settings.granularity,
-            limits,
-            formats,
+            limits: made.limits,
+            formats: made.formats,
         })
     }
 

@@ -12,13 +12,13 @@ use std::alloc::AllocError;
 use std::error::Error;
 use std::fmt;
 
-/// The most bytes of a repository's name in its base URL.
+/// The maximum length of a repository's name in its base URL, in bytes.
 const MAX_NAME_BYTES: usize = 32;
 
-/// The most addresses of administrators.
+/// The maximum number of addresses of administrators.
 const MAX_ADDRESSES: usize = 16;
 
-/// The settings of a metadata format (OAI-PMH 2.0, section 3.4), before they are checked.
+/// The settings of a metadata format (OAI-PMH 2.0, section 3.4), not yet validated.
 #[derive(Debug, Drop)]
 pub struct FormatSettings {
     /// The metadataPrefix.
@@ -33,24 +33,24 @@ pub struct FormatSettings {
     pub fields: Sequence<Text>,
 }
 
-/// The settings of a repository, before they are checked. A number is None where a number was given that
-/// does not fit 64 bits, is not whole, or is negative.
+/// The settings of a repository, not yet validated. A number is None if the given one does not fit 64 bits, is not
+/// whole, or is negative.
 #[derive(Debug, Drop)]
 pub struct Settings {
-    /// What the base URLs of all repositories begin with: 1 to 512 bytes.
+    /// The start of the base URLs of all repositories: 1 to 512 bytes.
     pub base: Text,
     /// The repository's name in its base URL: 1 to 32 of `a` to `z`, `0` to `9` and `-`.
     pub name: Text,
-    /// The name for people: 1 to 512 bytes.
+    /// The repositoryName: 1 to 512 bytes.
     pub repository_name: Text,
     /// The addresses of the administrators: 1 to 16, of 1 to 512 bytes each.
     pub addresses: Sequence<Text>,
-    /// The lower limit of all datestamps: `YYYY-MM-DD` where the granularity is days,
-    /// `YYYY-MM-DDThh:mm:ssZ` where it is seconds, of the years 0001 to 9998.
+    /// The earliestDatestamp: `YYYY-MM-DD` if the granularity is days, `YYYY-MM-DDThh:mm:ssZ` if it is seconds, in the
+    /// years 0001 to 9998.
     pub earliest: Text,
-    /// What is kept of deleted records.
+    /// The policy on deleted records.
     pub deleted: DeletedRecord,
-    /// How fine the datestamps are.
+    /// The granularity of the datestamps.
     pub granularity: Granularity,
     /// Records a page: 1 to 1,000.
     pub chunk: Option<u64>,
@@ -58,37 +58,36 @@ pub struct Settings {
     pub lifetime: Option<u64>,
     /// Lists that are open at once: 1 to 10,000.
     pub lists: Option<u64>,
-    /// Items, deleted ones counted: 1 to 1,000,000.
+    /// Items, including deleted ones: 1 to 1,000,000.
     pub items: Option<u64>,
-    /// The metadata formats beside oai_dc: at most 63.
+    /// The metadata formats besides oai_dc: at most 63.
     pub formats: Sequence<FormatSettings>,
 }
 
-/// Why settings make no configuration, in the order in which the causes are looked for; out of memory
-/// apart, which may come once the name is tested.
+/// Why settings make no configuration, in the order in which the causes are tested; `NoMemory` may come as soon as the
+/// name is tested.
 #[derive(Clone, Copy, Debug, PartialEq, Eq)]
 pub enum ConfigFault {
-    /// The base, the name for people or an address is not of 1 to 512 bytes, or has a character that
-    /// no XML document may hold (XML 1.0, section 2.2); or there is no address, or more than 16.
-    /// Number 2.
+    /// The base, the repositoryName or an address does not have 1 to 512 bytes, or has a character that no XML document
+    /// may hold (XML 1.0, section 2.2); or there is no address, or more than 16. Number 2.
     BadShape,
-    /// The name in the base URL is not of 1 to 32 of `a` to `z`, `0` to `9` and `-`. Number 3.
+    /// The name in the base URL is not 1 to 32 of `a` to `z`, `0` to `9` and `-`. Number 3.
     BadName,
-    /// A format has no prefix of a metadataPrefix's syntax and at most 64 bytes, or breaks a rule
-    /// that `FormatFault` names; or a prefix stands twice or is oai_dc; or there are more than 63
-    /// formats. Number 5.
+    /// A format's prefix does not have the syntax of a metadataPrefix and at most 64 bytes, or the format violates a
+    /// rule that `FormatFault` names; or a prefix occurs twice or is oai_dc; or there are more than 63 formats. Number
+    /// 5.
     BadFormat,
-    /// The earliest datestamp is not written in just the granularity, is no date that there is, or
-    /// is not of the years 0001 to 9998. Number 6.
+    /// The earliestDatestamp is not written at exactly the granularity, is no date that exists, or is not in the years
+    /// 0001 to 9998. Number 6.
     BadDate,
     /// A limit is None, or out of its range. Number 7.
     BadNumber,
-    /// A format or the base URL could not be stored. Number 9.
+    /// Out of memory: a format or the base URL could not be stored. Number 9.
     NoMemory,
 }
 
 impl ConfigFault {
-    /// The fault's number and name, as `2 BadShape`.
+    /// The fault's number and name, such as `2 BadShape`.
     pub fn answer(self) -> &'static str
         ensures { result.now ≡ spec.fault_text self }
     {
@@ -127,7 +126,7 @@ impl From<AllocError> for ConfigFault {
     }
 }
 
-/// Whether the base, the name for people and the addresses are such.
+/// Whether the base, the repositoryName and the addresses are valid.
 pub(crate) fn has_shape(settings: &Settings) -> bool
     ensures shape { result ≡ spec.has_shape settings.now }
     ensures base_is_text { IsUtf8 settings.now.base }
@@ -139,7 +138,7 @@ pub(crate) fn has_shape(settings: &Settings) -> bool
         )
 }
 
-/// Whether the name for people and the addresses are such.
+/// Whether the repositoryName and the addresses are valid.
 #[tactic(auto, unfolding(crate::specs::Config::is_described))]
 fn is_described(name: &str, addresses: &[Text]) -> bool
     ensures { result ≡ rule.is_described name.now addresses.now }

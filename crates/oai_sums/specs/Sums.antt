@@ -1,5 +1,6 @@
--- How many of many items are in each set. OAI-PMH 2.0, section 2.6: an item that is in a set is in each set above it too.
-use Rattle.std.specs.Prelude.{◌≡◌, ◌≢◌, ◌==◌, ◌+◌, ℕ, Bool, true, if◌then◌else◌, List, [], ◌∷◌, length, filter, not, Option, None, Some}
+-- How many of many items are in each set. OAI-PMH 2.0, section 2.6: an item that is in a set is in each set above it
+-- too.
+use Rattle.std.specs.Prelude.{◌≡◌, ◌≢◌, ◌==◌, ◌+◌, ◌<◌, ℕ, Bool, true, if◌then◌else◌, List, [], ◌∷◌, length, take, filter, not, HoldsAt, Option, None, Some}
 use Rattle.std.specs.List.{list_all}
 use Rattle.std.specs.Str.{bytes_eq}
 use Rattle.oai_item.specs.Item.{ItemState}
@@ -25,6 +26,12 @@ counted_in set (total ∷ totals) = if bytes_eq set total.set then total.count e
 -- the set is none of these
 unfoldable pub lacks : List ℕ → List SetTotal → Bool
 lacks set totals = list_all (λ (total : SetTotal). not (bytes_eq set total.set)) totals
+
+-- the set stands at that place, and at none before it
+pub record IsFirstAt (set : List ℕ) (totals : List SetTotal) (at : ℕ) : Type 0 where
+  pub within : at < length totals
+  pub own : HoldsAt (λ (total : SetTotal). bytes_eq set total.set ≡ true) totals at
+  pub none : lacks set (take at totals) ≡ true
 
 -- each set has as many of the items as are counted in it
 abbrev pub AreCounts : List SetTotal → List ItemState → Type 0
@@ -65,7 +72,8 @@ count_at (other ∷ others) at = if other.at == at then other.count else count_a
 abbrev pub is_unsaid : List Several → ℕ → Bool
 is_unsaid several at = list_all (λ (other : Several). not (other.at == at)) several
 
--- the set at that place has so many items, each other set has as many as before, and of no other set is anything said that was not said before
+-- the set at that place has so many items, each other set has as many as before, and of no other set is anything said
+-- that was not said before
 pub record IsCounted (at count : ℕ) (old new : List Several) : Type 0 where
   pub own : count_at new at ≡ count
   pub others : (other : ℕ) → other ≢ at → count_at new other ≡ count_at old other

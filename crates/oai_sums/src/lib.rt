@@ -1,4 +1,4 @@
-//! What is known of many items at once: how many of them are in each set, and where these stand.
+//! Per-page statistics of items: how many are in each set, and where these are.
 #![tactic(auto)]
 
 mod packed_counts;

@@ -5,14 +5,14 @@ use crate::set_names::SharedSetSpec;
 use crate::spans::Span;
 use std::marker::Model;
 
-/// A set with several items: where it stands among the sets, and how many.
+/// A set with several items: its position among the sets, and how many.
 #[derive(Clone, Copy)]
 pub(crate) struct Several {
     at: u16,
     count: u32,
 }
 
-/// Puts an item behind the others, or gives None where memory is refused.
+/// Appends an item; None if memory runs out.
 pub(crate) fn push<T: Drop>(items: &mut Vec<T>, item: T) -> Option<()>
     ensures { OnSome result (items.new.items ≡ items.old.items ++ item ∷ []) }
 {
@@ -22,8 +22,8 @@ pub(crate) fn push<T: Drop>(items: &mut Vec<T>, item: T) -> Option<()>
     }
 }
 
-/// Says how many items the set at that place has, of which nothing was said; of a set of one item nothing is said. None
-/// where the place is more than 65,535, or memory is refused.
+/// Stores how many items the set at that position has, of which nothing was stored; for a set with one item nothing is.
+/// None if the position is above 65,535, or memory runs out.
 pub(crate) fn say_count(several: &mut Vec<Several>, at: usize, count: u32) -> Option<()>
     requires { is_unsaid several.old.items at ≡ true }
     ensures { OnSome result (IsCounted at count several.old.items several.new.items) }
@@ -37,14 +37,14 @@ pub(crate) fn say_count(several: &mut Vec<Several>, at: usize, count: u32) -> Op
     }
 }
 
-/// How many items are in each set, and within which bytes of the entries of all these stand, as `SetCounts` had them
-/// when they were packed. A set of one item takes 12 bytes, any other 20, without its setSpec, which counts
-/// share. Contracts see the sets with the counts and spans; a set that is not there has no items.
+/// How many items are in each set, and within which span of bytes their entries are, packed from `SetCounts`. A set
+/// with one item takes 12 bytes, any other 20, without its setSpec, which counts share. Contracts see the sets with the
+/// counts and spans; a set that is not there has no items.
 #[derive(Drop)]
 pub struct PackedCounts {
     sets: Vec<SharedSetSpec>,
     spans: Vec<Span>,
-    /// The sets that have not just one item.
+    /// The sets that do not have exactly one item.
     several: Vec<Several>,
 }
 
@@ -60,8 +60,8 @@ impl Model for PackedCounts {
 }
 
 impl PackedCounts {
-    /// The counts of these sets, with as many spans, in the same order. A set has one item where no entry of `several` has
-    /// its place.
+    /// The counts of these sets, with as many spans, in the same order. A set has one item if no entry of `several` has
+    /// its position.
     pub(crate) fn new(
         sets: Vec<SharedSetSpec>,
         spans: Vec<Span>,
@@ -89,8 +89,8 @@ impl PackedCounts {
         0
     }
 
-    /// Within which bytes of the entries the items of the set stand, as `SetCounts::add` was told; None where it has
-    /// none. Behind `SetCounts::add_all` nothing is promised.
+    /// Within which span of bytes the entries of the set's items are, as `SetCounts::add` was given it; None if it has
+    /// none. After `SetCounts::add_all` nothing is promised.
     pub fn span(&self, set: &str) -> Option<Span>
         ensures { result ≡ span_in set.now self.now }
     {
@@ -109,7 +109,7 @@ impl PackedCounts {
         self.sets.len()
     }
 
-    /// The set at that place.
+    /// The set at that position.
     pub(crate) fn set(&self, at: usize) -> &SharedSetSpec
         requires { at < length self.now }
         ensures { HoldsAt (λ total. result.now ≡ total.set) self.now at }
@@ -117,7 +117,7 @@ impl PackedCounts {
         &self.sets[at]
     }
 
-    /// How many items are in the set at that place.
+    /// How many items are in the set at that position.
     pub(crate) fn count_at(&self, at: usize) -> u32
         requires { at < length self.now }
         ensures { HoldsAt (λ total. result ≡ total.count) self.now at }
@@ -131,7 +131,7 @@ impl PackedCounts {
         1
     }
 
-    /// The span of the set at that place.
+    /// The span of the set at that position.
     fn span_at(&self, at: usize) -> Span
         requires { at < length self.now }
         ensures { HoldsAt (λ total. result ≡ total.span) self.now at }
@@ -139,7 +139,7 @@ impl PackedCounts {
         self.spans[at]
     }
 
-    /// Whether the set is none of the first so many.
+    /// Whether the set is none of the first `most`.
     pub(crate) fn lacks(&self, most: usize, set: &str) -> bool
         requires { most ≤ length self.now }
         ensures { IsTrue result → lacks set.now (take most self.now) ≡ true }

@@ -1,10 +1,10 @@
-ghost use Rattle.std.specs.Prelude.{◌≡◌, ◌+◌, ◌&&◌, if◌then◌else◌, ℕ, List, [], not, IfSome, OnSome};
+ghost use Rattle.std.specs.Prelude.{◌≡◌, ◌+◌, ◌&&◌, ◌++◌, ◌∷◌, if◌then◌else◌, ℕ, List, [], length, not, true, IfSome, MatchOption, OnSome};
 ghost use Rattle.std.specs.Str.{bytes_eq};
 ghost use Rattle.oai_item.specs.Membership.{is_in};
 ghost use Rattle.oai_names.specs.Sets.{covers};
-ghost use Rattle.oai_sums.specs.Sums.{CountsMore, SpansMore, counted_in, widened};
+ghost use Rattle.oai_sums.specs.Sums.{CountsMore, IsFirstAt, SpansMore, counted_in, lacks, totals_from, widened};
 
-use crate::packed_counts::{PackedCounts, push, say_count};
+use crate::packed_counts::{PackedCounts, Several, push, say_count};
 use crate::set_names::{SetNames, SharedSetSpec};
 use crate::spans::Span;
 use oai_item::SpelledSets;
@@ -138,19 +138,38 @@ impl SetCounts {
         ensures { OnSome result ((q : List ℕ) → counted_in q self.new
             ≡ counted_in q self.old + (if bytes_eq q set.now then more else 0)) }
     {
-        for at in 0..self.counts.len() {
-            if set.as_str() == self.counts[at].set() {
-                return self.counts[at].add(more);
+        match self.place_of(set.as_str()) {
+            Some(at) => self.counts[at].add(more),
+            None => {
+                if self.counts.len() >= MAX_COUNTED_SETS {
+                    return None;
+                }
+                self.push(set.copy()?, more, UNKNOWN)
             }
         }
-        if self.counts.len() >= MAX_COUNTED_SETS {
-            return None;
-        }
-        push(&mut self.counts, SetCount::of(set.copy()?, more, UNKNOWN))
     }
 
-    /// The same counts, as they are kept: no room is left for more sets, as far as that can be done. None where memory is
-    /// refused.
+    /// Where the set stands; None where it is not there.
+    fn place_of(&self, set: &str) -> Option<usize>
+        ensures { MatchOption result (lacks set.now self.now ≡ true) (IsFirstAt set.now self.now) }
+    {
+        for at in 0..self.counts.len() {
+            if set == self.counts[at].set() {
+                return Some(at);
+            }
+        }
+        None
+    }
+
+    /// Puts a set with so many items, which stand there, behind the others. None where memory is refused.
+    fn push(&mut self, set: SharedSetSpec, count: u32, span: Span) -> Option<()>
+        ensures { OnSome result (self.new ≡ self.old ++ record { set = set; count = count; span = span } ∷ []) }
+    {
+        push(&mut self.counts, SetCount::of(set, count, span))
+    }
+
+    /// The same counts, as they are kept: no room is left for more sets, as far as that can be done. None where memory
+    /// is refused.
     pub fn packed(&self, alloc: Global) -> Option<PackedCounts>
         ensures { IfSome result (λ packed. packed ≡ self.now) }
     {
@@ -162,14 +181,33 @@ impl SetCounts {
             return None;
         };
         let mut several = Vec::new(alloc);
-        for at in 0..len {
-            let count = &self.counts[at];
-            push(&mut sets, count.set.copy()?)?;
-            push(&mut spans, count.span)?;
-            say_count(&mut several, at, count.count)?;
-        }
+        self.pack(&mut sets, &mut spans, &mut several)?;
         several.shrink_to_fit();
         Some(PackedCounts::new(sets, spans, several))
+    }
+
+    /// Puts the sets and their spans, in the same order, and how many items the sets have that have not just one into these.
+    /// None where memory is refused.
+    fn pack(
+        &self,
+        sets: &mut Vec<SharedSetSpec>,
+        spans: &mut Vec<Span>,
+        several: &mut Vec<Several>,
+    ) -> Option<()>
+        requires sets { sets.old.items ≡ [] }
+        requires spans { spans.old.items ≡ [] }
+        requires several { several.old.items ≡ [] }
+        ensures many { OnSome result (length spans.new.items ≡ length sets.new.items) }
+        ensures totals { OnSome result (totals_from 0 sets.new.items spans.new.items several.new.items ≡ self.now) }
+    {
+        let len = self.counts.len();
+        for at in 0..len {
+            let count = &self.counts[at];
+            push(sets, count.set.copy()?)?;
+            push(spans, count.span)?;
+            say_count(several, at, count.count)?;
+        }
+        Some(())
     }
 
     /// Counts an item, which stands there, in the set and in those above it, but in none in which one of the other
@@ -215,15 +253,15 @@ impl SetCounts {
         ensures counts { OnSome result (CountsMore (λ q. bytes_eq q set.now) self.old self.new) }
         ensures spans { OnSome result (SpansMore (λ q. bytes_eq q set.now) span self.old self.new) }
     {
-        for at in 0..self.counts.len() {
-            if set == self.counts[at].set() {
-                return self.counts[at].add_one(span);
+        match self.place_of(set) {
+            Some(at) => self.counts[at].add_one(span),
+            None => {
+                if self.counts.len() >= MAX_COUNTED_SETS {
+                    return None;
+                }
+                self.push(names.name(set)?, 1, span)
             }
         }
-        if self.counts.len() >= MAX_COUNTED_SETS {
-            return None;
-        }
-        push(&mut self.counts, SetCount::of(names.name(set)?, 1, span))
     }
 }
 

@@ -5,7 +5,7 @@ use std::alloc::Global;
 use std::marker::Model;
 use std::rc::Rc;
 
-/// A setSpec that counts speak of. Its copies have one text in common.
+/// A setSpec that counts refer to. Its copies share one text.
 #[derive(Drop)]
 pub(crate) struct SharedSetSpec {
     text: Rc<Text>,
@@ -20,7 +20,7 @@ impl Model for SharedSetSpec {
 }
 
 impl SharedSetSpec {
-    /// The setSpec, as the first of its copies, or None where memory is refused.
+    /// The setSpec, as the first of its copies; None if memory runs out.
     fn new(alloc: Global, set: &str) -> Option<SharedSetSpec>
         ensures { IfSome result (λ name. name ≡ set.now) }
     {
@@ -40,7 +40,7 @@ impl SharedSetSpec {
         self.text.as_str()
     }
 
-    /// A copy of the setSpec, which is counted, or None where no more copies can be counted.
+    /// A copy of the setSpec, reference-counted; None if the count overflows.
     pub(crate) fn copy(&self) -> Option<SharedSetSpec>
         ensures { IfSome result (λ copy. copy ≡ self.now) }
     {
@@ -51,16 +51,16 @@ impl SharedSetSpec {
     }
 }
 
-/// The setSpecs of the sets that items were counted in, each once: all counts of a set have its setSpec in common.
+/// The setSpecs of the sets in which items were counted, each once: all counts of a set share its setSpec.
 #[derive(Drop)]
 pub struct SetNames {
     alloc: Global,
-    /// In the order of their bytes.
+    /// Sorted by their bytes.
     names: Vec<SharedSetSpec>,
 }
 
 impl SetNames {
-    /// No setSpecs. It takes no memory.
+    /// No setSpecs. Allocates nothing.
     pub fn new(alloc: Global) -> SetNames {
         SetNames {
             alloc,
@@ -68,7 +68,7 @@ impl SetNames {
         }
     }
 
-    /// The one copy of the setSpec, which is made where there is none; None where memory is refused.
+    /// The shared copy of the setSpec, which is made if there is none; None if memory runs out.
     pub(crate) fn name(&mut self, set: &str) -> Option<SharedSetSpec>
         ensures { IfSome result (λ name. name ≡ set.now) }
     {
@@ -86,7 +86,7 @@ impl SetNames {
         }
     }
 
-    /// Where the setSpec is, or would stand.
+    /// The position of the setSpec, or where it would be inserted; by binary search.
     fn place_of(&self, set: &str) -> usize
         ensures { result ≤ vec_len self.now.names }
     {

@@ -1,10 +1,10 @@
-//! Where some of many items stand.
+//! Where some of many items are.
 
-/// A span of the bytes of entries that follow one another.
+/// A span of the bytes of consecutive entries.
 #[derive(Clone, Copy, Debug, PartialEq, Eq)]
 pub struct Span {
-    /// How many bytes stand before it.
+    /// The offset of its first byte.
     pub from: u16,
-    /// How many bytes stand before its end.
+    /// The offset of the byte after its last.
     pub to: u16,
 }

@@ -10,11 +10,11 @@ use Rattle.oai_time.specs.declared.bound.Bound.TheVariants.{Day as WholeDay, Sec
 use Rattle.oai_time.specs.Stamp.{IsWritable, stamp_of}
 use Rattle.oai_time.specs.TimeTexts.{date_text, day_text, second_text}
 
--- the second in which a day begins
+-- the second is the first of a day
 abbrev pub IsMidnight : ℤ → Type 0
 IsMidnight seconds = IsWritable seconds × (stamp_of Day seconds ≡ seconds)
 
--- a day is held by its midnight, and both kinds are of the years 0000 to 9999
+-- a day is represented by its midnight, and both kinds lie in the years 0000 to 9999
 abbrev pub IsWritableBound : Bound → Type 0
 IsWritableBound (WholeDay midnight) = IsMidnight midnight
 IsWritableBound (OneSecond second) = IsWritable second
@@ -24,7 +24,7 @@ abbrev pub bound_text : Bound → List ℕ
 bound_text (WholeDay midnight) = day_text midnight
 bound_text (OneSecond second) = second_text second
 
--- the text stands for the bound: it is what is written for it, and nothing else is
+-- the text stands for the bound: it is the bound's text, and no other text is
 pub record IsBound (text : List ℕ) (bound : Bound) : Type 0 where
   pub in_range : IsWritableBound bound
   pub written : text ≡ bound_text bound
@@ -39,13 +39,14 @@ abbrev pub upper_of : Bound → ℤ
 upper_of (WholeDay midnight) = midnight +ℤ pos 86_399
 upper_of (OneSecond second) = second
 
--- a bound is no finer than the granularity: a repository of days has no seconds to compare
+-- a bound is no finer than the granularity: the datestamps of a repository of days cannot be compared with seconds
 abbrev pub is_no_finer_than : Bound → Granularity → Bool
 is_no_finer_than (WholeDay midnight) granularity = true
 is_no_finer_than (OneSecond second) Second = true
 is_no_finer_than (OneSecond second) Day = false
 
--- the law of the calendar: the date of each year from 0000 to 9999, month from 1 to 12, and day up to the month's last is the text of a day
+-- the law of the calendar: the date of each year from 0000 to 9999, month from 1 to 12, and day up to the month's last
+-- is the text of a day
 abbrev pub HasEachDate : Type 0
 HasEachDate = (year month day : ℕ)
     → year < 10_000 → IsInRange 1 12 month → IsInRange 1 (days_in_month (pos year) month) day
@@ -54,28 +55,28 @@ HasEachDate = (year month day : ℕ)
 
 -- ---- the bound of a text, as a function
 
--- the greatest number below n that passes, if there is one
+-- the greatest number below n that passes the test, if there is one
 unfoldable pub last_below : (ℕ → Bool) → ℕ → Option ℕ
 last_below passes zero = None
 last_below passes (suc n) = if passes n then Some n else last_below passes n
 
--- the second that lies so many after 0000-01-01T00:00:00Z
+-- the second that many seconds after 0000-01-01T00:00:00Z
 abbrev pub second_after : ℕ → ℤ
 second_after n = pos n -ℤ pos 62_167_219_200
 
--- the midnight that begins the day that lies so many after 0000-01-01
+-- the midnight that begins the day that many days after 0000-01-01
 abbrev pub midnight_of : ℕ → ℤ
 midnight_of n = second_after (86_400 * n)
 
--- the day of the years 0000 to 9999 whose text it is
+-- the day of the years 0000 to 9999 with this text
 unfoldable pub day_of : List ℕ → Option ℕ
 day_of text = last_below (λ n. bytes_eq text (day_text (midnight_of n))) 3_652_425
 
--- the second of the years 0000 to 9999 whose text it is
+-- the second of the years 0000 to 9999 with this text
 unfoldable pub second_of : List ℕ → Option ℕ
 second_of text = last_below (λ n. bytes_eq text (second_text (second_after n))) 315_569_520_000
 
--- the bound that the text stands for, of all that there are
+-- the bound with this text, if there is one
 unfoldable pub bound_of : List ℕ → Option Bound
 bound_of text =
     option_or (option_map (λ n. WholeDay (midnight_of n)) (day_of text))

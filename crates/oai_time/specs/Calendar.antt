@@ -15,7 +15,7 @@ next_day d =
     else (if nat_lt d.month 12 then record { year = d.year; month = d.month + 1; day = 1 }
     else record { year = d.year + 1; month = 1; day = 1 })
 
--- the day that lies that many days after 0000-01-01
+-- the day that many days after 0000-01-01
 unfoldable pub calendar_day : ℕ → CalendarDay
 calendar_day zero = record { year = 0; month = 1; day = 1 }
 calendar_day (suc n) = next_day (calendar_day n)

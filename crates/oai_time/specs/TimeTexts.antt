@@ -29,15 +29,15 @@ time_text s =
 abbrev pub seconds_of_era : ℤ → ℕ
 seconds_of_era seconds = unsigned_abs (seconds +ℤ pos 62_167_219_200)
 
--- the day in which the seconds lie
+-- the day that contains the seconds
 unfoldable pub day_text : ℤ → List ℕ
 day_text seconds = date_text (calendar_day (seconds_of_era seconds / 86_400))
 
--- and the day with the time
+-- the day and the time
 unfoldable pub second_text : ℤ → List ℕ
 second_text seconds = day_text seconds ++ time_text (seconds_of_era seconds % 86_400)
 
--- a datestamp, in a repository of the granularity (section 2.7.1)
+-- a datestamp at the granularity (section 2.7.1)
 abbrev pub datestamp_text : Granularity → ℤ → List ℕ
 datestamp_text Day seconds = day_text seconds
 datestamp_text Second seconds = second_text seconds

@@ -20,14 +20,14 @@ pub enum Bound {
     Second(i64),
 }
 
-/// The text is neither `YYYY-MM-DD` nor `YYYY-MM-DDThh:mm:ssZ` of a date and a time that there are.
+/// The text is neither `YYYY-MM-DD` nor `YYYY-MM-DDThh:mm:ssZ` of a date and a time that exist.
 #[derive(Clone, Copy, Debug, PartialEq, Eq, Error)]
 #[error("not a date of the form YYYY-MM-DD or YYYY-MM-DDThh:mm:ssZ")]
 pub struct BadDate;
 
-/// The bound that the text stands for. It is `YYYY-MM-DD` or `YYYY-MM-DDThh:mm:ssZ` (OAI-PMH 2.0, 3.3
-/// "UTCdatetime"), with ASCII digits and upper case letters, of a date of the years 0000 to 9999 that
-/// the Gregorian calendar has, and of a time from 00:00:00 to 23:59:59. Any other text is refused.
+/// The bound that the text stands for: `YYYY-MM-DD` or `YYYY-MM-DDThh:mm:ssZ` (OAI-PMH 2.0, 3.3 "UTCdatetime"), with
+/// ASCII digits and upper case letters, of a date of the Gregorian calendar in the years 0000 to 9999, and of a time
+/// from 00:00:00 to 23:59:59. The error is `BadDate` for any other text.
 #[tactic(auto, using(crate::proofs::ReadingLemmas::bound_of_read))]
 pub fn read_bound(text: &str) -> Result<Bound, BadDate>
     ensures found { IfOk result (IsBound text.now) }
@@ -38,7 +38,7 @@ pub fn read_bound(text: &str) -> Result<Bound, BadDate>
     bound_written(text.as_bytes())
 }
 
-/// The bound whose text it is.
+/// The bound with this text.
 fn bound_written(text: &[u8]) -> Result<Bound, BadDate>
     ensures found { IfOk result (IsBound text.now) }
     ensures only { (bound : Bound) → IsBound text.now bound → result ≡ Ok bound }
@@ -50,7 +50,7 @@ fn bound_written(text: &[u8]) -> Result<Bound, BadDate>
     }
 }
 
-/// The first second of a bound: the midnight of a day, or the second itself.
+/// The first second of a bound: the midnight that begins a day, or the second itself.
 pub fn lower(bound: Bound) -> i64
     requires { IsWritableBound bound }
     ensures value { result ≡ lower_of bound }
@@ -62,7 +62,7 @@ pub fn lower(bound: Bound) -> i64
     }
 }
 
-/// The last second of a bound: of a day 23:59:59, or the second itself.
+/// The last second of a bound: 23:59:59 of a day, or the second itself.
 pub fn upper(bound: Bound) -> i64
     requires { IsWritableBound bound }
     ensures value { result ≡ upper_of bound }
@@ -74,8 +74,8 @@ pub fn upper(bound: Bound) -> i64
     }
 }
 
-/// Whether the bound is no finer than the granularity: a repository of days has no seconds to
-/// compare with a bound of seconds (OAI-PMH 2.0, section 2.7.1).
+/// Whether the bound is no finer than the granularity: the datestamps of a repository of days cannot be compared with a
+/// bound of seconds (OAI-PMH 2.0, section 2.7.1).
 pub fn is_no_finer_than(bound: Bound, granularity: Granularity) -> bool
     ensures { result ≡ is_no_finer_than bound granularity }
 {
@@ -86,10 +86,9 @@ pub fn is_no_finer_than(bound: Bound, granularity: Granularity) -> bool
     }
 }
 
-/// The law of the calendar: each date of a year from 0000 to 9999, a month from 1 to 12, and a day
-/// from 1 to the month's last is the text of a day; and the numbers of the definitions are the seconds
-/// that they are written as, of which 1970-01-01T00:00:00Z is the 0th. A theorem, proved by an empty
-/// function.
+/// Each date of the calendar is the text of a day. That is each date of a year from 0000 to 9999, a month from 1 to 12,
+/// and a day from 1 to the month's last; and the numbers of the definitions are the seconds that their comments say, 0
+/// being 1970-01-01T00:00:00Z. A theorem, proved by an empty function.
 pub fn calendar_law()
     ensures dates { HasEachDate }
     ensures epoch { second_text (pos 0) ≡ codes "1970-01-01T00:00:00Z" }
@@ -98,7 +97,7 @@ pub fn calendar_law()
     ensures last_tick { second_text (pos 253_370_764_799) ≡ codes "9998-12-31T23:59:59Z" }
 {}
 
-/// Whether the text is what is written for the bound.
+/// Whether the text is the bound's.
 fn is_written(bound: Bound, text: &[u8]) -> bool
     requires { IsWritableBound bound }
     ensures { IsTrue result ↔ IsBound text.now bound }
@@ -109,8 +108,8 @@ fn is_written(bound: Bound, text: &[u8]) -> bool
     }
 }
 
-/// The only bound that the text can stand for, if there is one. The digits are taken from their places
-/// and nothing else is looked at: whether the text is of the form is seen by writing the bound again.
+/// The only bound that the text can stand for, if there is one. It takes the digits from their positions and tests
+/// nothing else: the caller writes the bound and compares.
 fn candidate(text: &[u8]) -> Option<Bound>
     ensures in_range { IfSome result IsWritableBound }
     ensures only { (bound : Bound) → IsBound text.now bound → result ≡ Some bound }
@@ -148,7 +147,7 @@ fn day_number(text: &[u8]) -> Option<u64>
     day_of_calendar(year, month, day)
 }
 
-/// The number of the day that has this place in the calendar, if there is one.
+/// The number of the day with this date, if the calendar has it.
 fn day_of_calendar(year: u64, month: u64, day: u64) -> Option<u64>
     requires year_in { year < 10_000 }
     requires month_in { month < 100 }
@@ -175,7 +174,7 @@ fn second_of_day(text: &[u8]) -> u64
     (3600 * hour + 60 * minute + second) % 86_400
 }
 
-/// The number that two digits write. Of other bytes it is some number below 100.
+/// The number that two digits write; for other bytes, some number below 100.
 fn two_digits(tens: u8, ones: u8) -> u64
     ensures value { result ≡ 10 * min (tens - 48) 9 + min (ones - 48) 9 }
     ensures in_range { result < 100 }
@@ -183,7 +182,7 @@ fn two_digits(tens: u8, ones: u8) -> u64
     10 * digit_value(tens) + digit_value(ones)
 }
 
-/// The value of a digit. Of another byte it is some number below 10.
+/// The value of a digit; for another byte, some number below 10.
 fn digit_value(byte: u8) -> u64
     ensures { result ≡ min (byte - 48) 9 }
 {

@@ -4,12 +4,11 @@ ghost use Rattle.oai_time.specs.Stamp.{IsWritable};
 
 use std::marker::Model;
 
-/// The last second that a clock is moved to: 9998-12-31T23:59:59Z, in seconds from 1970 on.
+/// The last second that a clock shows: 9998-12-31T23:59:59Z, in seconds from 1970 on.
 pub const LAST_TICK: i64 = 253_370_764_799;
 
-/// A clock of whole seconds that never goes back and, where it starts no later than
-/// 9998-12-31T23:59:59Z, never passes that second, whatever moments come. What is added to it
-/// for an end, up to a year, then still has a date of four digits.
+/// A clock of whole seconds that never goes back. If it starts no later than 9998-12-31T23:59:59Z, it never passes that
+/// second, whatever the moments: an expiration up to a year later still has a year of four digits.
 #[derive(Clone, Copy, Debug, PartialEq, Eq)]
 pub struct Clock(i64);
 
@@ -29,8 +28,8 @@ impl Clock {
         Clock(seconds)
     }
 
-    /// Moves the clock up to `moment`, or to the last second of the year 9998 where that is earlier.
-    /// A clock that is there already stays as it is.
+    /// Moves the clock forward to `moment`, or to the last second of the year 9998 if that is earlier. A clock that is
+    /// already there stays.
     pub fn tick(&mut self, moment: i64)
         ensures moved { self.new ≡ tick self.old moment }
         ensures never_back { self.old ≤ℤ self.new }

@@ -11,9 +11,9 @@ use std::marker::Model;
 /// Contracts see its bytes.
 #[derive(Debug, Drop)]
 pub struct Datestamp {
-    /// The text of the second, in front of which its day stands.
+    /// The text of the second, which begins with that of its day.
     second: [u8; 20],
-    /// How many bytes of it are the datestamp's.
+    /// The number of bytes of it that are the datestamp.
     len: usize,
 }
 
@@ -28,7 +28,7 @@ impl Model for Datestamp {
 }
 
 impl Datestamp {
-    /// The bytes of the text, all of them ASCII. It takes no memory.
+    /// The bytes of the text, all of them ASCII. Allocates nothing.
     pub fn as_bytes(&self) -> &[u8]
         ensures text { result.now ≡ self.now }
         ensures short { length self.now ≤ 20 }
@@ -37,8 +37,7 @@ impl Datestamp {
     }
 }
 
-/// The datestamp of `seconds` in a repository of the granularity. The seconds are of the years 0000
-/// to 9999. It takes no memory.
+/// The datestamp of `seconds` at the granularity. The seconds lie in the years 0000 to 9999. Allocates nothing.
 #[tactic(auto, using(crate::proofs::BoundLemmas::day_in_second, crate::proofs::BoundLemmas::whole_second))]
 pub fn write_datestamp(granularity: Granularity, seconds: i64) -> Datestamp
     requires { IsWritable seconds }

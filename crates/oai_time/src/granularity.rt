@@ -10,8 +10,8 @@ pub enum Granularity {
     Second,
 }
 
-/// The datestamp, in seconds, that a change at `seconds` gets: the seconds themselves, or the
-/// midnight that begins their day. The seconds are of the years 0000 to 9999, and so is the result.
+/// The datestamp, in seconds, of a change at `seconds`: the seconds themselves, or the midnight that begins their day.
+/// The seconds lie in the years 0000 to 9999, and so does the result.
 pub fn stamp(granularity: Granularity, seconds: i64) -> i64
     requires { IsWritable seconds }
     ensures value { result ≡ stamp_of granularity seconds }

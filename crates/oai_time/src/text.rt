@@ -15,8 +15,8 @@ pub const FIRST_SECOND: i64 = -62_167_219_200;
 /// The last second that has a datestamp: 9999-12-31T23:59:59Z, in seconds from 1970 on.
 pub const LAST_SECOND: i64 = 253_402_300_799;
 
-/// The text `YYYY-MM-DD` of the day in which `seconds` lie (OAI-PMH 2.0, 3.3 "UTCdatetime"). The
-/// seconds are of the years 0000 to 9999.
+/// The text `YYYY-MM-DD` of the day that contains `seconds` (OAI-PMH 2.0, 3.3 "UTCdatetime"). The seconds lie in the
+/// years 0000 to 9999.
 #[tactic(auto, unfolding(crate::specs::TimeTexts::day_text, crate::specs::TimeTexts::date_text))]
 pub fn write_day(seconds: i64) -> [u8; 10]
     requires { IsWritable seconds }
@@ -39,8 +39,8 @@ pub fn write_day(seconds: i64) -> [u8; 10]
     ]
 }
 
-/// The text `YYYY-MM-DDThh:mm:ssZ` of `seconds` (OAI-PMH 2.0, 3.3 "UTCdatetime"). The seconds are of
-/// the years 0000 to 9999.
+/// The text `YYYY-MM-DDThh:mm:ssZ` of `seconds` (OAI-PMH 2.0, 3.3 "UTCdatetime"). The seconds lie in the years 0000 to
+/// 9999.
 pub fn write_second(seconds: i64) -> [u8; 20]
     requires { IsWritable seconds }
     ensures text { result ≡ second_text seconds }
@@ -74,7 +74,7 @@ fn write_time(seconds: i64) -> [u8; 10]
     ]
 }
 
-/// The decimal digit at the place 1, 10, 100 or 1000, in ASCII.
+/// The decimal digit of the number at the place 1, 10, 100 or 1000, in ASCII.
 fn digit(place: u64, number: u64) -> u8
     requires { 0 < place }
     ensures { result ≡ digit place number }
@@ -82,7 +82,7 @@ fn digit(place: u64, number: u64) -> u8
     b'0' + (number / place % 10) as u8
 }
 
-/// The date that lies that many days after 0000-01-01.
+/// The date that many days after 0000-01-01.
 fn date_after(days: u64) -> Date
     requires { days < 3_652_425 }
     ensures year { result.year ≡ pos (calendar_day days).year }

@@ -3,30 +3,30 @@
 
 ghost use Rattle.std.specs.Prelude.{◌≡◌, IfOk};
 ghost use Rattle.std.specs.Process.{exit_status};
-ghost use Rattle.oai_cli.specs.Stops as spec;
+ghost use Rattle.oai_startup.specs.Stops as spec;
 
-use oai_cli::{
-    MAX_CONNECTIONS, Stop, ask_lines, check_config, empty_file, host_on, read_config, read_file,
-    read_number, serve_port, trace_lines, warnings_in,
-};
+use oai_cli::{MAX_CONNECTIONS, ask_lines, serve_port, trace_lines};
 use oai_device::{FileDevice, MemoryDevice};
 use oai_front::Front;
+use oai_startup::{
+    Stop, check_config, empty_file, host_on, read_config, read_file, read_number, warnings_in,
+};
 use std::env;
 use std::fs::File;
 use std::io::{self, BufWriter};
 use std::process::ExitCode;
 use std::rt::{Clock, Env, Files, Net};
 
-/// What the program is called for, with the path of a configuration.
+/// The program's commands, with the path of a configuration.
 #[derive(Drop)]
 enum Command {
-    /// To say whether the configuration is right.
+    /// Checks whether the configuration is valid.
     Check(String),
-    /// To perform the exchanges of standard input on the repositories of the configuration.
+    /// Performs the exchanges of standard input on the repositories of the configuration.
     Ask(String),
-    /// To perform the lines of standard input, each a piece or the end of a connection.
+    /// Performs the lines of standard input, each a piece or the end of a connection.
     Trace(String),
-    /// To serve so many connections on a port of 127.0.0.1, with the pages in the file of the second path.
+    /// Serves that many connections on a port of 127.0.0.1, with the pages in the file at the second path.
     Serve(String, u16, String, u64),
 }
 
@@ -46,7 +46,7 @@ fn main(rt: HostRuntime) -> io::Result<ExitCode> {
     }
 }
 
-/// What the arguments call for.
+/// The command of the arguments.
 fn called_for(rt: &(impl Env + AllocGlobal)) -> Result<Command, Stop> {
     let Ok(mut arguments) = env::args(rt) else {
         return Err(Stop::NoMemory);
@@ -73,7 +73,7 @@ fn called_for(rt: &(impl Env + AllocGlobal)) -> Result<Command, Stop> {
     }
 }
 
-/// The command to serve, with that port, that file and so many connections.
+/// The command to serve, with that port, that file and that many connections.
 fn to_serve(
     word: &str,
     path: String,
@@ -89,12 +89,12 @@ fn to_serve(
     }
 }
 
-/// Reads a port: decimal digits alone, below 65,536.
+/// Parses a port: decimal digits alone, below 65,536.
 fn read_port(text: &[u8]) -> Option<u16> {
     u16::try_from(read_number(text)?).ok()
 }
 
-/// The command of that name.
+/// The command with that name.
 fn command_named(word: &str, path: String) -> Result<Command, Stop> {
     match word {
         "check" => Ok(Command::Check(path)),
@@ -104,8 +104,8 @@ fn command_named(word: &str, path: String) -> Result<Command, Stop> {
     }
 }
 
-/// Writes how many repositories the configuration has, and says on standard error what of it makes documents invalid
-/// or is of no use to a harvester. A warning that cannot be written ends nothing.
+/// Writes how many repositories the configuration has, and its warnings on standard error: what makes documents
+/// invalid, or is of no use to a harvester. A warning that cannot be written ends nothing.
 fn run_check(rt: &(impl Files + Print + Eprint + AllocGlobal), path: &str) -> Result<(), Stop> {
     let text = read_file(rt, path)?;
     check_config(rt.alloc(), &text, &mut io::writer(rt))?;
@@ -139,8 +139,8 @@ fn run_trace(rt: &(impl Files + Input + Print + AllocGlobal), path: &str) -> Res
     trace_lines(alloc, &mut front, &mut rt.reader(), &mut writer)
 }
 
-/// Serves so many connections to the repositories of the configuration, one after the other, with the pages
-/// in the file `spill`, which is created or emptied once the configuration is read.
+/// Serves that many connections to the repositories of the configuration, one after the other, with the pages in the
+/// file `spill`, which is created or truncated once the configuration is read.
 fn run_serve(
     rt: &(impl Files<File = File> + Net + Clock + Print + AllocGlobal),
     path: &str,
@@ -156,7 +156,7 @@ fn run_serve(
     serve_port(rt, &mut front, port, connections)
 }
 
-/// Says on standard error why the program stopped.
+/// Writes to standard error why the program stopped.
 fn stopped(rt: &impl Eprint, stop: Stop) -> io::Result<ExitCode>
     ensures { IfOk result (λ code. exit_status code ≡ spec.status_of stop) }
 {

@@ -1,4 +1,4 @@
-//! `oaihostd`: a data provider for OAI-PMH 2.0 that hosts many repositories and keeps what it acknowledged.
+//! `oaihostd`: a data provider for OAI-PMH 2.0 that hosts many repositories; its acknowledged writes are durable.
 #![tactic(auto)]
 
 ghost use Rattle.std.specs.Prelude.{◌≡◌, IfOk};
@@ -6,24 +6,24 @@ ghost use Rattle.std.specs.Process.{exit_status};
 ghost use Rattle.oai_archive.specs.Stops as spec;
 
 use oai_archive::{ReadFile, Stop, dump_repository, verify_journal};
-use oai_cli::{Stop as Other, read_file, read_number};
 use oai_daemon::{HostPlace, checkpoint_folder, serve};
+use oai_startup::{Stop as Other, read_file, read_number};
 use std::env;
 use std::fs::File;
 use std::io::{self, BufWriter, ErrorKind};
 use std::process::ExitCode;
 use std::rt::{Env, Files};
 
-/// What the program is called for.
+/// The program's commands.
 #[derive(Drop)]
 enum Command {
-    /// To serve the configuration in a file on a port of 127.0.0.1, with the journal in a folder.
+    /// Serves the configuration in a file on a port of 127.0.0.1, with the journal in a folder.
     Serve(String, u16, String),
-    /// To read the journal in a folder to its end.
+    /// Reads the journal in a folder to its end.
     Verify(String),
-    /// To write what the repository of a name holds, by the journal in a folder, as deposit lines.
+    /// Writes what the repository with a name holds, by the journal in a folder, as deposit lines.
     Dump(String, String),
-    /// To replace the journal in a folder by a checkpoint, with the configuration in a file.
+    /// Replaces the journal in a folder by a checkpoint, with the configuration in a file.
     Checkpoint(String, String),
 }
 
@@ -45,7 +45,7 @@ fn main(rt: HostRuntime) -> ExitCode {
     }
 }
 
-/// What the arguments call for.
+/// The command of the arguments.
 fn called_for(rt: &(impl Env + AllocGlobal)) -> Result<Command, Stop> {
     let Ok(mut arguments) = env::args(rt) else {
         return Err(Stop::Common(Other::NoMemory));
@@ -74,7 +74,7 @@ fn to_serve(word: &str, path: String, port: &[u8], folder: String) -> Result<Com
     }
 }
 
-/// The command to write what a repository holds, or to replace a journal by a checkpoint.
+/// The command to dump a repository, or to replace a journal by a checkpoint.
 fn of_two(word: &str, first: String, second: String) -> Result<Command, Stop> {
     match word {
         "dump" => Ok(Command::Dump(first, second)),
@@ -91,15 +91,17 @@ fn to_verify(word: &str, folder: String) -> Result<Command, Stop> {
     }
 }
 
-/// Reads a port: decimal digits alone, below 65,536.
+/// Parses a port: decimal digits alone, below 65,536.
 fn read_port(text: &[u8]) -> Option<u16> {
     u16::try_from(read_number(text)?).ok()
 }
 
 /// Serves the configuration in the file on the port, with the journal in the folder.
-fn run_serve(rt: &HostRuntime, path: &str, port: u16, folder: &str) -> Result<(), Stop> {
+fn run_serve<'a>(rt: &'a HostRuntime, path: &str, port: u16, folder: &'a str) -> Result<(), Stop> {
     let text = read_file(rt, path)?;
-    serve(rt.alloc(), &mut HostPlace::new(rt, folder, port), rt, &text)?
+    let mut place = HostPlace::new(rt, folder, port);
+    let ended = serve(rt.alloc(), &mut place, rt, &text)?;
+    ended.outcome()
 }
 
 /// Reads the journal in the folder, and writes how many records and bytes it has.
@@ -111,7 +113,7 @@ fn run_verify(
     verify_journal(rt.alloc(), journal, &mut io::writer(rt))
 }
 
-/// Writes what the repository of that name holds, by the journal in the folder.
+/// Writes what the repository with that name holds, by the journal in the folder.
 fn run_dump(
     rt: &(impl Files<File = File> + Print + AllocGlobal),
     folder: &str,
@@ -124,7 +126,7 @@ fn run_dump(
     dump_repository(rt.alloc(), journal, name, &mut writer)
 }
 
-/// The journal in the folder, to be read.
+/// The journal in the folder, opened for reading.
 fn open_to_read(
     rt: &(impl Files<File = File> + AllocGlobal),
     folder: &str,
@@ -144,7 +146,7 @@ fn run_checkpoint(rt: &HostRuntime, path: &str, folder: &str) -> Result<(), Stop
     checkpoint_folder(rt.alloc(), &mut place, rt, &text, &mut io::writer(rt))
 }
 
-/// Writes to standard error why the program stopped. Where that cannot be written its status still shows it.
+/// Writes to standard error why the program stopped. If that fails, its status still shows it.
 fn stopped(rt: &impl Eprint, stop: Stop) -> ExitCode
     ensures { exit_status result ≡ spec.status_of stop }
 {

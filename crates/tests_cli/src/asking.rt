@@ -1,9 +1,10 @@
 //! Lines that are performed on a new host, and what is written for them.
 use crate::assertions::assert_same_at;
 use oai_catalogue::PlainVersions;
-use oai_cli::{Stop, ask_lines, config_in, host_on, host_over};
+use oai_cli::ask_lines;
 use oai_device::MemoryDevice;
 use oai_host::Config;
+use oai_startup::{Stop, config_in, host_on, host_over};
 use std::alloc::Global;
 use std::io::{Read, Write};
 use std::panic::Expect;

@@ -2,7 +2,7 @@
 use crate::assertions::{assert_same, assert_shown};
 use crate::failing_streams::FailingWriter;
 use crate::inputs::CountingWriter;
-use oai_cli::{Stop, check_config};
+use oai_startup::{Stop, check_config};
 use std::alloc::Global;
 use std::panic::Expect;
 use std::process::Abort;

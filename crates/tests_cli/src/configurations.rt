@@ -1,6 +1,6 @@
 //! The configuration in a file.
 use crate::assertions::assert_same;
-use oai_cli::{Stop, read_config};
+use oai_startup::{Stop, read_config};
 use std::alloc::Global;
 use std::fs;
 use std::panic::Expect;

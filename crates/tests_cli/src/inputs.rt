@@ -2,9 +2,10 @@
 //! where it, the output or memory fails.
 use crate::asking::{assert_asked, performed, stop_of, written};
 use crate::assertions::{assert_same, assert_same_at, assert_shown};
-use oai_cli::{Stop, write_answer};
+use oai_cli::write_answer;
 use oai_host::{Answer, ReadFault, Status};
 use oai_names::Sequence;
+use oai_startup::Stop;
 use std::alloc::Global;
 use std::io::{self, ErrorKind, Read, Write};
 use std::panic::Expect;

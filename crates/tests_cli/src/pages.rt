@@ -2,10 +2,11 @@
 //! cuts it, or writes over a page.
 use crate::asking::config;
 use crate::assertions::{assert_same, assert_same_at, assert_shown};
-use oai_cli::{Stop, ask_lines, empty_file, host_on, read_file};
+use oai_cli::ask_lines;
 use oai_device::{FileDevice, PAGE_BYTES};
 use oai_host::Host;
 use oai_paged::PagedVersions;
+use oai_startup::{Stop, empty_file, host_on, read_file};
 use std::alloc::Global;
 use std::fs::{self, File, OpenOptions};
 use std::io::{Seek, SeekFrom, Write};

@@ -7,11 +7,12 @@ use crate::trace_lines::{
     answer_with, but_the_last, later_set_answer, not_found, set_again_answer, set_answer,
     set_message,
 };
-use oai_cli::{StreamFault, host_on, serve_stream};
+use oai_cli::{StreamFault, serve_stream};
 use oai_device::MemoryDevice;
 use oai_front::{ConnId, Front};
 use oai_host::Host;
 use oai_paged::PagedVersions;
+use oai_startup::host_on;
 use std::alloc::Global;
 use std::cell::Cell;
 use std::io::{self, ErrorKind, Read, Write};

@@ -2,7 +2,7 @@
 use crate::asking::{performed, stop_of};
 use crate::assertions::{assert_same, assert_same_at};
 use crate::failing_streams::{FailingReader, FailingWriter};
-use oai_cli::Stop;
+use oai_startup::Stop;
 use std::alloc::Global;
 use std::panic::Expect;
 use std::process::Abort;

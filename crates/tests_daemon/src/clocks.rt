@@ -1,7 +1,6 @@
 //! Clocks in memory, and what a server does whose clock jumps.
-use crate::places::{MemoryPlace, configuration};
+use crate::places::{MemoryPlace, configuration, served};
 use oai_archive::Stop;
-use oai_daemon::serve;
 use std::alloc::Global;
 use std::cell::Cell;
 use std::io;
@@ -56,7 +55,7 @@ fn clock_jumps(rt: HostRuntime) {
     };
     let mut place = MemoryPlace::new(rt.alloc(), 100).expect(&rt, "place");
     place.rounds = 10;
-    let ended = serve(rt.alloc(), &mut place, &clock, configuration());
+    let ended = served(&mut place, &clock, configuration());
     assert_eq!(&rt; ended, Ok(Err(Stop::Jumped(1_704_240_002))));
 }
 
@@ -69,16 +68,22 @@ fn clock_gains_a_day(rt: HostRuntime) {
     };
     let mut place = MemoryPlace::new(rt.alloc(), 100).expect(&rt, "place");
     place.rounds = 10;
-    let ended = serve(rt.alloc(), &mut place, &clock, configuration());
-    assert_eq!(&rt; ended, Ok(Err(Stop::Common(oai_cli::Stop::SocketFault))));
+    let ended = served(&mut place, &clock, configuration());
+    assert_eq!(&rt;
+        ended,
+        Ok(Err(Stop::Common(oai_startup::Stop::SocketFault)))
+    );
 }
 
 /// A start in a place whose journal ends with a tick at that moment makes these calls.
 fn assert_calls(rt: &impl Abort, alloc: Global, moment: i64, calls: &str) {
     let mut place = MemoryPlace::new(alloc, 100).expect(rt, "place");
     place.tick = Some(moment);
-    let ended = serve(alloc, &mut place, &Standing, configuration());
-    assert_eq!(rt; ended, Ok(Err(Stop::Common(oai_cli::Stop::SocketFault))));
+    let ended = served(&mut place, &Standing, configuration());
+    assert_eq!(rt;
+        ended,
+        Ok(Err(Stop::Common(oai_startup::Stop::SocketFault)))
+    );
     assert_eq!(rt; place.calls.as_str(), calls);
 }
 

@@ -4,14 +4,15 @@ ghost use Rattle.oai_journal.specs.Recovered.{disk_of};
 ghost use Rattle.std.specs.Prelude.{IsTrue};
 
 use oai_archive::Stop;
-use oai_cli::Stop as Other;
-use oai_daemon::{Note, Place};
+use oai_daemon::{Note, Place, serve};
 use oai_device::MemoryDevice;
 use oai_journal::{FileJournal, Journal, Kind, Record, Recovery};
 use oai_serving::{Readiness, Sockets, Stream};
+use oai_startup::Stop as Other;
 use sqlite_disk::{Disk, Memory};
 use std::alloc::{AllocError, Global};
 use std::io::{self, ErrorKind};
+use std::rt::Clock;
 use std::time::Duration;
 
 /// The configuration of a repository.
@@ -26,6 +27,18 @@ pub(crate) fn first_body() -> &'static [u8] {
     b"1\n{\"base\":\"http://host.example\",\"cache\":1,\"repositories\":[{\"name\":\"a\",\"repositoryName\":\"A\",\
 \"adminEmail\":[\"a@host.example\"],\"earliestDatestamp\":\"2024-01-01T00:00:00Z\",\"deletedRecord\":\"persistent\",\
 \"granularity\":\"seconds\",\"chunk\":2,\"lifetime\":60,\"lists\":1,\"items\":100,\"formats\":[]}]}"
+}
+
+/// How a service of the configuration in the text ended in that place, or why it did not begin.
+pub(crate) fn served<C: Clock>(
+    place: &mut MemoryPlace,
+    clock: &C,
+    text: &[u8],
+) -> Result<Result<(), Stop>, Stop> {
+    match serve(place.alloc(), place, clock, text) {
+        Ok(ended) => Ok(ended.outcome()),
+        Err(stop) => Err(stop),
+    }
 }
 
 /// A place that takes note of the calls that are made, and fails at one of them.
@@ -232,6 +245,10 @@ impl Sockets<Nothing> for Quiet {
 
     fn watch(&mut self, _stream: &mut Nothing, _key: usize) -> io::Result<()> {
         Ok(())
+    }
+
+    fn let_go(&mut self, _number: u64, stream: Nothing) {
+        drop(stream);
     }
 }
 

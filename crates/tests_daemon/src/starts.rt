@@ -1,9 +1,8 @@
 //! The order of a start, and where it stops.
 use crate::clocks::Standing;
-use crate::places::{MemoryPlace, configuration};
+use crate::places::{MemoryPlace, configuration, served};
 use oai_archive::{Aspect, Difference, Stop};
-use oai_cli::Stop as Other;
-use oai_daemon::serve;
+use oai_startup::Stop as Other;
 use std::alloc::Global;
 use std::panic::Expect;
 use std::process::Abort;
@@ -15,8 +14,7 @@ const BEGUN: &str = "lock listen find begin begun keep open pages recovered anno
 
 /// A start in that place, or the service behind it, stops so, after these calls.
 fn assert_start(rt: &impl Abort, place: &mut MemoryPlace, wanted: Stop, calls: &str) {
-    let alloc = place.alloc();
-    let stop = match serve(alloc, place, &Standing, configuration()) {
+    let stop = match served(place, &Standing, configuration()) {
         Ok(ended) => ended,
         Err(stop) => Err(stop),
     };
@@ -50,7 +48,7 @@ fn faults_at_each_step(rt: HostRuntime) {
     for count in [0u32, 1, 2, 3, 4, 5, 6, 7, 9] {
         let mut place = MemoryPlace::new(rt.alloc(), count).expect(&rt, "place");
         place.found = false;
-        let stop = serve(rt.alloc(), &mut place, &Standing, configuration());
+        let stop = served(&mut place, &Standing, configuration());
         assert_eq!(&rt; stop, Err(Stop::Common(Other::DeviceFault)));
         assert!(&rt; BEGUN.starts_with(place.calls.as_str()));
         assert_eq!(&rt; calls(&place), count as usize + 1);
@@ -158,7 +156,7 @@ fn other_configurations(rt: HostRuntime) {
 #[test]
 fn no_configuration(rt: HostRuntime) {
     let mut place = MemoryPlace::new(rt.alloc(), 100).expect(&rt, "place");
-    let stop = serve(rt.alloc(), &mut place, &Standing, b"{}");
+    let stop = served(&mut place, &Standing, b"{}");
     match stop {
         Err(Stop::Common(Other::BadConfig(_))) => {}
         _ => assert!(&rt; false),

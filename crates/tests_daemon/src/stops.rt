@@ -1,8 +1,8 @@
 //! What a server says where it stops, and with which status.
 use oai_archive::{Aspect, Difference, Stop};
-use oai_cli::Stop as Other;
 use oai_daemon::Note;
 use oai_item::Fault;
+use oai_startup::Stop as Other;
 use std::alloc::Global;
 use std::fmt::Display;
 use std::panic::Expect;

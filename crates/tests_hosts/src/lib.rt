@@ -1,4 +1,5 @@
-//! Tests of many repositories behind one door (`oai_host`), as transcripts of their exchanges. It holds nothing else.
+//! Tests of many repositories behind one door (`oai_host`): as transcripts of their exchanges, saved and restored, as runs of many
+//! exchanges, and by a script in which each call of a store or a device fails in turn. It holds nothing else.
 #![tactic(auto)]
 
 #[cfg(test)]
@@ -6,15 +7,15 @@ mod assertions;
 #[cfg(test)]
 mod counts;
 #[cfg(test)]
-mod deposits;
-#[cfg(test)]
-mod failures;
-#[cfg(test)]
 mod large_items;
 #[cfg(test)]
 mod limits;
 #[cfg(test)]
+mod many_lines;
+#[cfg(test)]
 mod many_sets;
+#[cfg(test)]
+mod neighbours;
 #[cfg(test)]
 mod pages;
 #[cfg(test)]
@@ -22,10 +23,18 @@ mod part_lists;
 #[cfg(test)]
 mod refusals;
 #[cfg(test)]
-mod refused_memory;
+mod runs;
 #[cfg(test)]
 mod sample_host;
 #[cfg(test)]
 mod saved;
+#[cfg(test)]
+mod script_failures;
+#[cfg(test)]
+mod script_faults;
+#[cfg(test)]
+mod script_lies;
+#[cfg(test)]
+mod script_runs;
 #[cfg(test)]
 mod transcripts;

@@ -1,6 +1,9 @@
-//! Items that tests of several crates speak of, each described in short. It holds no tests.
+//! What tests of several crates share: items, each described in short, and the notation of rows and scripts. It holds no tests.
 #![tactic(auto)]
 
+mod notation;
+
+pub use notation::{with_bytes, with_repeats};
 use oai_item::{Field, Item};
 use oai_names::{Identifier, Prefix, Sequence, SetSpec, Text};
 use std::alloc::Global;

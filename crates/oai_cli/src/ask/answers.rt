@@ -1,4 +1,4 @@
-//! How an answer is written.
+//! Writes an answer of `ask`.
 ghost use Rattle.std.specs.Prelude.{◌≡◌, ◌++◌, decimal, OnOk};
 ghost use Rattle.std.specs.Fmt.{signed_decimal};
 ghost use Rattle.std.specs.Io.KnownBytes.{Appends};
@@ -7,7 +7,7 @@ ghost use Rattle.oai_cli.specs.ExchangeLines as spec;
 use oai_http::Answer;
 use std::io::{self, Write};
 
-/// Writes an answer: its status with the numbers that it has, a line end, and its body.
+/// Writes an answer: its status, the seconds to wait and the lines done if it has them, a line end, and its body.
 #[tactic(auto, unfolding(crate::specs::ExchangeLines::shown))]
 pub fn write_answer<W: Write>(answer: &Answer, writer: &mut W) -> io::Result<()>
     ensures { OnOk result (Appends (W.Write.contents writer.old) (W.Write.contents writer.new)
@@ -28,7 +28,7 @@ fn write_status<W: Write>(number: u16, writer: &mut W) -> io::Result<()>
     write!(writer, "{number}")
 }
 
-/// Writes the seconds to wait, where there are any, behind a space.
+/// Writes a space and the seconds to wait, if there are any.
 fn write_seconds<W: Write>(seconds: Option<i64>, writer: &mut W) -> io::Result<()>
     ensures { OnOk result (Appends (W.Write.contents writer.old) (W.Write.contents writer.new)
         (spec.shown_seconds seconds)) }
@@ -39,7 +39,7 @@ fn write_seconds<W: Write>(seconds: Option<i64>, writer: &mut W) -> io::Result<(
     }
 }
 
-/// Writes the number of lines that were done, where there is one, behind a space.
+/// Writes a space and the number of lines that were done, if there is one.
 fn write_done<W: Write>(done: Option<u64>, writer: &mut W) -> io::Result<()>
     ensures { OnOk result (Appends (W.Write.contents writer.old) (W.Write.contents writer.new)
         (spec.shown_done done)) }

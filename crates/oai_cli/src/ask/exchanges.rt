@@ -1,13 +1,14 @@
-//! What a line of the input spells.
+//! Parses an exchange in a line of the input.
 ghost use Rattle.std.specs.Prelude.{◌≡◌};
 ghost use Rattle.std.specs.Option.{option_copied, option_map};
 ghost use Rattle.oai_cli.specs.ExchangeLines as spec;
 
-use crate::input::parts::{cut, has_two_spaces, read_moment};
+use crate::input::parts::{cut, has_two_spaces};
 use oai_http::{Exchange, FORM};
+use oai_startup::read_moment;
 
-/// Reads a line: three or four parts between single spaces, of which the last goes to the end. It is a
-/// moment in seconds from 1970 on, a method, a target and a body; the body of a POST is a form.
+/// Parses a line: three or four parts between single spaces, of which the last extends to the end: a moment in seconds
+/// from 1970 on, a method, a target and a body; the body of a POST is a form.
 #[tactic(auto, unfolding(crate::specs::ExchangeLines::parse_exchange))]
 pub(crate) fn parse_exchange(line: &[u8]) -> Option<(i64, Exchange<'_>)>
     ensures { option_map spec.call_by result ≡ spec.parse_exchange line.now }
@@ -30,7 +31,7 @@ pub(crate) fn parse_exchange(line: &[u8]) -> Option<(i64, Exchange<'_>)>
     ))
 }
 
-/// The type of the body, where the method takes one.
+/// The media type of the body, if the method takes one.
 fn type_of(method: &[u8]) -> Option<&'static [u8]>
     ensures { option_copied result ≡ spec.type_of method.now }
 {

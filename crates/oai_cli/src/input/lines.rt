@@ -4,27 +4,26 @@ ghost use Rattle.std.specs.Io.KnownBytes.{Consumes, IsAtEnd};
 ghost use Rattle.std.specs.List.{position};
 ghost use Rattle.oai_host.specs.Bodies.{is_line_end};
 ghost use Rattle.oai_cli.specs.Inputs as spec;
-ghost use Rattle.oai_cli.specs.declared.input.limits.TheConstants.{MAX_READS, READ_BYTES};
-ghost use Rattle.oai_cli.specs.declared.stop.Stop.TheVariants.{InputFault, NoMemory};
+ghost use Rattle.oai_startup.specs.declared.limits.TheConstants.{MAX_READS, READ_BYTES};
+ghost use Rattle.oai_startup.specs.declared.stop.Stop.TheVariants.{InputFault, NoMemory};
 
-use crate::input::limits::{MAX_READS, READ_BYTES};
-use crate::stop::Stop;
 use memchr::memchr;
+use oai_startup::{MAX_READS, READ_BYTES, Stop};
 use std::alloc::Global;
 use std::io::Read;
 use std::marker::Model;
 
-/// The lines of an input, read one after the other: what stands before each line end, and behind the last.
+/// The lines of an input, read one after the other: what precedes each line end, and what follows the last.
 #[derive(Drop)]
 pub(crate) struct Lines {
     /// What was read last.
     buffer: Vec<u8>,
-    /// The bytes of the buffer that were read and not given, from the first to the second.
+    /// The range of the bytes of the buffer that were read and not returned.
     given: usize,
     filled: usize,
     /// How often the input was read.
     reads: u64,
-    /// Whether all lines were given.
+    /// Whether all lines were returned.
     is_over: bool,
     /// The line that was read last.
     line: Vec<u8>,
@@ -51,7 +50,7 @@ impl Model for Lines {
 }
 
 impl Lines {
-    /// The lines of an input of which nothing was read. The error is `NoMemory`.
+    /// The lines of an input that was not read yet. The error is `NoMemory`.
     pub(crate) fn new(alloc: Global) -> Result<Lines, Stop>
         ensures begun { IfOk result (λ lines. lines ≡ spec.unread) }
         ensures err { IfErr result (λ stop. stop ≡ NoMemory) }
@@ -84,8 +83,8 @@ impl Lines {
         self.number
     }
 
-    /// Reads the next line; whether there is one. The errors are `InputFault`, also where the input has not
-    /// ended within 1,000,000 reads, and `NoMemory`.
+    /// Reads the next line; returns whether there is one. The errors are `InputFault`, also if the input does not end
+    /// within 1,000,000 reads, and `NoMemory`.
     pub(crate) fn next<R: Read>(&mut self, reader: &mut R) -> Result<bool, Stop>
         ensures next { spec.IsNextLine (spec.left self.old (R.Read.remaining reader.old)) result
             self.new.line (spec.left self.new (R.Read.remaining reader.new)) }
@@ -109,7 +108,7 @@ impl Lines {
         Err(Stop::InputFault)
     }
 
-    /// Adds to the line what was read and not given, up to the line end; whether there is one.
+    /// Appends the unread bytes up to the line end to the line; returns whether there is one.
     fn take_piece(&mut self) -> Result<bool, Stop>
         ensures piece { spec.IsLinePiece self.old result self.new }
         ensures given { IfOk result (λ found. found ≡ false → self.new.ahead ≡ []) }
@@ -131,7 +130,7 @@ impl Lines {
         }
     }
 
-    /// Reads on, where all that was read was given; whether anything came.
+    /// Reads more, if the buffer was used up; returns whether anything came.
     fn fill<R: Read>(&mut self, reader: &mut R) -> Result<bool, Stop>
         ensures bytes { OnOk result (Consumes (R.Read.remaining reader.old)
             (R.Read.remaining reader.new) self.new.ahead) }
@@ -155,7 +154,7 @@ impl Lines {
     }
 }
 
-/// Puts bytes behind a line. The error is `NoMemory`.
+/// Appends bytes to a line. The error is `NoMemory`.
 fn add(bytes: &[u8], line: &mut Vec<u8>) -> Result<(), Stop>
     ensures ok { OnOk result (line.new.items ≡ line.old.items ++ bytes.now) }
     ensures err { IfErr result (λ stop. stop ≡ NoMemory) }
@@ -166,7 +165,7 @@ fn add(bytes: &[u8], line: &mut Vec<u8>) -> Result<(), Stop>
     Ok(())
 }
 
-/// The place of the first line end.
+/// The position of the first line end.
 fn line_end(text: &[u8]) -> Option<usize>
     ensures { result ≡ position is_line_end text.now }
 {

@@ -1,20 +1,16 @@
-//! The parts of a line, between single spaces, and the numbers that they spell.
+//! The parts of a line, between single spaces.
 ghost use Rattle.std.specs.Prelude.{◌≡◌, ◌≤◌, length, nat_le};
 ghost use Rattle.std.specs.List.{count_by, list_any, position, position_or_len};
 ghost use Rattle.oai_cli.specs.ExchangeLines as spec;
-ghost use Rattle.oai_cli.specs.Numbers.{moment_of, number_in};
 
-/// What begins no number here, though `parse` takes it.
-const PLUS: &[u8] = b"+";
-
-/// How many spaces the text has.
+/// The number of spaces in the text.
 pub(crate) fn spaces(text: &[u8]) -> usize
     ensures { result ≡ count_by spec.is_separator text.now }
 {
     text.iter().filter(|b| **b == b' ').count()
 }
 
-/// Whether the text has two spaces or more. It looks at no byte behind the second.
+/// Whether the text has two spaces or more. It reads no byte after the second.
 pub(crate) fn has_two_spaces(text: &[u8]) -> bool
     ensures { result ≡ nat_le 2 (count_by spec.is_separator text.now) }
 {
@@ -22,14 +18,14 @@ pub(crate) fn has_two_spaces(text: &[u8]) -> bool
     has_space(rest)
 }
 
-/// Whether the text has a space. It looks at no byte behind it.
+/// Whether the text has a space. It reads no byte after it.
 fn has_space(text: &[u8]) -> bool
     ensures { result ≡ list_any spec.is_separator text.now }
 {
     text.iter().any(|b| *b == b' ')
 }
 
-/// What stands before the first space, and what stands after it; all and nothing where none does.
+/// What precedes the first space, and what follows it; everything and nothing if there is none.
 pub(crate) fn cut(text: &[u8]) -> (&[u8], &[u8])
     ensures front { result.0.now ≡ spec.part text.now }
     ensures back { result.1.now ≡ spec.rest text.now }
@@ -42,7 +38,7 @@ pub(crate) fn cut(text: &[u8]) -> (&[u8], &[u8])
     }
 }
 
-/// How many bytes stand before the first space.
+/// The number of bytes before the first space.
 fn front_len(text: &[u8]) -> usize
     ensures length { result ≡ position_or_len spec.is_separator text.now }
     ensures within { result ≤ length text.now }
@@ -53,35 +49,9 @@ fn front_len(text: &[u8]) -> usize
     }
 }
 
-/// The place of the first space.
+/// The position of the first space.
 fn first_space(text: &[u8]) -> Option<usize>
     ensures { result ≡ position spec.is_separator text.now }
 {
     text.iter().position(|b| *b == b' ')
-}
-
-/// Reads a moment: decimal digits, after a minus where it is negative.
-pub(crate) fn read_moment(text: &[u8]) -> Option<i64>
-    ensures { result ≡ moment_of text.now }
-{
-    if text.starts_with(PLUS) {
-        return None;
-    }
-    let Ok(text) = std::str::from_utf8(text) else {
-        return None;
-    };
-    text.parse().ok()
-}
-
-/// Reads a number: decimal digits alone, below 2^64.
-pub fn read_number(text: &[u8]) -> Option<u64>
-    ensures { result ≡ number_in text.now }
-{
-    if text.starts_with(PLUS) {
-        return None;
-    }
-    let Ok(text) = std::str::from_utf8(text) else {
-        return None;
-    };
-    text.parse().ok()
 }

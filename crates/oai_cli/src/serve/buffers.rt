@@ -1,4 +1,4 @@
-//! What a connection has to write, gathered before it is written.
+//! The output of a connection, gathered before it is written.
 ghost use Rattle.std.specs.Prelude.{◌≡◌, ◌+◌, ◌++◌, ◌<◌, ◌≤◌, [], length, vec_capacity, vec_len, IfOk, OnOk};
 ghost use Rattle.std.specs.Io.KnownBytes.{append_known, Appends, Keeps};
 ghost use Rattle.oai_cli.specs.Outputs as spec;
@@ -10,10 +10,10 @@ use oai_http::Handler;
 use std::alloc::{AllocError, Global};
 use std::io::{self, Write};
 
-/// What is shorter than so many bytes is gathered before it is written.
+/// Output that is shorter than this is gathered before it is written.
 const SHORT_BYTES: usize = 4_096;
 
-/// Bytes that wait to be written together.
+/// A buffer of output that is written together.
 #[derive(Drop)]
 pub(crate) struct OutputBuffer {
     bytes: Vec<u8>,
@@ -21,14 +21,14 @@ pub(crate) struct OutputBuffer {
 }
 
 impl OutputBuffer {
-    /// None so far, with room for those that are short.
+    /// An empty buffer, with capacity for short output.
     pub(crate) fn new(alloc: Global) -> Result<OutputBuffer, AllocError> {
         Ok(OutputBuffer {
             bytes: Vec::with_capacity(alloc, SHORT_BYTES)?,
         })
     }
 
-    /// Gathers short bytes; longer ones are written as they are, behind what was gathered.
+    /// Gathers short bytes; writes longer ones directly, after what was gathered.
     fn put<W: Write>(&mut self, bytes: &[u8], writer: &mut W) -> io::Result<()>
         ensures { OnOk result (Appends
             (append_known (W.Write.contents writer.old) self.old.bytes.items)
@@ -43,7 +43,7 @@ impl OutputBuffer {
         Ok(())
     }
 
-    /// Writes what was gathered, where there is no room for so many bytes more.
+    /// Writes what was gathered, unless there is capacity for that many bytes more.
     fn make_room<W: Write>(&mut self, count: usize, writer: &mut W) -> io::Result<()>
         requires { count < SHORT_BYTES }
         ensures room { OnOk result (vec_len self.new.bytes + count ≤ SHORT_BYTES) }
@@ -70,7 +70,7 @@ impl OutputBuffer {
     }
 }
 
-/// Puts bytes behind others, where there is room.
+/// Appends bytes to others, which have the capacity.
 fn add(bytes: &[u8], others: &mut Vec<u8>)
     requires { vec_len others.old + length bytes.now ≤ vec_capacity others.old }
     ensures items { others.new.items ≡ others.old.items ++ bytes.now }
@@ -79,8 +79,8 @@ fn add(bytes: &[u8], others: &mut Vec<u8>)
     others.extend_from_slice(bytes).unwrap();
 }
 
-/// Writes all that the connection has to write. What is shorter than 4,096 bytes is gathered before it is
-/// written, and what is longer is written as it is.
+/// Writes the whole output of the connection. Output below 4,096 bytes is gathered first, and longer output is written
+/// directly.
 pub(crate) fn flush_output<H: Handler, W: Write>(
     front: &mut Front<H>,
     conn: ConnId,
@@ -102,7 +102,7 @@ pub(crate) fn flush_output<H: Handler, W: Write>(
     gathered.write(writer)
 }
 
-/// Adds what the connection has to write next to the others; how many bytes, None where there are none.
+/// Appends the next output of the connection to the others; returns how many bytes, None if there are none.
 fn put_next<H, W: Write>(
     front: &Front<H>,
     conn: ConnId,

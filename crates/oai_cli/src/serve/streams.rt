@@ -4,13 +4,13 @@ ghost use Rattle.std.specs.Io.KnownBytes.{Appends, IsAtEnd};
 ghost use Rattle.oai_front.specs.declared.faults.PieceFault.{PieceFault};
 ghost use Rattle.oai_cli.specs.Outputs.{IsPieceAnswered, StaysApart, IsForgotten, IsServed, AnswersPieces, IsUsed, OthersStay, is_taking, IsOpenedFault, IsReadOnFault};
 ghost use Rattle.oai_cli.specs.declared.serve.streams.StreamFault.TheVariants as fault;
-ghost use Rattle.oai_cli.specs.declared.input.limits.TheConstants.{READ_BYTES};
+ghost use Rattle.oai_startup.specs.declared.limits.TheConstants.{READ_BYTES};
 
 use crate::connections::{forget_connection, take_in};
-use crate::input::limits::{MAX_READS, READ_BYTES};
 use crate::serve::buffers::{OutputBuffer, flush_output};
 use oai_front::{ConnId, Front, OpenFault, PieceFault};
 use oai_http::Handler;
+use oai_startup::{MAX_READS, READ_BYTES};
 use std::alloc::Global;
 use std::io::{Read, Write};
 use std::rt::Clock;
@@ -22,7 +22,7 @@ pub enum StreamFault {
     /// No connection could be opened.
     #[error("no connection could be opened: {0}")]
     NotOpened(OpenFault),
-    /// Memory was refused; what was answered by then was written.
+    /// Out of memory; what was answered before was written.
     #[error("out of memory")]
     NoMemory,
     /// The stream could not be read.
@@ -34,14 +34,14 @@ pub enum StreamFault {
     /// The clock could not be read.
     #[error("the clock could not be read")]
     ClockFault,
-    /// The stream had not ended within 1,000,000 reads.
+    /// The stream did not end within 1,000,000 reads.
     #[error("the stream has not ended")]
     Endless,
 }
 
-/// Serves the stream as one connection of the front: what is read comes on it at the clock's moment, and
-/// what it has to write is written, until it is closing and all was written, or the stream ends. A read is of
-/// at most 65,536 bytes. The connection is forgotten then, also at each fault; no other connection changes.
+/// Serves the stream as one connection of the front: passes the input to it at the clock's moment, and writes its
+/// output, until it is closing and all was written, or the stream ends. A read is of at most 65,536 bytes. The
+/// connection is then dropped, also at each fault; no other connection changes.
 pub fn serve_stream<H: Handler, S: Read + Write, C: Clock>(
     alloc: Global,
     front: &mut Front<H>,
@@ -65,7 +65,7 @@ pub fn serve_stream<H: Handler, S: Read + Write, C: Clock>(
     }
 }
 
-/// Serves the stream as that connection, up to its end.
+/// Serves the stream as that connection, to its end.
 fn serve_connection<H: Handler, S: Read + Write, C: Clock>(
     alloc: Global,
     front: &mut Front<H>,
@@ -94,7 +94,7 @@ fn serve_connection<H: Handler, S: Read + Write, C: Clock>(
     Err(StreamFault::Endless)
 }
 
-/// Reads once, and answers what came; whether the stream is to be read on.
+/// Reads once, and answers the input; returns whether to read on.
 fn read_on<H: Handler, S: Read + Write, C: Clock>(
     front: &mut Front<H>,
     conn: ConnId,
@@ -123,7 +123,7 @@ fn read_on<H: Handler, S: Read + Write, C: Clock>(
     answer(front, conn, moment, &buffer[..count], gathered, stream)
 }
 
-/// Lets the piece come on the connection, and writes what that gives to write; whether it is to be read on.
+/// Passes the piece to the connection, and writes its output; returns whether to read on.
 fn answer<H: Handler, S: Write>(
     front: &mut Front<H>,
     conn: ConnId,

@@ -1,27 +1,26 @@
-//! The events of a trace, each of which is a line.
+//! The events of a trace, one in each line.
 ghost use Rattle.std.specs.Prelude.{◌≡◌};
 ghost use Rattle.oai_cli.specs.EventLines as spec;
 
-use crate::input::parts::{cut, read_moment, read_number, spaces};
-use crate::stop::Stop;
+use crate::input::parts::{cut, spaces};
 use hex::FromHexError;
 use oai_names::Sequence;
+use oai_startup::{Stop, read_moment, read_number};
 use std::alloc::Global;
 
-/// A line of a trace, as it is parsed: at a moment a piece comes on a connection, or the connection's end.
+/// A parsed line of a trace: at a moment a piece comes on a connection, or the connection's end.
 #[derive(Drop)]
 pub(crate) struct Event {
     /// The moment, in seconds from 1970 on.
     pub(crate) moment: i64,
     /// The label of the connection.
     pub(crate) label: u64,
-    /// The bytes that come; None is the end.
+    /// The bytes of the piece; None for the end.
     pub(crate) piece: Option<Sequence<u8>>,
 }
 
-/// Reads the line of that number: three parts between single spaces, which are a moment in seconds from
-/// 1970 on, a label, and bytes as hexadecimal digits or the word `end`. The errors are `BadPiece` and
-/// `NoMemory`.
+/// Parses the line with that number: three parts between single spaces, a moment in seconds from 1970 on, a label, and
+/// bytes as hexadecimal digits or the word `end`. The errors are `BadPiece` and `NoMemory`.
 #[tactic(auto, unfolding(crate::specs::EventLines::parse_event))]
 pub(crate) fn parse_event(alloc: Global, line: &[u8], number: u64) -> Result<Event, Stop>
     ensures { spec.IsParsedEvent line.now number result }
@@ -44,7 +43,7 @@ pub(crate) fn parse_event(alloc: Global, line: &[u8], number: u64) -> Result<Eve
     }
 }
 
-/// Reads what comes: bytes as hexadecimal digits, or the word `end`.
+/// Parses the third part: bytes as hexadecimal digits, or the word `end`.
 #[tactic(auto, unfolding(crate::specs::EventLines::coming))]
 fn read_piece(alloc: Global, text: &[u8]) -> Result<Option<Sequence<u8>>, FromHexError>
     ensures { spec.IsComing text.now result }
@@ -58,7 +57,7 @@ fn read_piece(alloc: Global, text: &[u8]) -> Result<Option<Sequence<u8>>, FromHe
     }
 }
 
-/// Why the line of that number could not be parsed.
+/// Why the line with that number could not be parsed.
 fn stop_at(number: u64, error: FromHexError) -> Stop
     ensures { result ≡ spec.stop_at number error }
 {

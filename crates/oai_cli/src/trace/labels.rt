@@ -1,4 +1,4 @@
-//! The labels of a trace, and the connections that they name.
+//! The labels of a trace, and their connections.
 ghost use Rattle.std.specs.Prelude.{◌≡◌, ◌≢◌, ℕ, None, Some, true, IfErr, IfOk, OnOk};
 ghost use Rattle.std.specs.BTreeMap.{get};
 ghost use Rattle.std.specs.Io.KnownBytes.{Appends};
@@ -8,21 +8,21 @@ ghost use Rattle.oai_cli.specs.EventLines.{shown_close, shown_output};
 ghost use Rattle.oai_cli.specs.Outputs.{StaysApart, IsEmptied, IsUsed, output_of};
 ghost use Rattle.oai_cli.specs.Traces as spec;
 ghost use Rattle.oai_cli.specs.Traces.{IsBroken, IsUnopened, tracing};
-ghost use Rattle.oai_cli.specs.declared.stop.Stop.TheVariants.{NoMemory, OutputFault};
+ghost use Rattle.oai_startup.specs.declared.stop.Stop.TheVariants.{NoMemory, OutputFault};
 
 use crate::connections::forget_connection;
-use crate::stop::Stop;
 use crate::trace::outputs::take_output;
 use oai_front::{ConnId, Front, OpenFault};
 use oai_http::Handler;
+use oai_startup::Stop;
 use std::alloc::Global;
 use std::collections::BTreeMap;
 use std::io::Write;
 
-/// The connections of a trace by their labels; None where it was forgotten.
+/// The connections of a trace by their labels; None if it was dropped.
 pub(crate) type Labels = BTreeMap<u64, Option<ConnId>>;
 
-/// Writes what the connection has to write, and where it is closing, that it is closed; then it is forgotten.
+/// Writes the output of the connection and, if it is closing, that it is closed; then it is dropped.
 pub(crate) fn report<H: Handler, W: Write>(
     alloc: Global,
     front: &mut Front<H>,
@@ -52,14 +52,14 @@ pub(crate) fn report<H: Handler, W: Write>(
     Ok(())
 }
 
-/// Whether the connection is open and reads nothing any more.
+/// Whether the connection is open and reads no more input.
 fn reads_nothing<H>(front: &Front<H>, conn: ConnId) -> bool
     ensures { result ≡ spec.reads_no_more (connection_numbered conn.number front.now.connections) }
 {
     front.closing(conn).unwrap_or(false)
 }
 
-/// The connection of the label, which is opened where the label is new; None where it was forgotten.
+/// The connection of the label, which is opened if the label is new; None if it was dropped.
 pub(crate) fn connection_of<H: Handler>(
     front: &mut Front<H>,
     labels: &mut Labels,
@@ -87,7 +87,7 @@ pub(crate) fn connection_of<H: Handler>(
     }
 }
 
-/// Writes all that the connection has to write, where there is any, as a line `<label> <hex>`.
+/// Writes the whole output of the connection, if there is any, as a line `<label> <hex>`.
 fn write_output<H: Handler, W: Write>(
     alloc: Global,
     front: &mut Front<H>,
@@ -128,7 +128,7 @@ fn write_close<W: Write>(label: u64, writer: &mut W) -> Result<(), Stop>
     }
 }
 
-/// Forgets the connection of the label, so that later lines of the label do nothing.
+/// Drops the connection of the label, so that later lines of the label have no effect.
 fn forget<H: Handler>(
     front: &mut Front<H>,
     labels: &mut Labels,

@@ -1,15 +1,15 @@
-//! All that a connection has to write, at once.
+//! The whole output of a connection, at once.
 ghost use Rattle.std.specs.Prelude.{◌≡◌, ◌++◌, IfOk, IfErr, OnOk};
 ghost use Rattle.oai_cli.specs.Outputs as spec;
-ghost use Rattle.oai_cli.specs.declared.stop.Stop.TheVariants.{NoMemory};
+ghost use Rattle.oai_startup.specs.declared.stop.Stop.TheVariants.{NoMemory};
 
 use crate::connections::next_output;
-use crate::stop::Stop;
 use oai_front::{ConnId, Front};
 use oai_http::Handler;
+use oai_startup::Stop;
 use std::alloc::Global;
 
-/// Takes all that the connection has to write. The error is `NoMemory`.
+/// Takes the whole output of the connection. The error is `NoMemory`.
 pub(crate) fn take_output<H: Handler>(
     alloc: Global,
     front: &mut Front<H>,
@@ -30,7 +30,7 @@ pub(crate) fn take_output<H: Handler>(
     Ok(bytes)
 }
 
-/// Adds what the connection has to write next; how many bytes, None where there are none.
+/// Appends the next output of the connection; returns how many bytes, None if there are none.
 fn add_next<H>(front: &Front<H>, conn: ConnId, bytes: &mut Vec<u8>) -> Result<Option<usize>, Stop>
     ensures next { IfOk result (λ next. spec.IsNextOutput conn.number front.now.connections next
         (λ front. bytes.new.items ≡ bytes.old.items ++ front)) }

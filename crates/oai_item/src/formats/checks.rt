@@ -9,16 +9,16 @@ use oai_names::Text;
 use std::alloc::{AllocError, Global};
 use std::collections::BTreeSet;
 
-/// The most formats that a repository has, oai_dc counted.
+/// The maximum number of formats of a repository, including oai_dc.
 const MAX_FORMATS: usize = 64;
 
-/// The most fields that a format has.
+/// The maximum number of fields of a format.
 const MAX_FIELDS: usize = 256;
 
-/// The most bytes that the name of an element has.
+/// The maximum length of an element's name in bytes.
 const MAX_NAME_BYTES: usize = 64;
 
-/// Whether the format may stand beside these: the first cause against it.
+/// Whether the format may be added to these; the error is the first cause against it.
 #[tactic(auto, unfolding(crate::specs::Declaring::declare_fault))]
 pub(super) fn check(alloc: Global, formats: &[Format], format: &Format) -> Result<(), FormatFault>
     ensures { IsCheck formats.now format.now result }
@@ -43,7 +43,7 @@ pub(super) fn check(alloc: Global, formats: &[Format], format: &Format) -> Resul
     Ok(())
 }
 
-/// Whether the root and each field have the name of an element.
+/// Whether the root and each field are named like elements.
 fn are_names(format: &Format) -> bool
     ensures { result ≡ are_names format.now }
 {
@@ -56,15 +56,15 @@ fn all_names(names: &[Text]) -> bool
     names.iter().all(|name| is_name(name.as_str()))
 }
 
-/// Whether the text is the name of an element, of at most 64 bytes.
+/// Whether the text is an element's name of at most 64 bytes.
 fn is_name(text: &str) -> bool
     ensures { result ≡ is_name text.now }
 {
     is_element_name(text) && text.len() <= MAX_NAME_BYTES
 }
 
-/// Whether the text is the name of an element, of any length: an ASCII letter or `_`, followed by
-/// letters, digits, `-`, `_` and `.` (XML 1.0, section 2.3).
+/// Whether the text is an element's name, of any length: an ASCII letter or `_`, followed by letters, digits, `-`, `_`
+/// and `.` (XML 1.0, section 2.3).
 #[tactic(auto, unfolding(crate::specs::Rules::is_element_name))]
 fn is_element_name(text: &str) -> bool
     ensures { result ≡ is_element_name text.now }
@@ -93,15 +93,15 @@ fn is_name_byte(b: u8) -> bool
     b.is_ascii_alphanumeric() || b"-_.".contains(&b)
 }
 
-/// Whether the schema and the namespace may stand for URIs.
+/// Whether the schema and the namespace may be used as URIs.
 fn are_uris(format: &Format) -> bool
     ensures { result ≡ are_uris format.now }
 {
     is_uri(format.schema.as_str()) && is_uri(format.namespace.as_str())
 }
 
-/// Whether the text may stand for a URI in a document: 1 to 512 bytes, of characters that a
-/// document may hold, without a space, tab, LF and CR.
+/// Whether the text may be used as a URI in a document: 1 to 512 bytes, of characters that a document may hold, without
+/// space, tab, LF and CR.
 #[tactic(auto, unfolding(crate::specs::Rules::is_uri))]
 fn is_uri(text: &str) -> bool
     ensures { result ≡ is_uri text.now }
@@ -121,7 +121,7 @@ fn is_space(b: u8) -> bool
     matches!(b, b' ' | b'\t' | b'\n' | b'\r')
 }
 
-/// Whether a text stands twice. The error is out of memory.
+/// Whether a text occurs twice. The error is out of memory.
 fn has_repeat(alloc: Global, texts: &[Text]) -> Result<bool, AllocError>
     ensures { IfOk result (λ repeat. repeat ≡ has_repeat texts.now) }
 {
@@ -134,7 +134,7 @@ fn has_repeat(alloc: Global, texts: &[Text]) -> Result<bool, AllocError>
     Ok(false)
 }
 
-/// Whether one more format may stand beside these, of 1 to 256 fields.
+/// Whether one more format fits beside these, with 1 to 256 fields.
 fn has_room(formats: &[Format], format: &Format) -> bool
     ensures { result ≡ has_room formats.now format.now }
 {

@@ -7,7 +7,7 @@ ghost use Rattle.oai_catalogue.specs.Store.{Spends};
 ghost use Rattle.oai_repo.specs.Accepted.{stamp_after_deletion};
 ghost use Rattle.oai_repo.specs.Calls.{fault_in};
 ghost use Rattle.oai_repo.specs.Changes.{after_deletion, dead_refusal, missing_refusal, with_new};
-ghost use Rattle.oai_repo.specs.Entries.{Restamps, SetsStamp};
+ghost use Rattle.oai_repo.specs.Entries.{Restamps, SetsStamp, count_with, stamp_in};
 ghost use Rattle.oai_repo.specs.Fields.{stored_items};
 ghost use Rattle.oai_repo.specs.Indexing.{HoldsItem, IsDoneOn, IsMadeOn, Moves, StandsOn};
 ghost use Rattle.oai_repo.specs.Kept.{is_too_large};
@@ -17,6 +17,7 @@ use crate::item_index::ItemIndex;
 use oai_catalogue::Versions;
 use oai_item::{ChangeRefusal, DeletedRecord, Fault, Item, Refusal};
 use oai_names::Identifier;
+use std::alloc::Global;
 
 /// Deletes the item of that identifier: it goes where nothing is kept of deleted records, and stays
 /// as a deleted one of that datestamp elsewhere (OAI-PMH 2.0, section 2.5.1). Or refuses it by the
@@ -119,8 +120,30 @@ fn replace_with_tombstone<V: Versions>(
     ensures store { Spends V.room V.failures V.honest 1 result store.old store.new }
 {
     let left = item.tombstone(context.alloc, context.stamp)?;
+    put_left(context.alloc, store, index, &left)
+}
+
+/// Puts what is left of an item in its place. A fault leaves everything as it was, and is `Damaged` where
+/// more is left than can be stored.
+fn put_left<V: Versions>(
+    alloc: Global,
+    store: &mut V,
+    index: &mut ItemIndex,
+    left: &Item,
+) -> Result<(), Fault>
+    requires stands { StandsOn V.Versions index.old store.old }
+    requires small { IsTrue (V.honest store.old) → not (is_too_large left.now) ≡ true }
+    ensures made { OnOk result
+        (IsMadeOn V.Versions (with_new left.now) index.old store.old index.new store.new) }
+    ensures stamped { OnOk result (SetsStamp left.now.identifier (Some left.now.stamp)
+        index.old.entries index.new.entries) }
+    ensures many { OnOk result (length index.new.entries
+        ≡ count_with (stamp_in left.now.identifier index.old.entries) (length index.old.entries)) }
+    ensures moves { Moves V.Versions result index.old store.old index.new store.new }
+    ensures store { Spends V.room V.failures V.honest 1 result store.old store.new }
+{
     if left.encoded_len().is_err() {
         return Err(Fault::Damaged);
     }
-    index.put(context.alloc, store, &left)
+    index.put(alloc, store, left)
 }

@@ -1,5 +1,5 @@
 //! What is deposited: why it is refused, and the item that it makes.
-ghost use Rattle.std.specs.Prelude.{◌≡◌, ◌≤◌, None, Some, false, length, OnOk};
+ghost use Rattle.std.specs.Prelude.{◌≡◌, ◌≤◌, None, Some, false, length, IfOk, IsTrue, OnOk};
 ghost use Rattle.std.specs.List.{list_all};
 ghost use Rattle.std.specs.Option.{option_copied};
 ghost use Rattle.oai_names.specs.Names.{is_among};
@@ -7,20 +7,21 @@ ghost use Rattle.oai_names.specs.Sets.{has_set};
 ghost use Rattle.oai_item.specs.Encoding.{encoded};
 ghost use Rattle.oai_item.specs.Items.{item_named};
 ghost use Rattle.oai_item.specs.declared.sizes.TheConstants.{MAX_ITEM_BYTES};
+ghost use Rattle.oai_catalogue.specs.Calls.{OnlyReads};
 ghost use Rattle.oai_catalogue.specs.Store.{Spends};
 ghost use Rattle.oai_item.specs.Item.{IsStamp, has_record, live_item, record_named};
 ghost use Rattle.oai_item.specs.Known.{are_fields_of, has_format, has_known_fields};
 ghost use Rattle.oai_item.specs.Membership.{reduced};
 ghost use Rattle.oai_repo.specs.Calls.{fault_in};
 ghost use Rattle.oai_repo.specs.Changes as spec;
-ghost use Rattle.oai_repo.specs.Entries.{SetsStamp};
+ghost use Rattle.oai_repo.specs.Entries.{SetsStamp, count_with, stamp_in};
 ghost use Rattle.oai_repo.specs.Fields.{stored_items};
 ghost use Rattle.oai_repo.specs.Indexing.{IsDoneOn, Moves, StandsOn};
 
 use crate::changes::ChangeContext;
 use crate::item_index::ItemIndex;
 use oai_catalogue::Versions;
-use oai_item::{ChangeRefusal, Field, Format, Formats, Item, Records, Refusal};
+use oai_item::{ChangeRefusal, Fault, Field, Format, Formats, Item, Records, Refusal};
 use oai_names::{Identifier, Sequence, SetSpec, SetTree, Text};
 use oai_settings::RepoConfig;
 
@@ -99,11 +100,33 @@ fn put_item<V: Versions>(
     ensures moves { Moves V.Versions result index.old store.old index.new store.new }
     ensures store { Spends V.room V.failures V.honest 1 (fault_in result) store.old store.new }
 {
-    let replaced = index.find(store, item.identifier())?;
-    match item_refusal(context.config, replaced.as_ref(), index.len(), item) {
+    match refusal_among(context.config, store, index, item)? {
         Some(cause) => Err(Refusal::Refused(cause)),
         None => Ok(index.put(context.alloc, store, item)?),
     }
+}
+
+/// Why the item may not stand among the others: the first cause. Any fault but `TooManyPages` may come.
+fn refusal_among<V: Versions>(
+    config: &RepoConfig,
+    store: &mut V,
+    index: &ItemIndex,
+    item: &Item,
+) -> Result<Option<ChangeRefusal>, Fault>
+    requires stands { StandsOn V.Versions index.now store.old }
+    ensures cause { let items = stored_items index.now (V.lists store.old) in
+        IfOk result (λ cause. IsTrue (V.honest store.old) → cause ≡ spec.item_refusal config.now
+        (item_named item.now.identifier items) (length items) item.now) }
+    ensures fits { IfOk result (λ cause. cause ≡ None
+        → length (encoded item.now) ≤ MAX_ITEM_BYTES) }
+    ensures few { IfOk result (λ cause. cause ≡ None
+        → length index.now.entries ≤ config.now.items
+        → count_with (stamp_in item.now.identifier index.now.entries) (length index.now.entries)
+        ≤ config.now.items) }
+    ensures reads { OnlyReads V.Versions result store.old store.new }
+{
+    let replaced = index.find(store, item.identifier())?;
+    Ok(item_refusal(config, replaced.as_ref(), index.len(), item))
 }
 
 /// Why the deposit may not stand as it is: the first cause.

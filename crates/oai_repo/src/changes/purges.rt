@@ -1,4 +1,4 @@
-//! Forgetting deleted items.
+//! Purges: removes tombstones.
 ghost use Rattle.std.specs.Prelude.{◌≡◌, ◌+◌, ◌++◌, ◌≤◌, if◌then◌else◌, nat_lt, None, true, drop, filter, length, take, IfErr, IfOk, IfSome, IsSome, IsTrue, OnOk};
 ghost use Rattle.std.specs.List.{list_all};
 ghost use Rattle.oai_time.specs.Bound.{IsWritableBound};
@@ -26,8 +26,8 @@ use std::alloc::{AllocError, Global};
 /// How many items are read at once.
 const PART: usize = 1_000;
 
-/// Takes out the deleted items of datestamps below the bound's first second, where the repository may
-/// forget them (OAI-PMH 2.0, section 2.5.1), or refuses it by the first cause.
+/// Removes the deleted items with datestamps below the bound's first second, if the policy allows it (OAI-PMH 2.0,
+/// section 2.5.1), or refuses it by the first cause.
 #[tactic(auto, unfolding(crate::specs::Changes::purge_refusal))]
 pub(crate) fn purge<V: Versions>(
     context: &ChangeContext<'_>,
@@ -57,7 +57,7 @@ pub(crate) fn purge<V: Versions>(
     Ok(index.purge(context.alloc, store, limit)?)
 }
 
-/// Whether the repository may forget deleted items.
+/// Whether the policy allows to remove deleted items.
 fn is_transient(deleted: DeletedRecord) -> bool
     ensures { result ≡ spec.is_transient deleted }
 {
@@ -68,7 +68,7 @@ fn is_transient(deleted: DeletedRecord) -> bool
     }
 }
 
-/// The first second of the bound that the text is, where it is one and no finer than the granularity.
+/// The first second of the bound in the text, if it is one and no finer than the granularity.
 fn limit_of(granularity: Granularity, text: &str) -> Option<i64>
     ensures limit { result ≡ spec.limit_of granularity text.now }
     ensures writable { IfSome result IsWritable }
@@ -79,7 +79,7 @@ fn limit_of(granularity: Granularity, text: &str) -> Option<i64>
     }
 }
 
-/// The first second of the bound, where it is no finer than the granularity.
+/// The first second of the bound, if it is no finer than the granularity.
 fn limit_in(granularity: Granularity, bound: Bound) -> Option<i64>
     requires { IsWritableBound bound }
     ensures limit { result ≡ spec.limit_in granularity bound }
@@ -92,8 +92,8 @@ fn limit_in(granularity: Granularity, bound: Bound) -> Option<i64>
     }
 }
 
-/// The deleted ones of the items of datestamps below the limit, in seconds from 1970 on, of the first
-/// `most` of them. Any fault but `TooManyPages` may come.
+/// The deleted ones among the first `most` items with datestamps below the limit, in seconds from 1970 on. Any fault
+/// but `TooManyPages` may come.
 pub(crate) fn deleted_below<V: Versions>(
     alloc: Global,
     store: &mut V,
@@ -121,8 +121,8 @@ pub(crate) fn deleted_below<V: Versions>(
     Ok(gone)
 }
 
-/// Of the items that are asked for, in their order, those after the first `skip`, at most `most` of
-/// them. Any fault but `TooManyPages` may come, and `Damaged` where the store gives more.
+/// The items that the filter selects, in their order, after the first `skip`, at most `most` of them. Any fault but
+/// `TooManyPages` may come, and `Damaged` if the store returns more.
 fn read_some<V: Versions>(
     store: &mut V,
     v: u64,
@@ -143,8 +143,8 @@ fn read_some<V: Versions>(
     Ok(items)
 }
 
-/// How many of `most` items are read where the part came to a question for `some` of them behind the
-/// first `start`: all, where it is shorter, since nothing stands behind it.
+/// How many of `most` items are read after a request for `some` of them after the first `start` returned this part:
+/// all, if it is shorter, since none follows.
 fn after_part(start: usize, some: usize, part: &[Item], most: usize) -> usize
     requires { start + some ≤ most }
     ensures read { result ≡ (if nat_lt (length part.now) some then most else start + some) }
@@ -158,7 +158,7 @@ fn after_part(start: usize, some: usize, part: &[Item], most: usize) -> usize
     }
 }
 
-/// What asks for the items of datestamps below the limit, live and deleted.
+/// The filter for the items with datestamps below the limit, live and deleted.
 fn asked_below(alloc: Global, limit: i64) -> Result<Filter, Fault>
     requires { IsWritable limit }
     ensures ok { IfOk result (λ asked. asked ≡ below limit) }
@@ -167,7 +167,7 @@ fn asked_below(alloc: Global, limit: i64) -> Result<Filter, Fault>
     asked_until(alloc, limit - 1)
 }
 
-/// Puts the deleted ones of the items behind the others. The error is out of memory.
+/// Appends the deleted ones of the items to the others. The error is out of memory.
 fn add_deleted(gone: &mut Vec<Item>, part: Sequence<Item>) -> Result<(), AllocError>
     ensures { OnOk result (gone.new.items ≡ gone.old.items ++ filter is_deleted part) }
 {

@@ -1,4 +1,4 @@
-ghost use Rattle.std.specs.Prelude.{◌≡◌, ◌++◌, true, codes, IfOk, IfSome};
+ghost use Rattle.std.specs.Prelude.{◌≡◌, ◌++◌, [], true, codes, IfOk, IfSome};
 ghost use Rattle.std.specs.Str.{IsUtf8};
 ghost use Rattle.oai_names.specs.Characters.{is_xml_text};
 ghost use Rattle.oai_item.specs.ShortTexts.{is_short_text};
@@ -6,13 +6,14 @@ ghost use Rattle.oai_time.specs.Bound.{IsWritableBound};
 ghost use Rattle.oai_settings.specs.Config as rule;
 ghost use Rattle.oai_settings.specs.Settings as spec;
 ghost use Rattle.oai_settings.specs.SettingsWork.{AreDeclared, AreLimits, IsLimit};
-ghost use Rattle.oai_settings.specs.SettingsWork.{IsDeclared, IsFormatOf, IsPrefixOf};
+ghost use Rattle.oai_settings.specs.SettingsWork.{IsDeclared, IsFormatOf, IsMade, IsPrefixOf};
 
-use crate::settings::{ConfigFault, FormatSettings};
+use crate::settings::{ConfigFault, FormatSettings, Settings, has_shape, is_repository_name};
 use oai_item::{Format, FormatFault, Formats};
 use oai_names::{NameFault, Prefix, Sequence, Text};
 use oai_time::{Bound, Granularity, LAST_TICK, read_bound};
 use std::alloc::{AllocError, Global};
+use std::mem;
 
 /// The first second of the year 0001.
 const FIRST_DATE: i64 = -62_135_596_800;
@@ -42,8 +43,53 @@ pub struct Limits {
     pub items: u64,
 }
 
+/// What a configuration has beside what its settings say as it stands.
+#[derive(Drop)]
+pub(super) struct Made {
+    pub(super) base: Text,
+    pub(super) earliest: i64,
+    pub(super) limits: Limits,
+    pub(super) formats: Formats,
+}
+
+/// Makes it of the settings, and takes their base and their formats out of them. The errors are those
+/// of a configuration.
+#[tactic(auto, unfolding(crate::specs::Settings::config_fault))]
+pub(super) fn made_of(alloc: Global, settings: &mut Settings) -> Result<Made, ConfigFault>
+    ensures made { IsMade settings.old result }
+    ensures rest { IfOk result (λ _. settings.new ≡ record settings.old { base = []; formats = [] }) }
+{
+    if !has_shape(settings) {
+        return Err(ConfigFault::BadShape);
+    }
+    if !is_repository_name(settings.name.as_str()) {
+        return Err(ConfigFault::BadName);
+    }
+    let formats = mem::replace(&mut settings.formats, Sequence::new(Vec::new(alloc)));
+    let formats = declared_formats(alloc, formats)?;
+    let Some(earliest) = read_earliest(settings.granularity, settings.earliest.as_str()) else {
+        return Err(ConfigFault::BadDate);
+    };
+    let Some(limits) = limits_of(
+        settings.chunk,
+        settings.lifetime,
+        settings.lists,
+        settings.items,
+    ) else {
+        return Err(ConfigFault::BadNumber);
+    };
+    let base = mem::replace(&mut settings.base, Text::from_string(String::new(alloc)));
+    let base = base_url(base, settings.name.as_str())?;
+    Ok(Made {
+        base,
+        earliest,
+        limits,
+        formats,
+    })
+}
+
 /// The formats of a repository with these declared after oai_dc.
-pub(super) fn declared_formats(
+fn declared_formats(
     alloc: Global,
     settings: Sequence<FormatSettings>,
 ) -> Result<Formats, ConfigFault>
@@ -105,7 +151,7 @@ fn read_prefix(alloc: Global, text: &str) -> Result<Prefix, ConfigFault>
 /// The seconds of the text, where it is a bound of just this granularity and of the years 0001 to
 /// 9998.
 #[tactic(auto, unfolding(crate::specs::Settings::earliest_of))]
-pub(super) fn read_earliest(granularity: Granularity, text: &str) -> Option<i64>
+fn read_earliest(granularity: Granularity, text: &str) -> Option<i64>
     ensures value { result ≡ spec.earliest_of granularity text.now }
     ensures date { IfSome result (λ seconds. rule.is_date granularity seconds ≡ true) }
 {
@@ -138,7 +184,7 @@ fn is_in_years(seconds: i64) -> bool
 
 /// The limits, where each is a number and in its range.
 #[tactic(auto, unfolding(crate::specs::Settings::are_numbers, crate::specs::Config::are_limits))]
-pub(super) fn limits_of(
+fn limits_of(
     chunk: Option<u64>,
     lifetime: Option<u64>,
     lists: Option<u64>,
@@ -164,7 +210,7 @@ fn limit(most: u64, number: Option<u64>) -> Option<u64>
 
 /// The base URL of the repository: the base, `/oai/` and the name.
 #[tactic(auto, using(crate::proofs::ConfigLemmas::base_url_is_xml_text))]
-pub(super) fn base_url(base: Text, name: &str) -> Result<Text, AllocError>
+fn base_url(base: Text, name: &str) -> Result<Text, AllocError>
     ensures url { IfOk result (λ url. url ≡ base ++ codes "/oai/" ++ name.now) }
     ensures based { IsUtf8 base → is_short_text base ≡ true
         → rule.is_repository_name name.now ≡ true

@@ -1,20 +1,18 @@
--- The start tag, the elements in order, the end tag. The datestamp lies in the range of its type, so that it is passed on
--- as it is.
-use Rattle.std.proofs.Common.{arith, FitsSigned, w64, to_z-of_z}
-use Rattle.std.proofs.lemmas.Int.{ints}
-use Rattle.oai_answers.specs.Documents.{identify_element}
-use Rattle.oai_answers.specs.Markup.{element}
-use Rattle.oai_answers.proofs.Appending.{◌⨾◌}
+-- The start tag, the elements in order, the end tag.
+use Rattle.std.specs.Prelude.{codes}
+use Rattle.oai_time.specs.TimeTexts.{datestamp_text}
+use Rattle.oai_answers.specs.Documents.{deleted_text, granularity_text, identify_element}
+use Rattle.oai_answers.specs.Markup.{element, plain}
+use Rattle.oai_answers.proofs.Appending.{◌⨾◌, before_three}
 use Rattle.oai_answers.proofs.identify.write_identify.Goals as goal
 
 pub returns : goal.returns
 unfolding identify_element element
 returns c =
-    let fits : FitsSigned w64 c.args.identity.now.earliest = omega (arith, ints) in
-    let earliest = simp to_z-of_z at c.in_ok-datestamp_element.ensures in
-    let deleted = rw c.policy_text.ensures at c.in_ok-plain_element-2.ensures in
-    let granularity = rw c.granularity_text.ensures at c.in_ok-plain_element-3.ensures in
+    let d = c.args.identity.now in
+    let earliest = element (codes "earliestDatestamp") (datestamp_text d.granularity d.earliest) in
+    let deleted = element (codes "deletedRecord") (plain (deleted_text d.deleted)) in
+    let granularity = element (codes "granularity") (plain (granularity_text d.granularity)) in
     c.in_ok-start.ensures
-    ⨾ (c.in_ok-text_element.ensures ⨾ c.in_ok-text_element-2.ensures ⨾ c.in_ok-plain_element.ensures
-    ⨾ c.in_ok-text_elements.ensures ⨾ earliest ⨾ deleted ⨾ granularity)
+    ⨾ before_three earliest deleted granularity c.in_ok-write_names.ensures c.in_ok-write_rules.ensures
     ⨾ c.in_ok-end.ensures

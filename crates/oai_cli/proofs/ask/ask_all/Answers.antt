@@ -6,7 +6,7 @@ use Rattle.oai_cli.specs.Inputs.{IsNextLine, left, numbered}
 use Rattle.oai_cli.specs.Asked.{AreEnded}
 use Rattle.oai_cli.proofs.AskedLemmas.{asked_none, asked_stopped, asked_unread, ended_none}
 use Rattle.oai_cli.proofs.ReadLemmas.{read_more, read_none}
-use Rattle.oai_cli.specs.declared.stop.Stop.TheVariants.{InputFault}
+use Rattle.oai_startup.specs.declared.stop.Stop.TheVariants.{InputFault}
 use Rattle.oai_cli.proofs.ask.ask_all.Goals as goal
 
 pub loop-init : goal.loop-init

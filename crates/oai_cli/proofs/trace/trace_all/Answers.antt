@@ -4,7 +4,7 @@ use Rattle.std.proofs.lemmas.Result.{err_from_is_err_and}
 use Rattle.std.specs.Io.KnownBytes.{Appends}
 use Rattle.oai_cli.specs.Inputs.{IsNextLine, left, numbered}
 use Rattle.oai_cli.specs.Traces.{AreLinesCounted, tracing}
-use Rattle.oai_cli.specs.declared.stop.Stop.TheVariants.{InputFault}
+use Rattle.oai_startup.specs.declared.stop.Stop.TheVariants.{InputFault}
 use Rattle.oai_cli.proofs.ReadLemmas.{read_more, read_none}
 use Rattle.oai_cli.proofs.TraceLemmas.{counted_more, counted_none, line_stops, traced_none, traced_stopped, traced_unread, traced_whole, unread_stops}
 use Rattle.oai_cli.proofs.UsedLemmas.{used_none, used_then}

@@ -1,8 +1,30 @@
 use Rattle.std.proofs.Common.{sym, ◌∙◌}
-use Rattle.oai_config.proofs.SettingsLemmas.{settings_of-Some}
+use Rattle.std.proofs.lemmas.Result.{err_from_is_err_and}
+use Rattle.oai_config.specs.declared.repositories.Rules.{Rules}
+use Rattle.oai_config.proofs.PartLemmas.{refused_read, refused_view}
+use Rattle.oai_config.proofs.SettingsLemmas.{no_texts, no_rules, no_formats, settings_of-whole}
 use Rattle.oai_config.proofs.repositories.settings_of.Goals as goal
+
+pub returns-in_err-rules : goal.returns-in_err-rules
+returns-in_err-rules c =
+    let whole = sym c.is_repository.ensures ∙ c.if-not-is_repository.false in
+    let p = err_from_is_err_and c.from_residual.result c.from_residual.ensures.1 in
+    rw (p.1, p.2) (refused_view (λ (rules : Rules). rules) _ _ _ (no_rules c.args.base.now _ whole) c.in_err-rules.ensures)
+
+pub returns-in_err-texts : goal.returns-in_err-texts
+returns-in_err-texts c =
+    let whole = sym c.is_repository.ensures ∙ c.if-not-is_repository.false in
+    let p = err_from_is_err_and c.from_residual-in_err-texts.result c.from_residual-in_err-texts.ensures.1 in
+    rw (p.1, p.2) (refused_read _ _ _ (no_texts c.args.base.now _ whole) c.in_err-texts.ensures)
+
+pub returns-in_err-formats : goal.returns-in_err-formats
+returns-in_err-formats c =
+    let whole = sym c.is_repository.ensures ∙ c.if-not-is_repository.false in
+    let p = err_from_is_err_and c.from_residual-in_err-formats.result c.from_residual-in_err-formats.ensures.1 in
+    rw (p.1, p.2) (refused_read _ _ _ (no_formats c.args.base.now _ whole) c.in_err-formats.ensures)
 
 pub returns : goal.returns
 returns c =
+    let whole = sym c.is_repository.ensures ∙ c.if-not-is_repository.false in
     rw (← c.in_ok-new.ensures)
-    (settings_of-Some _ _ (sym c.is_repository.ensures ∙ c.if-not-is_repository.false) c.in_ok-read_text.ensures c.in_ok-read_text-2.ensures c.in_ok-read_texts.ensures c.in_ok-read_text-3.ensures c.in_ok-deleted.ensures c.in_ok-granularity.ensures c.in_ok-chunk.ensures c.in_ok-lifetime.ensures c.in_ok-lists.ensures c.in_ok-items.ensures c.in_ok-formats_at.ensures)
+    (settings_of-whole _ _ _ _ _ whole c.in_ok-texts.ensures c.in_ok-rules.ensures c.in_ok-formats.ensures)

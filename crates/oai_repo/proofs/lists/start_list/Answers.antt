@@ -33,7 +33,7 @@ set_mark-requires g c =
     let all = g.V.Versions.lists c.args.store.now in
     let begun = c.in_ok-start_unread.ensures.begun in
     let number = (may_begin repo.config.now repo.clock table all c.args.number c.requires.ready.kept.limit c.requires.next).1 in
-    rw begun.opened (numbered_last c.args.number table.lists (begun_list repo table c.args.selection begun.version c.in_ok-size.size) (sym number))
+    rw begun.opened (numbered_last c.args.number table.lists (begun_list repo table c.args.selection.now begun.version c.in_ok-size.size) (sym number))
 
 pub returns-clause-reply : goal.returns-clause-reply
 returns-clause-reply g c = λ honest.
@@ -43,7 +43,7 @@ returns-clause-reply g c = λ honest.
     let config = repo.config.now in
     let table = c.args.lists.now in
     let all = g.V.Versions.lists c.args.store.now in
-    let selection = c.args.selection in
+    let selection = c.args.selection.now in
     let v = repo.index.now.version in
     let items : List ItemState = list_at all v in
     let chosen : List ItemState = view_selected repo all selection.filter in
@@ -53,9 +53,9 @@ returns-clause-reply g c = λ honest.
     let begun = c.in_ok-start_unread.ensures.begun in
     let mark = c.mark_behind-mark.result in
     let entry : OpenList = begun_list repo table selection begun.version c.in_ok-size.size in
-    let part : take config.chunk c.args.first ≡ items_from config list 0 = part_first config.chunk chosen c.args.first (c.requires.first honest) in
-    let page = part_is config list (take config.chunk c.args.first) c.args.number c.in_ok-size.size 0 c.end.result number size c.end.ensures.end part in
-    let told = simp to_z-of_z at (rw (c.as_slice-2.ensures, c.chunk.ensures.chunk) at c.in_ok-reply.ensures) in
+    let part : take config.chunk c.args.first.now ≡ items_from config list 0 = part_first config.chunk chosen c.args.first.now (c.requires.first honest) in
+    let page = part_is config list (take config.chunk c.args.first.now) c.args.number c.in_ok-size.size 0 c.end.result number size c.end.ensures.end part in
+    let told = simp to_z-of_z at (rw c.chunk.ensures.chunk at c.in_ok-reply.ensures) in
     let unused = rw c.count_beyond.ensures.reads.same at begun.unused in
     let frozen = rw c.count_beyond.ensures.reads.same at begun.frozen in
     let later = rw c.end.ensures.end at c.end.ensures.later in
@@ -75,7 +75,7 @@ returns-clause-left g c =
     let config = repo.config.now in
     let table = c.args.lists.now in
     let all = g.V.Versions.lists c.args.store.now in
-    let selection = c.args.selection in
+    let selection = c.args.selection.now in
     let v = repo.index.now.version in
     let mark = c.mark_behind-mark.result in
     let chosen : List ItemState = view_selected repo all selection.filter in
@@ -86,13 +86,13 @@ returns-clause-left g c =
     let frozen = rw c.count_beyond.ensures.reads.same at begun.frozen in
     let last = rw c.end.ensures.end at c.end.ensures.last in
     let marked = opened_marked c.args.number table c.start_unread.new.lists c.set_mark.new.self entry mark begun.valid number refl begun.opened c.set_mark.ensures in
-    let behind = rw (c.as_slice-2.ensures, c.chunk.ensures.chunk, c.chunk-2.ensures.chunk) at c.mark_behind-mark.ensures in
+    let behind = rw (c.chunk.ensures.chunk, c.chunk-2.ensures.chunk) at c.mark_behind-mark.ensures in
     record {
       left = rw (marked, frozen) (left_opened config repo.clock v table all (with_mark mark entry) (list_at all v) c.requires.ready.kept c.requires.ready.stands unused last c.requires.selection.known refl (room_for_one table repo.clock begun.room));
       agrees = λ honest.
           rw (marked, frozen)
           (table_agrees_opened v table all (with_mark mark entry) (list_at all v) c.requires.ready.stands unused (c.in_ok-size.ensures.size honest)
-          (mark_first chosen c.args.first config.chunk mark (c.requires.first honest) c.requires.more behind) (c.requires.ready.agrees honest));
+          (mark_first chosen c.args.first.now config.chunk mark (c.requires.first honest) c.requires.more behind) (c.requires.ready.agrees honest));
       err = tt;
       err_lists = tt;
     }

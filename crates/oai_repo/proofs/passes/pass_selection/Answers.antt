@@ -1,76 +1,17 @@
--- How many items are selected says whether a list begins.
-use Rattle.std.proofs.Common.{◌≡◌, ◌∙◌, ◌<◌, ◌≤◌, List, Some, None, Result, Ok, Err, IsTrue, sym, ap, length, FitsSigned, w64}
-use Rattle.std.specs.Prelude.{OnOk}
-use Rattle.std.proofs.lemmas.Int.{to_z-of_z}
-use Rattle.oai_item.specs.Item.{ItemState}
-use Rattle.oai_lists.specs.OpenLists.{number_or_fault, open_fault}
-use Rattle.oai_lists.specs.declared.lists.OpenFault.TheVariants.{Full, NumbersSpent}
-use Rattle.oai_repo.specs.Views.{view_new_list, view_open_lists, view_selected, view_selection_response}
-use Rattle.oai_repo.proofs.ClockLemmas.{years_fit}
-use Rattle.oai_repo.proofs.PassLemmas.{selection_few, selection_many}
-use Rattle.oai_repo.proofs.WaitLemmas.{may_begin, waits_full, waits_spent}
+-- The items are counted, and nothing is changed by it.
+use Rattle.std.proofs.Common.{◌≡◌, ◌∙◌, IsTrue}
+use Rattle.oai_repo.specs.Views.{view_open_lists, view_selection_response}
+use Rattle.oai_repo.proofs.IndexLemmas.{on_ok}
 use Rattle.oai_repo.proofs.passes.pass_selection.Goals as goal
 
-on_ok_from : {A E : Type 0} (r : Result A E) (P Q : Type 0) → (P → Q) → OnOk r P → OnOk r Q
-on_ok_from (Ok a) P Q f h = f h
-on_ok_from (Err e) P Q f h = tt
-
-pub returns-then-size-chunk-clause-passed : goal.returns-then-size-chunk-clause-passed
-returns-then-size-chunk-clause-passed g c = λ honest.
-    let repo = c.args.repo.now in
-    let table = c.args.lists.now in
-    let all = g.V.Versions.lists c.args.store.now in
-    let selection = c.args.selection in
-    let chosen : List ItemState = view_selected repo all selection.filter in
-    let size : c.in_ok-size.size ≡ length chosen = rw c.version.ensures at (c.in_ok-size.ensures.number honest) in
-    let few : length chosen ≤ repo.config.now.chunk = rw (c.chunk.ensures.chunk, size) at c.if-size-chunk.true in
-    rw c.count.ensures.same (sym (selection_few repo.config.now repo.clock (view_open_lists repo table all) selection.verb selection.format.now chosen few))
-
-pub returns-in-Ok-clause-passed : goal.returns-in-Ok-clause-passed
-returns-in-Ok-clause-passed g c =
+pub returns-clause-passed : goal.returns-clause-passed
+returns-clause-passed g c =
     let V = g.V.Versions in
-    let fits_now : FitsSigned w64 c.args.repo.now.clock = years_fit c.args.repo.now.clock c.requires.ready.dated in
     let repo = c.args.repo.now in
     let table = c.args.lists.now in
-    let all = V.lists c.args.store.now in
-    let selection = c.args.selection in
-    let chosen : List ItemState = view_selected repo all selection.filter in
-    let next = simp to_z-of_z at (sym c.in-Ok.ensures) in
-    let none = may_begin repo.config.now repo.clock table all c.in-Ok.field-0 c.requires.ready.kept.limit next in
-    let from : (IsTrue (V.honest c.count.new.self) → view_open_lists repo c.start_unread.new.lists (V.lists c.start_unread.new.store) ≡ (view_new_list repo table (V.lists c.count.new.self) selection None).1)
-    → IsTrue (V.honest c.args.store.now) → view_open_lists repo c.start_unread.new.lists (V.lists c.start_unread.new.store) ≡ (view_selection_response repo table all selection).1 =
-    λ h honest.
-    let size : c.in_ok-size.size ≡ length chosen = rw c.version.ensures at (c.in_ok-size.ensures.number honest) in
-    let many : repo.config.now.chunk < length chosen = rw (c.chunk.ensures.chunk, size) at c.if-size-chunk.false in
-    let here = rw c.count.ensures.same at (h (c.count.ensures.store.honesty.same ∙ honest)) in
-    here ∙ sym (selection_many repo.config.now repo.clock (view_open_lists repo table all) selection.verb selection.format.now chosen None many none.0)
-    in
-    on_ok_from c.start_unread.result _ _ from c.start_unread.ensures.passed
-
-pub returns-in-Err-Full-clause-passed : goal.returns-in-Err-Full-clause-passed
-returns-in-Err-Full-clause-passed g c = λ honest.
-    let fits_now : FitsSigned w64 c.args.repo.now.clock = years_fit c.args.repo.now.clock c.requires.ready.dated in
-    let repo = c.args.repo.now in
-    let table = c.args.lists.now in
-    let all = g.V.Versions.lists c.args.store.now in
-    let selection = c.args.selection in
-    let chosen : List ItemState = view_selected repo all selection.filter in
-    let next : number_or_fault (open_fault table repo.clock) table.next ≡ Err Full = simp to_z-of_z at (sym c.next.ensures ∙ c.in-Err-Full.is ∙ ap (λ f. Err f) c.in-Err-Full.field-0-is) in
-    let full = waits_full repo.config.now repo.clock table all c.requires.ready.kept.limit next in
-    let size : c.in_ok-size.size ≡ length chosen = rw c.version.ensures at (c.in_ok-size.ensures.number honest) in
-    let many : repo.config.now.chunk < length chosen = rw (c.chunk.ensures.chunk, size) at c.if-size-chunk.false in
-    rw c.count.ensures.same (sym (selection_many repo.config.now repo.clock (view_open_lists repo table all) selection.verb selection.format.now chosen (Some _) many full))
-
-pub returns-in-Err-NumbersSpent-clause-passed : goal.returns-in-Err-NumbersSpent-clause-passed
-returns-in-Err-NumbersSpent-clause-passed g c = λ honest.
-    let fits_now : FitsSigned w64 c.args.repo.now.clock = years_fit c.args.repo.now.clock c.requires.ready.dated in
-    let repo = c.args.repo.now in
-    let table = c.args.lists.now in
-    let all = g.V.Versions.lists c.args.store.now in
-    let selection = c.args.selection in
-    let chosen : List ItemState = view_selected repo all selection.filter in
-    let next : number_or_fault (open_fault table repo.clock) table.next ≡ Err NumbersSpent = simp to_z-of_z at (sym c.next.ensures ∙ c.in-Err-NumbersSpent.is ∙ ap (λ f. Err f) c.in-Err-NumbersSpent.field-0-is) in
-    let spent = waits_spent repo.config.now repo.clock table all c.requires.ready.kept.limit next in
-    let size : c.in_ok-size.size ≡ length chosen = rw c.version.ensures at (c.in_ok-size.ensures.number honest) in
-    let many : repo.config.now.chunk < length chosen = rw (c.chunk.ensures.chunk, size) at c.if-size-chunk.false in
-    rw c.count.ensures.same (sym (selection_many repo.config.now repo.clock (view_open_lists repo table all) selection.verb selection.format.now chosen (Some _) many spent))
+    let selection = c.args.selection.now in
+    let after = view_open_lists repo c.pass_counted.new.lists (V.lists c.pass_counted.new.store) in
+    let from : (IsTrue (V.honest c.count.new.self) → after ≡ (view_selection_response repo table (V.lists c.count.new.self) selection).1)
+    → IsTrue (V.honest c.args.store.now) → after ≡ (view_selection_response repo table (V.lists c.args.store.now) selection).1 =
+    λ passed honest. rw c.count.ensures.same at (passed (c.count.ensures.store.honesty.same ∙ honest)) in
+    on_ok c.pass_counted.result _ _ from c.pass_counted.ensures.passed

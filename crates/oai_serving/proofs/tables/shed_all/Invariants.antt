@@ -1,5 +1,8 @@
-use Rattle.oai_serving.specs.Tables.{AreSent}
+use Rattle.oai_serving.specs.Accepted.{known_of}
+use Rattle.oai_serving.specs.Tables.{AreEnded}
 use Rattle.oai_serving.proofs.tables.shed_all.Given as goal
 
 abbrev pub invariant-loop : goal.invariant-loop
-invariant-loop g l = AreSent g.S.Stream.contents g.S.Stream.remaining l.fn.links l.links
+invariant-loop g l =
+    AreEnded g.S.Stream.contents g.S.Stream.remaining (known_of (g.K.Sockets.accepted l.fn.sockets) (g.K.Sockets.gone l.fn.sockets))
+    (known_of (g.K.Sockets.accepted l.sockets) (g.K.Sockets.gone l.sockets)) l.fn.links l.links

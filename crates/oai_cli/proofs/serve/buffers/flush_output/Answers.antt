@@ -3,7 +3,7 @@ use Rattle.std.proofs.Common.{◌∙◌, ℕ, List, take, refl}
 use Rattle.std.specs.Io.KnownBytes.{append_known}
 use Rattle.oai_cli.specs.Outputs.{output_of}
 use Rattle.oai_cli.proofs.Apart.{apart_same, apart_then, same_begun, taken_less, taken_same, taken_split, taking_apart}
-use Rattle.oai_cli.proofs.KnownLemmas.{put_none, put_on}
+use Rattle.oai_startup.proofs.KnownLemmas.{put_none, put_on}
 use Rattle.oai_cli.proofs.UsedLemmas.{used_none, used_taking, used_then}
 use Rattle.oai_cli.proofs.serve.buffers.flush_output.Goals as goal
 

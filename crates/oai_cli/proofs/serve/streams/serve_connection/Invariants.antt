@@ -1,6 +1,6 @@
 use Rattle.std.proofs.Common.{◌≡◌, vec_len}
 use Rattle.oai_cli.specs.Outputs.{StaysApart, AnswersPieces, IsUsed}
-use Rattle.oai_cli.specs.declared.input.limits.TheConstants.{READ_BYTES}
+use Rattle.oai_startup.specs.declared.limits.TheConstants.{READ_BYTES}
 use Rattle.oai_cli.proofs.serve.streams.serve_connection.Given as goal
 
 -- no other connection was changed, the front was used by its calls, pieces came, and there is room for a whole read

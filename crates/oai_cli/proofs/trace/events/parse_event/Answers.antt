@@ -6,7 +6,7 @@ use Rattle.hex.specs.declared.error.FromHexError.{FromHexError}
 use Rattle.hex.specs.declared.error.FromHexError.TheVariants.{InvalidHexCharacter, InvalidStringLength, OddLength, OutOfMemory}
 use Rattle.oai_cli.specs.EventLines.{IsParsedEvent, coming, stop_at, parse_event}
 use Rattle.oai_cli.specs.ExchangeLines.{is_separator, part, rest}
-use Rattle.oai_cli.specs.Numbers.{moment_of, number_in}
+use Rattle.oai_startup.specs.Numbers.{moment_of, number_in}
 use Rattle.oai_cli.proofs.LineLemmas.{told_all, told_no_piece}
 use Rattle.oai_cli.proofs.trace.events.parse_event.Goals as goal
 

@@ -2,7 +2,7 @@
 use Rattle.std.proofs.Common.{sym, ◌∙◌}
 use Rattle.std.specs.BTreeMap.{get}
 use Rattle.std.specs.Ordering.{nat_cmp}
-use Rattle.oai_cli.proofs.KnownLemmas.{on_ok, on_ok_so}
+use Rattle.oai_startup.proofs.KnownLemmas.{on_ok, on_ok_so}
 use Rattle.oai_cli.proofs.Traced.{left_open, left_over, named_open, named_over, told_open, told_over}
 use Rattle.oai_cli.proofs.UsedLemmas.{used_then}
 use Rattle.oai_cli.proofs.trace.labels.report.Goals as goal

@@ -1,5 +1,8 @@
+use Rattle.oai_serving.specs.Accepted.{known_of}
 use Rattle.oai_serving.specs.Rounds.{AreAccepted}
 use Rattle.oai_serving.proofs.servers.Server.accept_all.Given as goal
 
 abbrev pub invariant-loop : goal.invariant-loop
-invariant-loop g l = AreAccepted g.S.Stream.contents g.S.Stream.remaining (g.K.Sockets.accepted l.fn.sockets) (g.K.Sockets.accepted l.sockets) l.fn.self l.self
+invariant-loop g l =
+    AreAccepted g.S.Stream.contents g.S.Stream.remaining (known_of (g.K.Sockets.accepted l.fn.sockets) (g.K.Sockets.gone l.fn.sockets))
+    (known_of (g.K.Sockets.accepted l.sockets) (g.K.Sockets.gone l.sockets)) l.fn.self l.self

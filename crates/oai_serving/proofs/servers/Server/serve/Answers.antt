@@ -2,19 +2,19 @@
 use Rattle.oai_serving.proofs.RoundLemmas.{rounds_none, rounds_more, service_ended, service_over}
 use Rattle.oai_serving.proofs.servers.Server.serve.Goals as goal
 
-pub loop-init : goal.loop-init
-loop-init g c = rounds_none g.H.Handler.step g.H.Settled.settled g.S.Stream.contents g.S.Stream.remaining (g.K.Sockets.accepted c.args.sockets.now) c.args.self.now
+pub loop-count-init : goal.loop-count-init
+loop-count-init g c = rounds_none g.H.Handler.step g.H.Settled.settled g.S.Stream.contents g.S.Stream.remaining _ c.args.self.now
 
-pub loop-preserved : goal.loop-preserved
-loop-preserved g c =
-    rounds_more g.H.Handler.step g.H.Settled.settled g.S.Stream.contents g.S.Stream.remaining (g.K.Sockets.accepted c.args.sockets.now) (g.K.Sockets.accepted c.loop.sockets) (g.K.Sockets.accepted c.round.new.sockets)
-    c.args.self.now c.loop.self c.round.new.self c.loop.invariant (rw c.in-Ok.is at c.round.ensures)
+pub loop-count-preserved : goal.loop-count-preserved
+loop-count-preserved g c =
+    rounds_more g.H.Handler.step g.H.Settled.settled g.S.Stream.contents g.S.Stream.remaining c.loop-count._count _ _ _ c.args.self.now c.loop-count.self c.round.new.self c.loop-count.invariant
+    (rw c.in-Ok.is at c.round.ensures)
 
 pub returns-in-Err : goal.returns-in-Err
 returns-in-Err g c =
-    service_ended g.H.Handler.step g.H.Settled.settled g.S.Stream.contents g.S.Stream.remaining (g.K.Sockets.accepted c.args.sockets.now) (g.K.Sockets.accepted c.loop.sockets) (g.K.Sockets.accepted c.round.new.sockets)
-    c.args.self.now c.loop.self c.round.new.self c.in-Err.fault c.loop.invariant (rw c.in-Err.is at c.round.ensures)
+    service_ended g.H.Handler.step g.H.Settled.settled g.S.Stream.contents g.S.Stream.remaining c.loop-count._count _ _ _ c.args.self.now c.loop-count.self c.round.new.self c.in-Err.fault c.loop-count.invariant
+    (rw c.in-Err.is at c.round.ensures)
 
 pub returns : goal.returns
 returns g c =
-    service_over g.H.Handler.step g.H.Settled.settled g.S.Stream.contents g.S.Stream.remaining (g.K.Sockets.accepted c.args.sockets.now) (g.K.Sockets.accepted c.loop.sockets) c.args.self.now c.loop.self c.loop.invariant
+    service_over g.H.Handler.step g.H.Settled.settled g.S.Stream.contents g.S.Stream.remaining c.loop-count._count _ _ c.args.self.now c.loop-count.self c.loop-count-test.false c.loop-count.invariant

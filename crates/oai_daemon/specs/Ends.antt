@@ -1,0 +1,22 @@
+-- Why the program stops where its service ended. This repository's own.
+use Rattle.std.specs.Prelude.{ℕ, ℤ, pos, min, Option, Some, None, Result, Ok, Err}
+use Rattle.oai_archive.specs.declared.stop.Stop.{Stop}
+use Rattle.oai_archive.specs.declared.stop.Stop.TheVariants.{CannotWrite, Common, Jumped}
+use Rattle.oai_serving.specs.declared.faults.ServeFault.{ServeFault}
+use Rattle.oai_serving.specs.declared.faults.ServeFault.TheVariants.{Clock, Unsettled, Wait}
+use Rattle.oai_startup.specs.declared.stop.Stop.TheVariants as other
+
+-- a second from 1970 on, as a moment of 64 bits
+abbrev pub moment_at : ℕ → ℤ
+moment_at second = pos (min second 9_223_372_036_854_775_807)
+
+-- the journal could not be written; or the clock jumped to that second, or could not be read; or what became ready could not be learnt
+abbrev pub stop_of : ServeFault → Option ℕ → Stop
+stop_of Wait jumped = Common other.SocketFault
+stop_of Clock None = Common other.InputFault
+stop_of Clock (Some second) = Jumped (moment_at second)
+stop_of Unsettled jumped = CannotWrite
+
+abbrev pub outcome_of : Result Unit ServeFault → Option ℕ → Result Unit Stop
+outcome_of (Ok done) jumped = Ok tt
+outcome_of (Err fault) jumped = Err (stop_of fault jumped)

@@ -1,0 +1,4 @@
+pub mod Begun
+pub mod Configurations
+pub mod Numbers
+pub mod Stops

@@ -1,0 +1,200 @@
+//! Hosts of the worked configuration over the stores that scripts name, and what they answer.
+use crate::scripts::{Script, Way};
+use oai_catalogue::{PlainVersions, Versions};
+use oai_cli::ask_lines;
+use oai_device::MemoryDevice;
+use oai_host::{Config, Host};
+use oai_startup::host_on;
+use std::alloc::Global;
+use std::io::{self, Write};
+use tests_fixtures::{answer_to, body_of, exchange_in, worked_configuration, write_exchanged};
+use tests_samples::with_bytes;
+use tests_stores::{Want, cramped, failing, lying, refusing};
+
+/// Adds what the script is answered by a new host over the store of that name, in which a number stands behind a `:`: of pages
+/// that of the pages of the cache, 1 where there is none, of a store of which a call fails the number of the call, and of one
+/// that does not find items for how many calls it does not.
+pub(crate) fn answers_over(
+    alloc: Global,
+    script: Script<'_>,
+    store: &str,
+    out: &mut Vec<u8>,
+) -> io::Result<()> {
+    let (store, number) = store.split_once(':').unwrap_or((store, "1"));
+    let count = number.parse::<u64>().unwrap_or(1);
+    let Script { way, lines, .. } = script;
+    match store {
+        "lists" => over(alloc, PlainVersions::new(alloc), way, lines, out),
+        "pages" => over_pages(alloc, number, way, lines, out),
+        "failing" => over_failing(alloc, count, way, lines, out),
+        "refusing" => over_refusing(alloc, count, way, lines, out),
+        "without-memory" => over_cramped(alloc, count, Want::Memory, lines, out),
+        "without-pages" => over_cramped(alloc, count, Want::Pages, lines, out),
+        "losing" => over_losing(alloc, count, way, lines, out),
+        _ => out.write_all(b"no such store\n"),
+    }
+}
+
+/// The same over pages in memory, with a cache of so many.
+fn over_pages(
+    alloc: Global,
+    cache: &str,
+    way: Way,
+    lines: &str,
+    out: &mut Vec<u8>,
+) -> io::Result<()> {
+    let told = format!(in alloc; "\"cache\":{cache},")?;
+    let text = worked_configuration().replace(alloc, "\"cache\":1,", told.as_str())?;
+    let Ok(config) = Config::read(alloc, text.as_bytes()) else {
+        return out.write_all(b"no configuration\n");
+    };
+    match host_on(alloc, config, MemoryDevice::new(alloc)) {
+        Ok(mut host) => perform(alloc, &mut host, way, lines, out),
+        Err(_) => out.write_all(b"no host\n"),
+    }
+}
+
+/// The same over lists of which that call fails.
+fn over_failing(
+    alloc: Global,
+    call: u64,
+    way: Way,
+    lines: &str,
+    out: &mut Vec<u8>,
+) -> io::Result<()> {
+    over(
+        alloc,
+        failing(PlainVersions::new(alloc), call),
+        way,
+        lines,
+        out,
+    )
+}
+
+/// The same over lists of which that call is refused memory.
+fn over_refusing(
+    alloc: Global,
+    call: u64,
+    way: Way,
+    lines: &str,
+    out: &mut Vec<u8>,
+) -> io::Result<()> {
+    over(
+        alloc,
+        refusing(PlainVersions::new(alloc), call),
+        way,
+        lines,
+        out,
+    )
+}
+
+/// What exchanges are answered over lists of which that call finds no room.
+fn over_cramped(
+    alloc: Global,
+    call: u64,
+    want: Want,
+    lines: &str,
+    out: &mut Vec<u8>,
+) -> io::Result<()> {
+    let store = cramped(PlainVersions::new(alloc), call, want);
+    over(alloc, store, Way::Exchange, lines, out)
+}
+
+/// The same over lists that do not find an item for so many calls.
+fn over_losing(
+    alloc: Global,
+    calls: u64,
+    way: Way,
+    lines: &str,
+    out: &mut Vec<u8>,
+) -> io::Result<()> {
+    over(
+        alloc,
+        lying(PlainVersions::new(alloc), 0, calls),
+        way,
+        lines,
+        out,
+    )
+}
+
+/// What the lines are answered by a new host over the store, or why there is none.
+fn over<V: Versions + Drop>(
+    alloc: Global,
+    store: V,
+    way: Way,
+    lines: &str,
+    out: &mut Vec<u8>,
+) -> io::Result<()> {
+    let Ok(config) = Config::read(alloc, worked_configuration().as_bytes()) else {
+        return out.write_all(b"no configuration\n");
+    };
+    match Host::new(alloc, config, store) {
+        Ok(mut host) => perform(alloc, &mut host, way, lines, out),
+        Err(fault) => writeln!(out, "no host: {fault}"),
+    }
+}
+
+/// Performs the lines.
+fn perform<V: Versions + Drop>(
+    alloc: Global,
+    host: &mut Host<V>,
+    way: Way,
+    lines: &str,
+    out: &mut Vec<u8>,
+) -> io::Result<()> {
+    match way {
+        Way::Ask => ask(alloc, host, lines, out),
+        Way::Exchange => exchange_all(alloc, host, lines, false, out),
+        Way::ExchangeAgain => exchange_all(alloc, host, lines, true, out),
+    }
+}
+
+/// Performs the lines as those of `ask`.
+fn ask<V: Versions + Drop>(
+    alloc: Global,
+    host: &mut Host<V>,
+    lines: &str,
+    out: &mut Vec<u8>,
+) -> io::Result<()> {
+    let lines = with_bytes(alloc, lines)?;
+    let mut reader = lines.as_slice();
+    match ask_lines(alloc, host, &mut reader, out) {
+        Ok(()) => Ok(()),
+        Err(stop) => writeln!(out, "stopped: {stop}"),
+    }
+}
+
+/// Performs each line as an exchange, and once more, where that is wanted, one that fails.
+fn exchange_all<V: Versions + Drop>(
+    alloc: Global,
+    host: &mut Host<V>,
+    lines: &str,
+    again: bool,
+    out: &mut Vec<u8>,
+) -> io::Result<()> {
+    for line in lines.lines() {
+        let failed = exchange(alloc, host, line, out)?;
+        if failed && again {
+            exchange(alloc, host, line, out)?;
+        }
+    }
+    Ok(())
+}
+
+/// Performs the exchange, and says whether it failed.
+fn exchange<V: Versions + Drop>(
+    alloc: Global,
+    host: &mut Host<V>,
+    line: &str,
+    out: &mut Vec<u8>,
+) -> io::Result<bool> {
+    let line = with_bytes(alloc, line)?;
+    let Some(told) = exchange_in(str::from_utf8(line.as_slice()).unwrap_or("")) else {
+        out.write_all(b"no exchange\n")?;
+        return Ok(false);
+    };
+    let body = body_of(alloc, told)?;
+    let answer = answer_to(host, told, body.as_str());
+    write_exchanged(&answer, out)?;
+    Ok(answer.fault.is_some())
+}

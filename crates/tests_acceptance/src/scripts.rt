@@ -1,0 +1,48 @@
+//! A script: behind `== ` its name, how its lines are performed, and the stores over which they are; and then the lines.
+
+/// A script.
+#[derive(Clone, Copy)]
+pub(crate) struct Script<'a> {
+    /// Its name.
+    pub(crate) name: &'a str,
+    /// How its lines are performed.
+    pub(crate) way: Way,
+    /// The stores, with spaces between.
+    pub(crate) stores: &'a str,
+    /// Its lines.
+    pub(crate) lines: &'a str,
+}
+
+/// How the lines of a script are performed.
+#[derive(Clone, Copy)]
+pub(crate) enum Way {
+    /// As those that `ask` reads.
+    Ask,
+    /// As exchanges, one after the other.
+    Exchange,
+    /// The same, and one that fails is made once more.
+    ExchangeAgain,
+}
+
+impl<'a> Script<'a> {
+    /// The script in the text: its first line, and the others.
+    pub(crate) fn read(text: &'a str) -> Script<'a> {
+        let (head, lines) = text.split_once('\n').unwrap_or((text, ""));
+        let (name, head) = head.split_once(' ').unwrap_or((head, ""));
+        let (way, stores) = head.split_once(' ').unwrap_or((head, ""));
+        Script {
+            name,
+            way: way_named(way),
+            stores,
+            lines,
+        }
+    }
+}
+
+fn way_named(name: &str) -> Way {
+    match name {
+        "ask" => Way::Ask,
+        "exchange-again" => Way::ExchangeAgain,
+        _ => Way::Exchange,
+    }
+}

@@ -1,0 +1,50 @@
+//! Tests of one repository (`oai_repo`): what it answers requests and deposits, without the edge of the program, also in a store
+//! that is not its alone, that lies, or that finds no room; of a harvester's copy (`oai_copy`); of XML documents by their whole
+//! bytes (`oai_answers`); and of what no row of `tests_rows` can call: places among items in order, and the laws of items and of
+//! configurations. It holds nothing else.
+#![tactic(auto)]
+
+#[cfg(test)]
+mod assertions;
+#[cfg(test)]
+mod copies;
+#[cfg(test)]
+mod copy_samples;
+#[cfg(test)]
+mod documents;
+#[cfg(test)]
+mod ended_lists;
+#[cfg(test)]
+mod first_deposit;
+#[cfg(test)]
+mod full_store;
+#[cfg(test)]
+mod handed_out;
+#[cfg(test)]
+mod harvests;
+#[cfg(test)]
+mod laws;
+#[cfg(test)]
+mod lists;
+#[cfg(test)]
+mod lying_store;
+#[cfg(test)]
+mod neighbours;
+#[cfg(test)]
+mod outcomes;
+#[cfg(test)]
+mod page_reads;
+#[cfg(test)]
+mod places;
+#[cfg(test)]
+mod purges;
+#[cfg(test)]
+mod records;
+#[cfg(test)]
+mod repository;
+#[cfg(test)]
+mod restored;
+#[cfg(test)]
+mod samples;
+#[cfg(test)]
+mod transcripts;

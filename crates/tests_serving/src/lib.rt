@@ -1,0 +1,47 @@
+//! Tests of connections (`oai_front`), over a handler that repeats what it was asked, and over a host; of the loop of many
+//! connections (`oai_serving`), over sockets in memory; and of archives that outlive their process (`oai_durable`), over pages and
+//! journals in memory. It holds nothing else.
+#![tactic(auto)]
+
+#[cfg(test)]
+mod answers;
+#[cfg(test)]
+mod archives;
+#[cfg(test)]
+mod assertions;
+#[cfg(test)]
+mod bounds;
+#[cfg(test)]
+mod checkpoints;
+#[cfg(test)]
+mod connections;
+#[cfg(test)]
+mod ends;
+#[cfg(test)]
+mod faults;
+#[cfg(test)]
+mod handler;
+#[cfg(test)]
+mod hostile_heads;
+#[cfg(test)]
+mod hosts;
+#[cfg(test)]
+mod limits;
+#[cfg(test)]
+mod lives;
+#[cfg(test)]
+mod memory;
+#[cfg(test)]
+mod pieces;
+#[cfg(test)]
+mod received;
+#[cfg(test)]
+mod recording_handler;
+#[cfg(test)]
+mod rounds;
+#[cfg(test)]
+mod served;
+#[cfg(test)]
+mod shelves;
+#[cfg(test)]
+mod written_lives;
