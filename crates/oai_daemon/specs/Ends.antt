@@ -10,7 +10,8 @@ use Rattle.oai_startup.specs.declared.stop.Stop.TheVariants as other
 abbrev pub moment_at : ℕ → ℤ
 moment_at second = pos (min second 9_223_372_036_854_775_807)
 
--- the journal could not be written; or the clock jumped to that second, or could not be read; or what became ready could not be learnt
+-- the journal could not be written; or the clock jumped to that second, or could not be read; or what became ready
+-- could not be learnt
 abbrev pub stop_of : ServeFault → Option ℕ → Stop
 stop_of Wait jumped = Common other.SocketFault
 stop_of Clock None = Common other.InputFault
