@@ -1,4 +1,4 @@
-//! What is read of a directory: which items it has.
+//! Reads the items of a directory.
 ghost use Rattle.std.specs.Prelude.{◌≡◌, ◌==◌, ◌&&◌, ◌+◌, ◌*◌, ◌^◌, ◌<◌, ◌≤◌, ◌++◌, ℕ, [], true, false, length, take, drop, filter, HoldsAt, IfErr, IfOk, IfSome, IsSome, IsTrue, OnOk};
 ghost use Rattle.std.specs.List.{flat_map, list_all};
 ghost use Rattle.std.specs.Ordering.{is_eq, is_gt};
@@ -36,7 +36,7 @@ use oai_time::LAST_SECOND;
 use std::alloc::{AllocError, Global};
 use std::cmp::Ordering;
 
-/// What is asked of a directory: the items that pass the filter, of those that stand behind a datestamp, in seconds
+/// What is requested of a directory: the items that pass the filter, of those that come after a datestamp, in seconds
 /// from 1970 on, and an identifier.
 #[derive(Clone, Copy)]
 pub(crate) struct Wanted<'a> {
@@ -48,14 +48,14 @@ pub(crate) struct Wanted<'a> {
     pub(crate) identifier: &'a str,
 }
 
-/// Places of which the wanted items were taken, and how many more are to be skipped.
+/// Leaves of which the wanted items were taken, and how many more are to be skipped.
 #[derive(Clone, Copy)]
 struct PartStep {
     places: usize,
     left: usize,
 }
 
-/// The entries of the page of that number, which is named, and the page of its items. Any fault but `TooManyPages`.
+/// The entries of the page with that number, which is referenced, and a page of items. Any fault but `TooManyPages`.
 fn read_page<P: PagePool>(alloc: Global, pages: &mut P, no: PageNo) -> Result<Entries, Fault>
     requires named { 0 < count_of (P.counts pages.old) no }
     requires page { IsPage (page_at (P.pages pages.old) no) (items_in (page_at (P.pages pages.old) no)) }
@@ -80,8 +80,8 @@ fn read_page<P: PagePool>(alloc: Global, pages: &mut P, no: PageNo) -> Result<En
     }
 }
 
-/// The entry that goes on on overflow pages, of which these are the numbers, the first that of the page of the entry.
-/// All are named. Any fault but `TooManyPages`.
+/// The entry that continues on overflow pages; these are its numbers, first that of the page of the entry. All are
+/// referenced. Any fault but `TooManyPages`.
 fn read_long<P: PagePool>(
     alloc: Global,
     pages: &mut P,
@@ -112,7 +112,7 @@ fn read_long<P: PagePool>(
     }
 }
 
-/// Adds the bytes of the pages of these numbers, which are named. Any fault but `Damaged` and `TooManyPages`.
+/// Appends the bytes of the pages with these numbers, which are referenced. Any fault but `Damaged` and `TooManyPages`.
 fn read_overflow<P: PagePool>(
     pages: &mut P,
     numbers: &[PageNo],
@@ -130,7 +130,7 @@ fn read_overflow<P: PagePool>(
     Ok(())
 }
 
-/// Adds the bytes of the page of that number, which is named. Any fault but `Damaged` and `TooManyPages`.
+/// Appends the bytes of the page with that number, which is referenced. Any fault but `Damaged` and `TooManyPages`.
 fn read_more<P: PagePool>(pages: &mut P, no: PageNo, bytes: &mut Vec<u8>) -> Result<(), Fault>
     requires { 0 < count_of (P.counts pages.old) no }
     ensures bytes { OnOk result (IsTrue (P.honest pages.old) → bytes.new.items ≡ bytes.old.items ++ page_at (P.pages pages.old) no) }
@@ -146,8 +146,8 @@ fn read_more<P: PagePool>(pages: &mut P, no: PageNo, bytes: &mut Vec<u8>) -> Res
     }
 }
 
-/// The entries on the pages of these numbers, which are named: those of a page, or the one that goes on on overflow
-/// pages. Any fault but `TooManyPages`.
+/// The entries on the pages with these numbers, which are referenced: those of a page, or the one that continues on
+/// overflow pages. Any fault but `TooManyPages`.
 fn read_entries<P: PagePool>(
     alloc: Global,
     pages: &mut P,
@@ -167,8 +167,8 @@ fn read_entries<P: PagePool>(
     read_page(alloc, pages, numbers[0])
 }
 
-/// The entries of a place. Any fault but `TooManyPages`. Where it is `Damaged`, none of the pages of the place is kept
-/// in memory.
+/// The entries of a leaf. Any fault but `TooManyPages`. If it is `Damaged`, the pages of the leaf are dropped from
+/// memory.
 pub fn read_place<P: PagePool>(
     alloc: Global,
     pages: &mut P,
@@ -191,7 +191,7 @@ pub fn read_place<P: PagePool>(
     }
 }
 
-/// The entries of a place. Any fault but `TooManyPages`.
+/// The entries of a leaf. Any fault but `TooManyPages`.
 fn read_at<P: PagePool>(
     alloc: Global,
     pages: &mut P,
@@ -219,14 +219,14 @@ fn read_at<P: PagePool>(
     Ok(entries)
 }
 
-/// Whether the items are as many, and of as many bytes, as those of the place.
+/// Whether the items are as many, and of as many bytes, as those of the leaf.
 fn are_all(entries: &Entries, place: &SharedPlace) -> bool
     ensures { result ≡ (length entries.now == place.now.len && size_of entries.now == place.now.size) }
 {
     entries.len() == place.len() && entries.size() == place.size()
 }
 
-/// Whether the items, which are in their order, stand before those of the next place, where there is one.
+/// Whether the items, which are in their order, precede those of the next leaf, if there is one.
 fn are_below(entries: &Entries, places: &[SharedPlace]) -> bool
     requires { are_in_order entries.now ≡ true }
     ensures { result ≡ are_below entries.now places.now }
@@ -237,7 +237,7 @@ fn are_below(entries: &Entries, places: &[SharedPlace]) -> bool
     }
 }
 
-/// The item of that datestamp, in seconds from 1970 on, and identifier, or None. It reads one page, and the overflow
+/// The item with that datestamp, in seconds from 1970 on, and identifier, or None. It reads one page, and the overflow
 /// pages of an item that it returns, and decodes no other item. Any fault but `TooManyPages`.
 pub fn find<P: PagePool>(
     alloc: Global,
@@ -268,8 +268,8 @@ pub fn find<P: PagePool>(
     }
 }
 
-/// The item of that datestamp, in seconds from 1970 on, and identifier of those of the place, which has one page, or
-/// None. Any fault but `TooManyPages`. Where it is `Damaged`, the page is not kept in memory.
+/// The item with that datestamp, in seconds from 1970 on, and identifier in the leaf, which has one page, or None. Any
+/// fault but `TooManyPages`. If it is `Damaged`, the page is dropped from memory.
 fn find_at<P: PagePool>(
     alloc: Global,
     pages: &mut P,
@@ -293,8 +293,7 @@ fn find_at<P: PagePool>(
     }
 }
 
-/// Where the fault is `Damaged`, none of the pages of the place is kept in memory, so that each is read from the device
-/// again.
+/// If the fault is `Damaged`, drops the pages of the leaf from memory, so that each is read from the device again.
 pub(crate) fn forget_damaged<P: PagePool>(pages: &mut P, place: &SharedPlace, fault: Fault)
     ensures { Forgets P.PagePool pages.old pages.new }
 {
@@ -303,8 +302,8 @@ pub(crate) fn forget_damaged<P: PagePool>(pages: &mut P, place: &SharedPlace, fa
     }
 }
 
-/// The item of that datestamp, in seconds from 1970 on, and identifier of those of the place, which has one page, or
-/// None. Any fault but `TooManyPages`.
+/// The item with that datestamp, in seconds from 1970 on, and identifier in the leaf, which has one page, or None. Any
+/// fault but `TooManyPages`.
 fn find_in<P: PagePool>(
     alloc: Global,
     pages: &mut P,
@@ -336,8 +335,8 @@ fn find_in<P: PagePool>(
     }
 }
 
-/// Whether the place has one item alone, which goes on on overflow pages, and that is not the one of this datestamp, in
-/// seconds from 1970 on, and identifier.
+/// Whether the leaf has one item alone, which continues on overflow pages, and does not have this datestamp, in seconds
+/// from 1970 on, and identifier.
 fn is_other(place: &SharedPlace, stamp: i64, identifier: &str) -> bool
     ensures { IsTrue result → (1 < length place.now.pages) × (is_eq (first_cmp place.now stamp identifier.now) ≡ false) }
 {
@@ -347,9 +346,8 @@ fn is_other(place: &SharedPlace, stamp: i64, identifier: &str) -> bool
     false
 }
 
-/// How many items pass the filter. It reads the pages of those places only that are partly within the bounds, or of
-/// whose items it is not known that they have the prefix, or how many are in the set that is asked for. Any fault but
-/// `TooManyPages`.
+/// How many items pass the filter. It reads only the pages of leaves that are partly within the bounds, or of which it
+/// is not known whether all items have the prefix, or how many are in the requested set. Any fault but `TooManyPages`.
 pub fn count<P: PagePool>(
     alloc: Global,
     pages: &mut P,
@@ -367,9 +365,8 @@ pub fn count<P: PagePool>(
     count_wanted(alloc, pages, places, groups, Wanted::all(filter))
 }
 
-/// Of the items that pass the filter, in their order, those after the first `skip`, at most `most` of them. It passes
-/// over places by the number of their items, and reads the pages of the items that it answers. Any fault but
-/// `TooManyPages`.
+/// The items that pass the filter, in their order, after the first `skip`, at most `most` of them. It skips leaves by
+/// the number of their items, and reads the pages of the items that it returns. Any fault but `TooManyPages`.
 pub fn part<P: PagePool>(
     alloc: Global,
     pages: &mut P,
@@ -396,9 +393,9 @@ pub fn part<P: PagePool>(
     )
 }
 
-/// Of the items that pass the filter, in their order, those that stand behind this datestamp, in seconds from 1970 on,
-/// and identifier, at most `most` of them. It begins with a search, and reads the pages of the items that it answers.
-/// Any fault but `TooManyPages`.
+/// The items that pass the filter, in their order, that come after this datestamp, in seconds from 1970 on, and
+/// identifier, at most `most` of them. It begins with a binary search, and reads the pages of the items that it
+/// returns. Any fault but `TooManyPages`.
 pub fn part_after<P: PagePool>(
     alloc: Global,
     pages: &mut P,
@@ -454,7 +451,7 @@ fn count_wanted<P: PagePool>(
     Ok(total)
 }
 
-/// Of the wanted items, in their order, those after the first `skip`, at most `most` of them.
+/// The wanted items, in their order, after the first `skip`, at most `most` of them.
 fn part_wanted<P: PagePool>(
     alloc: Global,
     pages: &mut P,
@@ -505,7 +502,7 @@ impl<'a> Wanted<'a> {
     }
 }
 
-/// The first place that may have wanted items.
+/// The first leaf that may have wanted items.
 fn start_of(places: &[SharedPlace], wanted: Wanted<'_>) -> usize
     ensures { StartsAt places.now wanted.entry.filter.now wanted.entry.stamp wanted.entry.identifier.now result }
 {
@@ -517,7 +514,7 @@ fn start_of(places: &[SharedPlace], wanted: Wanted<'_>) -> usize
     }
 }
 
-/// How many items of the place are wanted, where that is known without reading its pages.
+/// How many items of the leaf are wanted, if it is known without reading its pages.
 fn known_at(places: &[SharedPlace], at: usize, wanted: Wanted<'_>) -> Option<usize>
     requires { at < length places.now }
     ensures { IfSome result (λ n. IsKnown places.now at wanted.entry.filter.now wanted.entry.stamp wanted.entry.identifier.now n) }
@@ -538,8 +535,8 @@ fn known_at(places: &[SharedPlace], at: usize, wanted: Wanted<'_>) -> Option<usi
     None
 }
 
-/// Whether it is known without reading its page that all items of the place are wanted that are in the set, where one
-/// is asked for.
+/// Whether it is known without reading its page that all items of the leaf are wanted that are in the set, if one is
+/// requested.
 fn is_inside(places: &[SharedPlace], at: usize, wanted: Wanted<'_>) -> bool
     requires { at < length places.now }
     ensures { IsTrue result → IsInside places.now at wanted.entry.filter.now wanted.entry.stamp wanted.entry.identifier.now }
@@ -558,8 +555,8 @@ fn is_inside(places: &[SharedPlace], at: usize, wanted: Wanted<'_>) -> bool
     ends_by(&places[at + 1..], filter.upper)
 }
 
-/// Whether it is known without reading its pages that no item of the place is wanted: it has one alone, which goes on
-/// on overflow pages, and that stands before the lower bound, or not behind the datestamp and identifier.
+/// Whether it is known without reading its pages that no item of the leaf is wanted: it has one alone, which continues
+/// on overflow pages, and precedes the lower bound, or does not come after the datestamp and identifier.
 fn is_outside(places: &[SharedPlace], at: usize, wanted: Wanted<'_>) -> bool
     requires { at < length places.now }
     ensures { IsTrue result → IsOutside places.now at wanted.entry.filter.now wanted.entry.stamp wanted.entry.identifier.now }
@@ -575,7 +572,7 @@ fn is_outside(places: &[SharedPlace], at: usize, wanted: Wanted<'_>) -> bool
     place.order_to(wanted.stamp, wanted.identifier) != Ordering::Greater
 }
 
-/// Whether all items before these places have a datestamp of at most `upper`, in seconds from 1970 on.
+/// Whether all items before these leaves have a datestamp of at most `upper`, in seconds from 1970 on.
 pub(crate) fn ends_by(places: &[SharedPlace], upper: i64) -> bool
     ensures { IsTrue result → EndsBy places.now upper }
 {
@@ -585,8 +582,7 @@ pub(crate) fn ends_by(places: &[SharedPlace], upper: i64) -> bool
     }
 }
 
-/// How many items are wanted of some places from `at` on: those of a group, where that is known of it, or else one
-/// place.
+/// How many items are wanted of some leaves from `at` on: those of a group, if it is known of it, or else one leaf.
 fn count_from<P: PagePool>(
     alloc: Global,
     pages: &mut P,
@@ -613,7 +609,7 @@ fn count_from<P: PagePool>(
     Ok(Stretch { places: 1, items })
 }
 
-/// How many items of the place are wanted.
+/// How many items of the leaf are wanted.
 fn count_at<P: PagePool>(
     alloc: Global,
     pages: &mut P,
@@ -650,7 +646,7 @@ fn count_in(entries: &Entries, wanted: Wanted<'_>) -> usize
     count
 }
 
-/// Whether the item at that place is wanted.
+/// Whether the item at that position is wanted.
 fn is_wanted(entries: &Entries, at: usize, wanted: Wanted<'_>) -> bool
     requires { at < length entries.now }
     ensures { HoldsAt (λ item. result ≡ is_wanted wanted.entry.filter.now wanted.entry.stamp wanted.entry.identifier.now item) entries.now at }
@@ -658,7 +654,7 @@ fn is_wanted(entries: &Entries, at: usize, wanted: Wanted<'_>) -> bool
     is_item_wanted(&entries.spelled(at), wanted)
 }
 
-/// Whether the item is wanted. Its setSpecs are looked at first: of a set that is asked for most items are not.
+/// Whether the item is wanted. Its setSpecs are tested first, since most items are not in a requested set.
 pub(crate) fn is_item_wanted(item: &Spelling<'_>, wanted: Wanted<'_>) -> bool
     ensures { result ≡ is_wanted wanted.entry.filter.now wanted.entry.stamp wanted.entry.identifier.now item.now }
 {
@@ -668,7 +664,7 @@ pub(crate) fn is_item_wanted(item: &Spelling<'_>, wanted: Wanted<'_>) -> bool
     is_behind(item, wanted) && passes(item, wanted.filter)
 }
 
-/// Whether the item is in the set, where one is given.
+/// Whether the item is in the set, if one is given.
 fn is_in_given(item: &Spelling<'_>, filter: &Filter) -> bool
     ensures { result ≡ is_in_given filter.now.set item.now.sets }
 {
@@ -678,14 +674,14 @@ fn is_in_given(item: &Spelling<'_>, filter: &Filter) -> bool
     }
 }
 
-/// Whether the item stands behind the datestamp and identifier.
+/// Whether the item comes after the datestamp and identifier.
 fn is_behind(item: &Spelling<'_>, wanted: Wanted<'_>) -> bool
     ensures { result ≡ is_gt (place_cmp item.now wanted.entry.stamp wanted.entry.identifier.now) }
 {
     item.order_to(wanted.stamp, wanted.identifier) == Ordering::Greater
 }
 
-/// Whether the item is asked for.
+/// Whether the item passes the filter.
 fn passes(item: &Spelling<'_>, filter: &Filter) -> bool
     ensures { result ≡ passes filter.now item.now }
 {
@@ -697,8 +693,8 @@ fn passes(item: &Spelling<'_>, filter: &Filter) -> bool
     )
 }
 
-/// Adds the wanted items of some places from `at` on after the first `skip` to the part, up to `most`, and answers how
-/// many are then left to be skipped: those of a group that is passed over, or else one place.
+/// Appends the wanted items of some leaves from `at` on after the first `skip` to the part, up to `most`; returns how
+/// many remain to be skipped: those of a group that is skipped, or else one leaf.
 fn take_from<P: PagePool>(
     alloc: Global,
     pages: &mut P,
@@ -733,8 +729,8 @@ fn take_from<P: PagePool>(
     Ok(PartStep { places: 1, left })
 }
 
-/// Adds the wanted items of the place after the first `skip` to the part, up to `most`, and answers how many are then
-/// left to be skipped.
+/// Appends the wanted items of the leaf after the first `skip` to the part, up to `most`; returns how many remain to be
+/// skipped.
 fn take_at<P: PagePool>(
     alloc: Global,
     pages: &mut P,
@@ -765,8 +761,8 @@ fn take_at<P: PagePool>(
     Ok(take_in(alloc, &entries, wanted, skip, most, part)?)
 }
 
-/// Adds to the part those of the entries that are wanted, behind the first `skip` of them, until the part has `most`
-/// items; returns how many are still to be skipped. The error is out of memory.
+/// Appends to the part those of the entries that are wanted, after the first `skip` of them, until the part has `most`
+/// items; returns how many remain to be skipped. The error is out of memory.
 fn take_in(
     alloc: Global,
     entries: &Entries,
