@@ -57,14 +57,15 @@ abbrev pub AreAllThere : {S : Type 0} → List S → List (ℕ × S) → Slab (L
 AreAllThere {S} accepted gone links =
     (number : ℕ) → 1 ≤ number → number ≤ length accepted → HasLinkOf number links ⊎ ((last : S) × Contains gone (number, last))
 
--- of all streams that were accepted: each stands under a link, or was let go, and its client received no more than the front of the answers to those
--- of its own messages that were served
+-- of all streams that were accepted: each stands under a link, or was let go, and its client received no more than the
+-- front of the answers to those of its own messages that were served
 pub record AreAllAnswered {S : Type 0} (contents remaining : S → Option (List ℕ)) (accepted : List S) (gone : List (ℕ × S)) (served : List Served) (links : Slab (Link S)) : Type 0 where
   pub linked : AreLinksAnswered contents remaining accepted served links
   pub over : AreGoneAnswered contents remaining accepted gone served
   pub all : AreAllThere accepted gone links
 
--- of all streams that were accepted: each stands under a link, which is what came of it, or was let go, and then no link has its number
+-- of all streams that were accepted: each stands under a link, which is what came of it, or was let go, and then no
+-- link has its number
 pub record AreAllKept {S : Type 0} (contents remaining : S → Option (List ℕ)) (accepted : List S) (gone : List (ℕ × S)) (served : List Served) (links : Slab (Link S)) : Type 0 where
   pub kept : AreLinksKept contents remaining accepted served links
   pub over : AreGoneAnswered contents remaining accepted gone served
