@@ -18,7 +18,7 @@ use Rattle.oai_durable.specs.Records.{Leaving}
 use Rattle.oai_durable.specs.Recovered.{HasRedone, IsRecovered}
 use Rattle.oai_daemon.specs.Archives.{archived}
 
--- all records of the journal behind its first one were read and replayed, from that beginning
+-- all records of the journal after its first one were read and replayed, from that beginning
 abbrev pub HasRedoneAll : {H K D : Type 0} → (H → K) → (H → Bool) → Leaving K → (D → List ℕ) → (D → List ℕ → Type 0) → K → H → Recovery D → Entry → Type 0
 HasRedoneAll kept is_honest leaving seen may_leave begun handler recovery first =
     (count : ℕ) × IsRecovered kept is_honest leaving seen may_leave begun handler recovery first count
