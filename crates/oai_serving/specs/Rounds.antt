@@ -114,7 +114,7 @@ served_in rounds = flat_map (λ (served : List Served). served) rounds
 abbrev pub AreSettled : {H : Type 0} → Steps H → Settles H → List (List Served) → H → H → Type 0
 AreSettled {H} step settled rounds old new = Chain (λ served before after. (mid : H) × Serves step before served mid × settled mid (Ok tt) after) rounds old new
 
--- so many rounds, all of them Ok
+-- that many rounds, all of them Ok
 pub record AreRounds {S H : Type 0} (step : Steps H) (settled : Settles H) (contents remaining : S → Option (List ℕ)) (count : ℕ) (known later : Known S) (old new : World S H) : Type 0 where
   pub rounds : List (List Served)
   pub many : length rounds ≡ count
