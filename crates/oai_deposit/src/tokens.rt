@@ -53,7 +53,7 @@ fn take_deposit<'a>(alloc: Global, reader: &mut Reader<'a>) -> Option<DepositTex
     })
 }
 
-/// Reads the brace that opens a deposit, and the member of its identifier.
+/// Takes the brace that stands next and opens a deposit, and the member of its identifier.
 fn take_identifier<'a>(reader: &mut Reader<'a>) -> Option<&'a str>
     ensures { IfSome result (λ identifier. reader.old
         ≡ token.Token.begin_object ∷ token.Token.key (codes "deposit") ∷ token.Token.string identifier.now
@@ -64,7 +64,7 @@ fn take_identifier<'a>(reader: &mut Reader<'a>) -> Option<&'a str>
     take_text(reader)
 }
 
-/// Reads the member of the records, and the brace that closes the deposit.
+/// Takes the member of the records that stands next, and the brace that closes the deposit behind it.
 fn take_last_records(alloc: Global, reader: &mut Reader<'_>) -> Option<Records>
     ensures { IfSome result (λ records. reader.old
         ≡ token.Token.key (codes "records") ∷ (tokens.records_tokens records
@@ -76,7 +76,7 @@ fn take_last_records(alloc: Global, reader: &mut Reader<'_>) -> Option<Records>
     Some(records)
 }
 
-/// Reads the next array of strings.
+/// Takes the array of strings that stands next.
 fn take_texts<'a>(alloc: Global, reader: &mut Reader<'a>) -> Option<Vec<&'a str>>
     ensures { IfSome result (λ texts. reader.old
         ≡ tokens.array_tokens tokens.text_tokens (map (λ text. text.now) texts.items) ++ reader.new) }

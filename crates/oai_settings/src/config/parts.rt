@@ -52,8 +52,8 @@ pub(super) struct Made {
     pub(super) formats: Formats,
 }
 
-/// Makes the parts from the settings, and takes the base and the formats out of these. The errors are those of a
-/// configuration.
+/// Makes it of the settings, and takes their base and their formats out of them. The errors are those
+/// of a configuration.
 #[tactic(auto, unfolding(crate::specs::Settings::config_fault))]
 pub(super) fn made_of(alloc: Global, settings: &mut Settings) -> Result<Made, ConfigFault>
     ensures made { IsMade settings.old result }
