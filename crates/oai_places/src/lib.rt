@@ -1,5 +1,5 @@
-//! Items on pages: how they are spelled there, the places of pages with what is known of their items, and what is
-//! read of the items of places that follow one another.
+//! Items on leaf pages: how they are encoded there, the leaves with their statistics, and reads of the items of
+//! consecutive leaves.
 #![tactic(auto)]
 
 mod entries;

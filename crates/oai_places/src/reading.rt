@@ -28,7 +28,7 @@ use oai_pool::{PageKind, PageNo, PagePool};
 use std::alloc::Global;
 use std::cmp::Ordering;
 
-/// The entries of the page of that number, which is named, and the page of its items. Any fault but `TooManyPages`.
+/// The entries of the page with that number, which is referenced, and a page of items. Any fault but `TooManyPages`.
 fn read_page<P: PagePool>(alloc: Global, pages: &mut P, no: PageNo) -> Result<Entries, Fault>
     requires named { 0 < count_of (P.counts pages.old) no }
     requires page { IsPage (page_at (P.pages pages.old) no) (items_in (page_at (P.pages pages.old) no)) }
@@ -53,8 +53,8 @@ fn read_page<P: PagePool>(alloc: Global, pages: &mut P, no: PageNo) -> Result<En
     }
 }
 
-/// The entry that goes on on overflow pages, of which these are the numbers, the first that of the page of the entry.
-/// All are named. Any fault but `TooManyPages`.
+/// The entry that continues on overflow pages; these are its numbers, first that of the page of the entry. All are
+/// referenced. Any fault but `TooManyPages`.
 fn read_long<P: PagePool>(
     alloc: Global,
     pages: &mut P,
@@ -85,7 +85,7 @@ fn read_long<P: PagePool>(
     }
 }
 
-/// Adds the bytes of the pages of these numbers, which are named. Any fault but `Damaged` and `TooManyPages`.
+/// Appends the bytes of the pages with these numbers, which are referenced. Any fault but `Damaged` and `TooManyPages`.
 fn read_overflow<P: PagePool>(
     pages: &mut P,
     numbers: &[PageNo],
@@ -103,7 +103,7 @@ fn read_overflow<P: PagePool>(
     Ok(())
 }
 
-/// Adds the bytes of the page of that number, which is named. Any fault but `Damaged` and `TooManyPages`.
+/// Appends the bytes of the page with that number, which is referenced. Any fault but `Damaged` and `TooManyPages`.
 fn read_more<P: PagePool>(pages: &mut P, no: PageNo, bytes: &mut Vec<u8>) -> Result<(), Fault>
     requires { 0 < count_of (P.counts pages.old) no }
     ensures bytes { OnOk result (IsTrue (P.honest pages.old) → bytes.new.items ≡ bytes.old.items ++ page_at (P.pages pages.old) no) }
@@ -119,8 +119,8 @@ fn read_more<P: PagePool>(pages: &mut P, no: PageNo, bytes: &mut Vec<u8>) -> Res
     }
 }
 
-/// The entries on the pages of these numbers, which are named: those of a page, or the one that goes on on overflow
-/// pages. Any fault but `TooManyPages`.
+/// The entries on the pages with these numbers, which are referenced: those of a page, or the one that continues on
+/// overflow pages. Any fault but `TooManyPages`.
 fn read_entries<P: PagePool>(
     alloc: Global,
     pages: &mut P,
@@ -140,8 +140,8 @@ fn read_entries<P: PagePool>(
     read_page(alloc, pages, numbers[0])
 }
 
-/// The entries of a place. Any fault but `TooManyPages`. Where it is `Damaged`, none of the pages of the place is kept
-/// in memory.
+/// The entries of a leaf. Any fault but `TooManyPages`. If it is `Damaged`, the pages of the leaf are dropped from
+/// memory.
 pub fn read_place<P: PagePool>(
     alloc: Global,
     pages: &mut P,
@@ -164,7 +164,7 @@ pub fn read_place<P: PagePool>(
     }
 }
 
-/// The entries of a place. Any fault but `TooManyPages`.
+/// The entries of a leaf. Any fault but `TooManyPages`.
 fn read_at<P: PagePool>(
     alloc: Global,
     pages: &mut P,
@@ -201,14 +201,14 @@ fn are_of(entries: &Entries, place: &SharedPlace, next: &[SharedPlace]) -> bool
     are_below(entries, next)
 }
 
-/// Whether the items are as many, and of as many bytes, as those of the place.
+/// Whether the items are as many, and of as many bytes, as those of the leaf.
 fn are_all(entries: &Entries, place: &SharedPlace) -> bool
     ensures { result ≡ (length entries.now == place.now.len && size_of entries.now == place.now.size) }
 {
     entries.len() == place.len() && entries.size() == place.size()
 }
 
-/// Whether the items, which are in their order, stand before those of the next place, where there is one.
+/// Whether the items, which are in their order, precede those of the next leaf, if there is one.
 fn are_below(entries: &Entries, places: &[SharedPlace]) -> bool
     requires { are_in_order entries.now ≡ true }
     ensures { result ≡ are_below entries.now places.now }
@@ -219,7 +219,7 @@ fn are_below(entries: &Entries, places: &[SharedPlace]) -> bool
     }
 }
 
-/// The item of that datestamp, in seconds from 1970 on, and identifier, or None. It reads one page, and the overflow
+/// The item with that datestamp, in seconds from 1970 on, and identifier, or None. It reads one page, and the overflow
 /// pages of an item that it returns, and decodes no other item. Any fault but `TooManyPages`.
 pub fn find<P: PagePool>(
     alloc: Global,
@@ -250,8 +250,8 @@ pub fn find<P: PagePool>(
     }
 }
 
-/// The item of that datestamp, in seconds from 1970 on, and identifier of those of the place, which has one page, or
-/// None. Any fault but `TooManyPages`. Where it is `Damaged`, the page is not kept in memory.
+/// The item with that datestamp, in seconds from 1970 on, and identifier in the leaf, which has one page, or None. Any
+/// fault but `TooManyPages`. If it is `Damaged`, the page is dropped from memory.
 fn find_at<P: PagePool>(
     alloc: Global,
     pages: &mut P,
@@ -275,8 +275,7 @@ fn find_at<P: PagePool>(
     }
 }
 
-/// Where the fault is `Damaged`, none of the pages of the place is kept in memory, so that each is read from the device
-/// again.
+/// If the fault is `Damaged`, drops the pages of the leaf from memory, so that each is read from the device again.
 pub(crate) fn forget_damaged<P: PagePool>(pages: &mut P, place: &SharedPlace, fault: Fault)
     ensures { Forgets P.PagePool pages.old pages.new }
 {
@@ -285,8 +284,8 @@ pub(crate) fn forget_damaged<P: PagePool>(pages: &mut P, place: &SharedPlace, fa
     }
 }
 
-/// The item of that datestamp, in seconds from 1970 on, and identifier of those of the place, which has one page, or
-/// None. Any fault but `TooManyPages`.
+/// The item with that datestamp, in seconds from 1970 on, and identifier in the leaf, which has one page, or None. Any
+/// fault but `TooManyPages`.
 fn find_in<P: PagePool>(
     alloc: Global,
     pages: &mut P,
@@ -332,8 +331,8 @@ fn find_tested(
     find_on_page(alloc, page, stamp, identifier)
 }
 
-/// Whether the place has one item alone, which goes on on overflow pages, and that is not the one of this datestamp, in
-/// seconds from 1970 on, and identifier.
+/// Whether the leaf has one item alone, which continues on overflow pages, and does not have this datestamp, in seconds
+/// from 1970 on, and identifier.
 fn is_other(place: &SharedPlace, stamp: i64, identifier: &str) -> bool
     ensures { IsTrue result → (1 < length place.now.pages) × (is_eq (first_cmp place.now stamp identifier.now) ≡ false) }
 {

@@ -27,8 +27,8 @@ use oai_time::LAST_SECOND;
 use std::alloc::{AllocError, Global};
 use std::cmp::Ordering;
 
-/// What is asked of a directory: the items that pass the filter, of those that stand behind a datestamp, in seconds from
-/// 1970 on, and an identifier.
+/// What is requested of a directory: the items that pass the filter, of those that come after a datestamp, in seconds
+/// from 1970 on, and an identifier.
 #[derive(Clone, Copy)]
 pub(crate) struct Wanted<'a> {
     /// What the items pass.
@@ -39,15 +39,15 @@ pub(crate) struct Wanted<'a> {
     pub(crate) identifier: &'a str,
 }
 
-/// Places of which the wanted items were taken, and how many more are to be skipped.
+/// Leaves of which the wanted items were taken, and how many more are to be skipped.
 #[derive(Clone, Copy)]
 struct PartStep {
     places: usize,
     left: usize,
 }
 
-/// How many items pass the filter. It reads the pages of those places only that are partly within the bounds, or of whose items it is not known that they
-/// have the prefix, or how many are in the set that is asked for. Any fault but `TooManyPages`.
+/// How many items pass the filter. It reads only the pages of leaves that are partly within the bounds, or of which it
+/// is not known whether all items have the prefix, or how many are in the requested set. Any fault but `TooManyPages`.
 pub fn count<P: PagePool>(
     alloc: Global,
     pages: &mut P,
@@ -65,8 +65,8 @@ pub fn count<P: PagePool>(
     count_wanted(alloc, pages, places, groups, Wanted::all(filter))
 }
 
-/// Of the items that pass the filter, in their order, those after the first `skip`, at most `most` of them. It passes over places by the number of their
-/// items, and reads the pages of the items that it answers. Any fault but `TooManyPages`.
+/// The items that pass the filter, in their order, after the first `skip`, at most `most` of them. It skips leaves by
+/// the number of their items, and reads the pages of the items that it returns. Any fault but `TooManyPages`.
 pub fn part<P: PagePool>(
     alloc: Global,
     pages: &mut P,
@@ -93,8 +93,9 @@ pub fn part<P: PagePool>(
     )
 }
 
-/// Of the items that pass the filter, in their order, those that stand behind this datestamp, in seconds from 1970 on, and identifier, at most `most` of
-/// them. It begins with a search, and reads the pages of the items that it answers. Any fault but `TooManyPages`.
+/// The items that pass the filter, in their order, that come after this datestamp, in seconds from 1970 on, and
+/// identifier, at most `most` of them. It begins with a binary search, and reads the pages of the items that it
+/// returns. Any fault but `TooManyPages`.
 pub fn part_after<P: PagePool>(
     alloc: Global,
     pages: &mut P,
@@ -150,7 +151,7 @@ fn count_wanted<P: PagePool>(
     Ok(total)
 }
 
-/// Of the wanted items, in their order, those after the first `skip`, at most `most` of them.
+/// The wanted items, in their order, after the first `skip`, at most `most` of them.
 fn part_wanted<P: PagePool>(
     alloc: Global,
     pages: &mut P,
@@ -201,7 +202,7 @@ impl<'a> Wanted<'a> {
     }
 }
 
-/// The first place that may have wanted items.
+/// The first leaf that may have wanted items.
 fn start_of(places: &[SharedPlace], wanted: Wanted<'_>) -> usize
     ensures { StartsAt places.now wanted.entry.filter.now wanted.entry.stamp wanted.entry.identifier.now result }
 {
@@ -213,7 +214,7 @@ fn start_of(places: &[SharedPlace], wanted: Wanted<'_>) -> usize
     }
 }
 
-/// How many items of the place are wanted, where that is known without reading its pages.
+/// How many items of the leaf are wanted, if it is known without reading its pages.
 fn known_at(places: &[SharedPlace], at: usize, wanted: Wanted<'_>) -> Option<usize>
     requires { at < length places.now }
     ensures { IfSome result (λ n. IsKnown places.now at wanted.entry.filter.now wanted.entry.stamp wanted.entry.identifier.now n) }
@@ -234,7 +235,8 @@ fn known_at(places: &[SharedPlace], at: usize, wanted: Wanted<'_>) -> Option<usi
     None
 }
 
-/// Whether it is known without reading its page that all items of the place are wanted that are in the set, where one is asked for.
+/// Whether it is known without reading its page that all items of the leaf are wanted that are in the set, if one is
+/// requested.
 fn is_inside(places: &[SharedPlace], at: usize, wanted: Wanted<'_>) -> bool
     requires { at < length places.now }
     ensures { IsTrue result → IsInside places.now at wanted.entry.filter.now wanted.entry.stamp wanted.entry.identifier.now }
@@ -253,8 +255,8 @@ fn is_inside(places: &[SharedPlace], at: usize, wanted: Wanted<'_>) -> bool
     ends_by(&places[at + 1..], filter.upper)
 }
 
-/// Whether it is known without reading its pages that no item of the place is wanted: it has one alone, which goes on on overflow pages, and that stands
-/// before the lower bound, or not behind the datestamp and identifier.
+/// Whether it is known without reading its pages that no item of the leaf is wanted: it has one alone, which continues
+/// on overflow pages, and precedes the lower bound, or does not come after the datestamp and identifier.
 fn is_outside(places: &[SharedPlace], at: usize, wanted: Wanted<'_>) -> bool
     requires { at < length places.now }
     ensures { IsTrue result → IsOutside places.now at wanted.entry.filter.now wanted.entry.stamp wanted.entry.identifier.now }
@@ -270,7 +272,7 @@ fn is_outside(places: &[SharedPlace], at: usize, wanted: Wanted<'_>) -> bool
     place.order_to(wanted.stamp, wanted.identifier) != Ordering::Greater
 }
 
-/// Whether all items before these places have a datestamp of at most `upper`, in seconds from 1970 on.
+/// Whether all items before these leaves have a datestamp of at most `upper`, in seconds from 1970 on.
 pub(crate) fn ends_by(places: &[SharedPlace], upper: i64) -> bool
     ensures { IsTrue result → EndsBy places.now upper }
 {
@@ -280,7 +282,7 @@ pub(crate) fn ends_by(places: &[SharedPlace], upper: i64) -> bool
     }
 }
 
-/// How many items are wanted of some places from `at` on: those of a group, where that is known of it, or else one place.
+/// How many items are wanted of some leaves from `at` on: those of a group, if it is known of it, or else one leaf.
 fn count_from<P: PagePool>(
     alloc: Global,
     pages: &mut P,
@@ -307,7 +309,7 @@ fn count_from<P: PagePool>(
     Ok(Stretch { places: 1, items })
 }
 
-/// How many items of the place are wanted.
+/// How many items of the leaf are wanted.
 fn count_at<P: PagePool>(
     alloc: Global,
     pages: &mut P,
@@ -344,7 +346,7 @@ fn count_in(entries: &Entries, wanted: Wanted<'_>) -> usize
     count
 }
 
-/// Whether the item at that place is wanted.
+/// Whether the item at that position is wanted.
 fn is_wanted(entries: &Entries, at: usize, wanted: Wanted<'_>) -> bool
     requires { at < length entries.now }
     ensures { HoldsAt (λ item. result ≡ is_wanted wanted.entry.filter.now wanted.entry.stamp wanted.entry.identifier.now item) entries.now at }
@@ -352,7 +354,7 @@ fn is_wanted(entries: &Entries, at: usize, wanted: Wanted<'_>) -> bool
     is_item_wanted(&entries.spelled(at), wanted)
 }
 
-/// Whether the item is wanted. Its setSpecs are looked at first: of a set that is asked for most items are not.
+/// Whether the item is wanted. Its setSpecs are tested first, since most items are not in a requested set.
 pub(crate) fn is_item_wanted(item: &Spelling<'_>, wanted: Wanted<'_>) -> bool
     ensures { result ≡ is_wanted wanted.entry.filter.now wanted.entry.stamp wanted.entry.identifier.now item.now }
 {
@@ -362,7 +364,7 @@ pub(crate) fn is_item_wanted(item: &Spelling<'_>, wanted: Wanted<'_>) -> bool
     is_behind(item, wanted) && passes(item, wanted.filter)
 }
 
-/// Whether the item is in the set, where one is given.
+/// Whether the item is in the set, if one is given.
 fn is_in_given(item: &Spelling<'_>, filter: &Filter) -> bool
     ensures { result ≡ is_in_given filter.now.set item.now.sets }
 {
@@ -372,14 +374,14 @@ fn is_in_given(item: &Spelling<'_>, filter: &Filter) -> bool
     }
 }
 
-/// Whether the item stands behind the datestamp and identifier.
+/// Whether the item comes after the datestamp and identifier.
 fn is_behind(item: &Spelling<'_>, wanted: Wanted<'_>) -> bool
     ensures { result ≡ is_gt (place_cmp item.now wanted.entry.stamp wanted.entry.identifier.now) }
 {
     item.order_to(wanted.stamp, wanted.identifier) == Ordering::Greater
 }
 
-/// Whether the item is asked for.
+/// Whether the item passes the filter.
 fn passes(item: &Spelling<'_>, filter: &Filter) -> bool
     ensures { result ≡ passes filter.now item.now }
 {
@@ -391,8 +393,8 @@ fn passes(item: &Spelling<'_>, filter: &Filter) -> bool
     )
 }
 
-/// Adds the wanted items of some places from `at` on after the first `skip` to the part, up to `most`, and answers how many are then left to be skipped:
-/// those of a group that is passed over, or else one place.
+/// Appends the wanted items of some leaves from `at` on after the first `skip` to the part, up to `most`; returns how
+/// many remain to be skipped: those of a group that is skipped, or else one leaf.
 fn take_from<P: PagePool>(
     alloc: Global,
     pages: &mut P,
@@ -427,7 +429,8 @@ fn take_from<P: PagePool>(
     Ok(PartStep { places: 1, left })
 }
 
-/// Adds the wanted items of the place after the first `skip` to the part, up to `most`, and answers how many are then left to be skipped.
+/// Appends the wanted items of the leaf after the first `skip` to the part, up to `most`; returns how many remain to be
+/// skipped.
 fn take_at<P: PagePool>(
     alloc: Global,
     pages: &mut P,
@@ -479,8 +482,8 @@ fn take_read<P: PagePool>(
     Ok(take_in(alloc, &entries, wanted, skip, most, part)?)
 }
 
-/// Adds to the part those of the entries that are wanted, behind the first `skip` of them, until the part has `most`
-/// items; returns how many are still to be skipped. The error is out of memory.
+/// Appends to the part those of the entries that are wanted, after the first `skip` of them, until the part has `most`
+/// items; returns how many remain to be skipped. The error is out of memory.
 fn take_in(
     alloc: Global,
     entries: &Entries,
