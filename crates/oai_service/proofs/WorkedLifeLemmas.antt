@@ -383,6 +383,7 @@ is_life begun found deeds lost waits fit lost_fit may =
       none = refl;
       serves = record {
         rounds = rounds_of kept deeds;
+        many = tt;
         mid = settled;
         settles = settle_deeds kept found deeds fit;
         ends = record {

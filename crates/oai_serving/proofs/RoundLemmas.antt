@@ -445,19 +445,19 @@ module _ {S H : Type 0} (step : Steps H) (settled : Settles H) (contents remaini
         (s.kept accepted gone earlier before k));
   }
 
-  pub service_over : (known later : Known S) (a b : World S H) → AreRounds step settled contents remaining 18_446_744_073_709_551_615 known later a b
-      → IsService step settled contents remaining known later a (Ok tt) b
-  service_over known later a b s = record {
+  pub service_over : (count : ℕ) (known later : Known S) (a b : World S H) → count ≡ 18_446_744_073_709_551_615
+      → AreRounds step settled contents remaining count known later a b → IsService step settled contents remaining known later a (Ok tt) b
+  service_over count known later a b all s = record {
     rounds = s.rounds;
-    many = s.many;
+    many = s.many ∙ all;
     mid = b.handler;
     settles = s.settles;
     ends = refl;
     streams = s.streams;
     parted = s.parted;
     passes = s.passes;
-    answered = λ accepted gone earlier count k.
-        all_answered contents remaining (accepted ++ s.streams) (gone ++ s.parted) (earlier ++ served_in s.rounds) b.links (s.kept accepted gone earlier count k);
+    answered = λ accepted gone earlier before k.
+        all_answered contents remaining (accepted ++ s.streams) (gone ++ s.parted) (earlier ++ served_in s.rounds) b.links (s.kept accepted gone earlier before k);
   }
 
 -- ---- a link that was put in
