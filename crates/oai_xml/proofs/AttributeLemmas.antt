@@ -1,5 +1,5 @@
 -- Attributes: what each step of a reading reads, and what is kept of them.
-use Rattle.std.proofs.Common.{◌≡◌, ◌∙◌, ◌+◌, ◌<◌, ◌≤◌, ℕ, zero, suc, Bool, true, false, cond, List, [], ◌∷◌, ◌++◌, Result, Ok, Err, length, map, refl, sym, ap, subst, arith, append_assoc, append-nil}
+use Rattle.std.proofs.Common.{◌≡◌, ◌∙◌, ◌<◌, ℕ, zero, suc, true, false, List, [], ◌∷◌, ◌++◌, Ok, Err, length, map, refl, sym, ap, arith, append_assoc, append-nil}
 use Rattle.std.specs.Prelude.{filter}
 use Rattle.std.specs.List.{flat_map}
 use Rattle.std.proofs.lemmas.Bool.{cond-true, cond-false}
@@ -11,7 +11,7 @@ use Rattle.oai_xml.specs.Readings.{Reading, ◌>>=◌, read}
 use Rattle.oai_xml.specs.Parts.{past_spaces}
 use Rattle.oai_xml.specs.Tags.{attributes_in, spaced_attribute_in, ends_tag}
 use Rattle.oai_xml.specs.Trees.{Attribute, spelled_attribute}
-use Rattle.oai_xml.specs.Namespaces.{Declaration, Scope, declared, declaration_of, is_declaring}
+use Rattle.oai_xml.specs.Namespaces.{Scope, declared, declaration_of, is_declaring}
 use Rattle.oai_xml.specs.Whole.{names_of}
 use Rattle.oai_xml.proofs.ValueLemmas.{cat}
 

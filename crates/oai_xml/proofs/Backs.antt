@@ -1,17 +1,17 @@
 -- What is spelled is read back: bytes of values and of texts.
-use Rattle.std.proofs.Common.{◌≡◌, ◌∙◌, ◌+◌, ◌<◌, ◌≤◌, ℕ, zero, suc, Bool, true, false, ◌&&◌, ◌||◌, not, cond, eqb, List, [], ◌∷◌, ◌++◌, Result, Ok, Err, length, drop, refl, sym, ap, subst, arith, append_assoc}
+use Rattle.std.proofs.Common.{◌≡◌, ◌∙◌, ◌<◌, ℕ, Bool, true, false, cond, eqb, List, [], ◌∷◌, ◌++◌, Ok, length, refl, sym, ap, subst, arith, append_assoc}
 use Rattle.std.specs.Prelude.{codes}
-use Rattle.std.proofs.lemmas.Bool.{and_left, eqb-true, cond-true, cond-false}
+use Rattle.std.proofs.lemmas.Bool.{eqb-true}
 use Rattle.std.proofs.lemmas.Bool.Decides.{nat_tests}
 use lib.Utf8.{encode}
 use Rattle.oai_names.specs.Escapes.{escaped, escaped_attribute, attribute_spelling, text_spelling}
 use Rattle.oai_xml.specs.Answers.{Goes}
-use Rattle.oai_xml.specs.Readings.{Reading, ◌>>=◌, read, begins, behind}
+use Rattle.oai_xml.specs.Readings.{◌>>=◌, read, begins}
 use Rattle.oai_xml.specs.Parts.{reference_in, number_in, digits_in, entity_in}
-use Rattle.oai_xml.specs.Tags.{value_in, value_byte}
-use Rattle.oai_xml.specs.Trees.{Content, nothing, followed_by, text_of}
+use Rattle.oai_xml.specs.Tags.{value_byte}
+use Rattle.oai_xml.specs.Trees.{followed_by, text_of}
 use Rattle.oai_xml.specs.Namespaces.{Scope}
-use Rattle.oai_xml.specs.Contents.{piece_in, content_in}
+use Rattle.oai_xml.specs.Contents.{content_in}
 use Rattle.oai_xml.proofs.Goings.{goes_none, goes_then}
 use Rattle.oai_xml.proofs.ValueLemmas.{cat, cat_joins, values, value_plain, value_referred}
 use Rattle.oai_xml.proofs.Pieces.{contents, piece_goes, piece_reference, byte_goes}

@@ -1,12 +1,12 @@
 -- Runs of bytes that pass a test, and bytes that stand for themselves.
-use Rattle.std.proofs.Common.{◌≡◌, ◌∙◌, ◌+◌, ◌-◌, ◌<◌, ◌≤◌, ◌⊎◌, inl, inr, ℕ, zero, suc, Bool, true, false, ◌&&◌, ◌||◌, not, cond, eqb, List, [], ◌∷◌, ◌++◌, Result, Ok, Err, length, take, drop, refl, sym, ap, subst, arith, append-nil, take-append-drop}
+use Rattle.std.proofs.Common.{◌≡◌, ◌∙◌, ◌+◌, ◌-◌, ◌<◌, ◌≤◌, ◌⊎◌, inl, inr, ℕ, suc, Bool, true, false, ◌||◌, cond, eqb, List, [], ◌∷◌, ◌++◌, Ok, Err, length, take, drop, refl, sym, ap, subst, arith, append-nil, take-append-drop}
 use Rattle.std.specs.Prelude.{codes}
 use Rattle.std.specs.List.{list_all, prefix_len}
-use Rattle.std.proofs.lemmas.Bool.{and_from, and_parts, cond-true, cond-false, eqb-false, eqb-true, true≢false}
+use Rattle.std.proofs.lemmas.Bool.{and_from, and_parts, cond-true, cond-false, true≢false}
 use Rattle.std.proofs.lemmas.Bool.Decides.{nat_tests}
 use Rattle.oai_names.specs.Escapes.{escaped, escaped_text, escaped_attribute, attribute_spelling, text_spelling}
 use Rattle.oai_xml.specs.Answers.{Goes, formed, is_bare_value_byte, is_bare_text_byte}
-use Rattle.oai_xml.specs.Readings.{Reading, read, begins}
+use Rattle.oai_xml.specs.Readings.{begins}
 use Rattle.oai_xml.specs.Trees.{text_of}
 use Rattle.oai_xml.specs.Contents.{character_in}
 use Rattle.oai_xml.specs.declared.values.Form.{Form}

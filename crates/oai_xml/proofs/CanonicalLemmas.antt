@@ -1,28 +1,26 @@
 -- What is read is an element, and an element is read as itself.
-use Rattle.std.proofs.Common.{◌≡◌, ◌∙◌, ◌+◌, ◌-◌, ◌<◌, ◌≤◌, ℕ, zero, suc, Bool, true, false, ◌&&◌, not, cond, eqb, List, [], ◌∷◌, ◌++◌, Option, Some, None, Result, Ok, Err, length, map, take, drop, refl, sym, ap, subst, arith, append-nil, append_assoc}
+use Rattle.std.proofs.Common.{◌≡◌, ◌∙◌, ◌-◌, ℕ, suc, Bool, true, false, ◌&&◌, not, cond, eqb, List, [], ◌∷◌, ◌++◌, Some, Result, Ok, Err, length, take, refl, sym, ap, subst, arith, append-nil}
 use Rattle.std.specs.Prelude.{codes}
 use Rattle.std.specs.List.{list_all, flat_map}
-use Rattle.std.specs.Char.{len_utf8}
 use Rattle.std.specs.Result.{result_ok}
-use Rattle.std.specs.Str.{chars, IsUtf8, is_utf8}
-use Rattle.std.proofs.lemmas.Bool.{and_from, and_parts, and_left, not-true, cond-true, cond-false, true≢false, eq-eqb}
+use Rattle.std.specs.Str.{chars, is_utf8}
+use Rattle.std.proofs.lemmas.Bool.{and_from, and_parts, and_left, not-true, cond-true, cond-false, eq-eqb}
 use Rattle.std.proofs.lemmas.Bool.Decides.{nat_tests}
-use Rattle.std.proofs.lemmas.List.{take_all, append_cancel_left, length-append}
-use Rattle.std.proofs.lemmas.Str.{encodes-chars, length-encode, IsUtf8-from_is_utf8, is_utf8-from_IsUtf8}
-use lib.Utf8.{encodes, encode}
-use Rattle.oai_names.specs.Characters.{is_xml_char, is_xml_text}
+use Rattle.std.proofs.lemmas.List.{take_all, append_cancel_left}
+use Rattle.std.proofs.lemmas.Str.{IsUtf8-from_is_utf8, is_utf8-from_IsUtf8}
+use Rattle.oai_names.specs.Characters.{is_xml_text}
 use Rattle.oai_names.specs.Escapes.{escaped, escaped_attribute, attribute_spelling, text_spelling}
 use Rattle.oai_names.proofs.Lists.{all-weaker}
-use Rattle.oai_xml.specs.Readings.{Reading, Passing, ◌>>=◌, read, begins, behind, past}
+use Rattle.oai_xml.specs.Readings.{◌>>=◌, begins, behind, past}
 use Rattle.oai_xml.specs.QNames.{is_name_byte, is_qname}
 use Rattle.oai_xml.specs.Parts.{past_spaces}
 use Rattle.oai_xml.specs.Trees.{Attribute, Content, Tree, nothing, byte, element, spelled_attribute, spelled_content, spelled, start_tag, end_tag}
 use Rattle.oai_xml.specs.Namespaces.{Scope}
-use Rattle.oai_xml.specs.Whole.{names_of, within, is_content_whole, is_whole_in, is_whole, is_tag_whole, Spells, IsElement}
+use Rattle.oai_xml.specs.Whole.{names_of, within, is_content_whole, is_whole, Spells, IsElement}
 use Rattle.oai_xml.specs.Contents.{element_in, content_in}
 use Rattle.oai_xml.specs.Documents.{begins_spaces, opening_in, misc_in, root_in, prolog_in, tail_in, document_in, legal_len, legal_front, lines, normalized, place_of, placed, is_spelled_text, accepted, element_of, canonical, tree_in}
 use Rattle.oai_xml.specs.declared.limits.TheConstants.{MAX_DEPTH}
-use Rattle.oai_xml.proofs.TagBacks.{begun_apart, named, no_spaces}
+use Rattle.oai_xml.proofs.TagBacks.{begun_apart, named}
 use Rattle.oai_xml.proofs.ContentBacks.{Whole, tag_parts, tree_parts, content_parts, byte_part, behind_tag, spelled_text, tree_back}
 use Rattle.oai_xml.proofs.ReadWhole.{no_ok, same_ok, bound_ok, if_ok, same_read, element_whole_read, content_reads_whole}
 use Rattle.oai_xml.proofs.LegalLemmas.{legal_whole}

@@ -1,25 +1,24 @@
 -- What is spelled is read back: contents and elements.
-use Rattle.std.proofs.Common.{◌≡◌, ◌∙◌, ◌+◌, ◌-◌, ◌<◌, ◌≤◌, ℕ, suc, Bool, true, false, ◌&&◌, not, cond, eqb, List, [], ◌∷◌, ◌++◌, Result, Ok, Err, length, refl, sym, ap, subst, arith, append_assoc, append-nil}
+use Rattle.std.proofs.Common.{◌≡◌, ◌∙◌, ◌-◌, ◌<◌, ℕ, Bool, true, false, ◌&&◌, not, cond, eqb, List, [], ◌∷◌, ◌++◌, Ok, length, refl, sym, ap, subst, arith, append_assoc, append-nil}
 use Rattle.std.specs.Prelude.{codes}
 use Rattle.std.specs.List.{list_all, flat_map}
-use Rattle.std.specs.Option.{is_some}
 use Rattle.std.proofs.lemmas.Bool.{and_parts, cond-true, not-true}
 use Rattle.std.proofs.lemmas.List.{length-append}
 use Rattle.oai_names.specs.Escapes.{text_spelling}
 use Rattle.oai_xml.specs.Answers.{Goes}
-use Rattle.oai_xml.specs.Readings.{Reading, ◌>>=◌, read, begins, behind, past}
+use Rattle.oai_xml.specs.Readings.{◌>>=◌, read, begins, past}
 use Rattle.oai_xml.specs.QNames.{is_qname}
 use Rattle.oai_xml.specs.Tags.{Start, start_in, end_in}
 use Rattle.oai_xml.specs.Trees.{Attribute, Content, Tree, nothing, byte, element, followed_by, text_of, alone, spelled_attribute, spelled_content, spelled, start_tag, end_tag}
 use Rattle.oai_xml.specs.Namespaces.{Declaration, Scope, declared}
 use Rattle.oai_xml.specs.Whole.{names_of, within, has_default, are_names_whole, is_tag_whole, is_content_whole, is_whole_in}
-use Rattle.oai_xml.specs.Contents.{ReadsContent, completion, completed, completed_start, closed_start, whole_start_in, inside_in, element_in, markup_in, content_in}
+use Rattle.oai_xml.specs.Contents.{completion, completed, completed_start, closed_start, whole_start_in, inside_in, element_in, content_in}
 use Rattle.oai_xml.proofs.Goings.{goes_none, goes_then, goes_end}
 use Rattle.oai_xml.proofs.Pieces.{contents, piece_goes, content_closed, piece_markup}
 use Rattle.oai_xml.proofs.Backs.{text_byte_back}
-use Rattle.oai_xml.proofs.Spellings.{nothing_spelled, byte_spelled, element_spelled, tree_spelled, followed_none, followed_joins, one_text}
+use Rattle.oai_xml.proofs.Spellings.{nothing_spelled, byte_spelled, element_spelled, tree_spelled, followed_none, followed_joins}
 use Rattle.oai_xml.proofs.TagBacks.{begun_apart, start_back, end_back}
-use Rattle.oai_xml.proofs.ElementPieces.{element_whole, inside_full, markup_element, tree_of}
+use Rattle.oai_xml.proofs.ElementPieces.{element_whole, inside_full, markup_element}
 
 -- ---- start tags
 

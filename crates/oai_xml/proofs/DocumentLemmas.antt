@@ -1,18 +1,17 @@
 -- Documents, as the code reads them, and the texts that they are.
-use Rattle.std.proofs.Common.{◌≡◌, ◌∙◌, ◌+◌, ◌-◌, ◌<◌, ◌≤◌, ℕ, suc, Bool, true, false, ◌&&◌, cond, eqb, List, [], ◌∷◌, ◌++◌, Result, Ok, Err, length, take, refl, sym, ap, subst, arith}
+use Rattle.std.proofs.Common.{◌≡◌, ◌∙◌, ◌-◌, ◌<◌, ℕ, suc, true, false, ◌&&◌, cond, eqb, List, [], ◌∷◌, ◌++◌, Result, Ok, Err, length, take, refl, sym, ap, arith}
 use Rattle.std.specs.Prelude.{codes}
 use Rattle.std.specs.List.{list_any}
 use Rattle.std.specs.Str.{chars, IsUtf8, is_utf8}
 use Rattle.std.proofs.lemmas.Bool.{and_from, and_left, and_right, eq-eqb, false_from_ne_true, or_parts, cond-true, cond-false}
 use Rattle.std.proofs.lemmas.Str.{IsUtf8-from_is_utf8, is_utf8-from_IsUtf8}
 use Rattle.oai_names.specs.Characters.{is_xml_text}
-use Rattle.oai_xml.specs.Answers.{Leaves, Stops, StopsIn}
-use Rattle.oai_xml.specs.Readings.{Reading, Passing, ◌>>=◌, read, past}
+use Rattle.oai_xml.specs.Answers.{Stops, StopsIn}
+use Rattle.oai_xml.specs.Readings.{Passing, ◌>>=◌, past}
 use Rattle.oai_xml.specs.Trees.{Tree, spelled}
 use Rattle.oai_xml.specs.Contents.{element_in, content_in}
 use Rattle.oai_xml.specs.Documents.{opening_in, misc_in, prolog_in, tail_in, root_in, document_in, legal_len, legal_front, lines, normalized, origin, placed, place_of, is_spelled_text, accepted, element_of, canonical}
 use Rattle.oai_xml.specs.Reads.{IsRead, IsFrontRead, IsTaken, IsFaultOf}
-use Rattle.oai_xml.specs.declared.faults.Fault.{Fault}
 use Rattle.oai_xml.specs.declared.faults.Stop.{Stop}
 use Rattle.oai_xml.specs.declared.faults.Stop.TheVariants.{At}
 use Rattle.oai_xml.specs.declared.faults.Stop.TheVariants as stop

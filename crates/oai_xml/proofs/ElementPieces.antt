@@ -1,20 +1,18 @@
 -- Elements and pieces of content, as the code reads them.
-use Rattle.std.proofs.Common.{◌≡◌, ◌∙◌, ◌+◌, ◌-◌, ◌<◌, ◌≤◌, ◌⊎◌, ⊎_elim, ℕ, suc, Bool, true, false, cond, eqb, List, [], ◌∷◌, ◌++◌, Result, Ok, Err, IfOk, length, drop, take, refl, sym, ap, subst, arith, append_assoc, append-nil}
+use Rattle.std.proofs.Common.{◌≡◌, ◌∙◌, ◌-◌, ◌<◌, ⊎_elim, ℕ, true, false, eqb, List, ◌++◌, Result, Ok, Err, IfOk, length, take, refl, sym, ap, subst, arith, append_assoc, append-nil}
 use Rattle.std.specs.Prelude.{codes}
-use Rattle.std.specs.List.{list_all}
 use Rattle.std.proofs.lemmas.Bool.{cond-true, cond-false}
 use Rattle.std.proofs.lemmas.List.{take_at, length-append}
 use denote.Ref.{Bor}
 use Rattle.oai_names.specs.Escapes.{escaped_text}
-use Rattle.oai_xml.specs.Answers.{Goes, Leaves, LeavesIn, LeavesPiece, Stops, StopsIn, AreCharacters, is_bare_text_byte}
+use Rattle.oai_xml.specs.Answers.{Goes, Leaves, LeavesIn, LeavesPiece, Stops, StopsIn, AreCharacters}
 use Rattle.oai_xml.specs.Readings.{Reading, ◌>>=◌, read, begins, behind, past}
 use Rattle.oai_xml.specs.Parts.{reference_in}
 use Rattle.oai_xml.specs.Tags.{Start, end_in}
-use Rattle.oai_xml.specs.Trees.{Attribute, Content, Tree, nothing, followed_by, text_of, alone, spelled_content, spelled, start_tag, end_tag}
+use Rattle.oai_xml.specs.Trees.{Content, Tree, nothing, followed_by, text_of, alone, spelled_content, spelled, start_tag, end_tag}
 use Rattle.oai_xml.specs.Namespaces.{Scope, declared}
 use Rattle.oai_xml.specs.Whole.{within}
-use Rattle.oai_xml.specs.Contents.{ReadsContent, whole_start_in, inside_in, element_in, section_in, left_out_in, left_out_comment_in, cdata_section_in, markup_in, character_in, piece_in, content_in}
-use Rattle.oai_xml.specs.declared.faults.Fault.{Fault}
+use Rattle.oai_xml.specs.Contents.{ReadsContent, whole_start_in, inside_in, element_in, section_in, left_out_in, left_out_comment_in, cdata_section_in, markup_in, content_in}
 use Rattle.oai_xml.specs.declared.faults.Stop.{Stop}
 use Rattle.oai_xml.specs.declared.faults.Stop.TheVariants.{At, NoMemory}
 use Rattle.oai_xml.proofs.Goings.{goes_none, goes_then, goes_end, goes_wrong}

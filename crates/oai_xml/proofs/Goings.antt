@@ -1,5 +1,5 @@
 -- Readings in steps: one piece after another.
-use Rattle.std.proofs.Common.{◌≡◌, ◌∙◌, ◌+◌, ◌<◌, ◌≤◌, ℕ, List, Result, Ok, Err, length, refl, sym, ap}
+use Rattle.std.proofs.Common.{◌≡◌, ◌∙◌, ◌<◌, ℕ, List, Ok, Err, length, refl, sym, ap}
 use Rattle.oai_xml.specs.Answers.{before, Goes, GoesOn}
 use Rattle.oai_xml.specs.Readings.{Reading, Passing}
 

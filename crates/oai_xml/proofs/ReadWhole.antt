@@ -1,11 +1,11 @@
 -- What is read is whole.
-use Rattle.std.proofs.Common.{◌≡◌, ◌∙◌, ◌+◌, ◌-◌, ◌<◌, ◌≤◌, ℕ, zero, suc, Bool, true, false, ◌&&◌, not, cond, eqb, List, [], ◌∷◌, ◌++◌, Result, Ok, Err, length, map, take, drop, refl, sym, ap, subst, arith, append-nil}
+use Rattle.std.proofs.Common.{◌≡◌, ◌∙◌, ◌-◌, ℕ, zero, suc, Bool, true, false, ◌&&◌, not, cond, eqb, List, [], ◌∷◌, ◌++◌, Result, Ok, Err, length, take, drop, refl, sym, ap}
 use Rattle.std.specs.Prelude.{codes}
 use Rattle.std.specs.List.{list_all, prefix_len}
-use Rattle.std.proofs.lemmas.Bool.{and_from, and_parts, not_from_false, true≢false}
-use Rattle.oai_xml.specs.Readings.{Reading, ◌>>=◌, read, begins, behind, past}
-use Rattle.oai_xml.specs.QNames.{is_qname, is_ncname, is_name_byte, prefix_of, local_of}
-use Rattle.oai_xml.specs.Parts.{name_in, qname_in, past_spaces, past_space, past_equals, reference_in, comment_in, instruction_in, cdata_in}
+use Rattle.std.proofs.lemmas.Bool.{and_from, and_parts, not_from_false}
+use Rattle.oai_xml.specs.Readings.{◌>>=◌, read, begins, behind, past}
+use Rattle.oai_xml.specs.QNames.{is_qname, is_name_byte, prefix_of, local_of}
+use Rattle.oai_xml.specs.Parts.{name_in, qname_in, past_spaces, past_space, past_equals, reference_in, comment_in, instruction_in}
 use Rattle.oai_xml.specs.Tags.{Start, quoted_in, attribute_in, spaced_attribute_in, ends_tag, attributes_in, start_in, end_in}
 use Rattle.oai_xml.specs.Trees.{Attribute, Content, Tree, nothing, byte, element, followed_by, text_of, alone}
 use Rattle.oai_xml.specs.Namespaces.{Scope, declared}

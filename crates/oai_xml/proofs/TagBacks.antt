@@ -1,16 +1,16 @@
 -- What is spelled is read back: names, attributes and tags.
-use Rattle.std.proofs.Common.{◌≡◌, ◌∙◌, ◌+◌, ◌<◌, ◌≤◌, ℕ, zero, suc, Bool, true, false, ◌&&◌, ◌||◌, not, cond, eqb, List, [], ◌∷◌, ◌++◌, Result, Ok, Err, length, map, take, drop, refl, sym, ap, subst, arith, append_assoc, append-nil}
+use Rattle.std.proofs.Common.{◌≡◌, ◌∙◌, ◌+◌, ◌<◌, ◌≤◌, ℕ, suc, Bool, true, false, ◌&&◌, ◌||◌, not, cond, eqb, List, [], ◌∷◌, ◌++◌, Ok, Err, length, take, drop, refl, sym, ap, subst, arith, append_assoc, append-nil}
 use Rattle.std.specs.Prelude.{codes}
 use Rattle.std.specs.List.{list_all, flat_map, prefix_len}
-use Rattle.std.proofs.lemmas.Bool.{and_parts, cond-true, cond-false, true≢false, ne_eqb}
+use Rattle.std.proofs.lemmas.Bool.{and_parts, cond-true, cond-false, ne_eqb}
 use Rattle.std.proofs.lemmas.Bool.Decides.{nat_tests}
 use Rattle.std.proofs.lemmas.List.{take_at, drop_at, length-append}
 use Rattle.oai_names.specs.Escapes.{escaped_attribute}
 use Rattle.oai_xml.specs.Answers.{Goes}
-use Rattle.oai_xml.specs.Readings.{Reading, ◌>>=◌, read, begins, behind, past}
+use Rattle.oai_xml.specs.Readings.{Reading, ◌>>=◌, read, begins, past}
 use Rattle.oai_xml.specs.Parts.{is_space, past_spaces, past_space, past_equals, name_in, qname_in}
 use Rattle.oai_xml.specs.QNames.{is_name_byte, is_qname, is_prefixed, prefix_of, local_of, is_ncname}
-use Rattle.oai_xml.specs.Tags.{Start, value_in, quoted_in, attribute_in, spaced_attribute_in, ends_tag, attributes_in, start_in, end_in}
+use Rattle.oai_xml.specs.Tags.{quoted_in, attribute_in, spaced_attribute_in, ends_tag, attributes_in, start_in, end_in}
 use Rattle.oai_xml.specs.Trees.{Attribute, spelled_attribute}
 use Rattle.oai_xml.specs.Whole.{names_of}
 use Rattle.oai_xml.proofs.Goings.{goes_none, goes_then, goes_end}

@@ -1,25 +1,23 @@
 -- Attributes and start tags, as the code reads them.
-use Rattle.std.proofs.Common.{◌≡◌, ◌∙◌, ◌+◌, ◌<◌, ◌≤◌, ℕ, suc, Bool, true, false, cond, List, [], ◌∷◌, ◌++◌, Result, Ok, Err, length, map, drop, refl, sym, ap, subst, arith, append_assoc, append-nil}
+use Rattle.std.proofs.Common.{◌≡◌, ◌∙◌, ◌<◌, ◌≤◌, ℕ, suc, true, false, cond, List, [], ◌∷◌, ◌++◌, Ok, Err, length, map, drop, refl, sym, ap, subst, arith, append_assoc, append-nil}
 use Rattle.std.specs.Prelude.{codes}
 use Rattle.std.specs.List.{flat_map}
 use Rattle.std.proofs.lemmas.Bool.{cond-true, cond-false}
 use Rattle.std.proofs.lemmas.List.{drop_at, length-append}
-use Rattle.std.proofs.lemmas.Grind.{flat_map-append}
 use Rattle.oai_names.specs.Escapes.{escaped, escaped_attribute}
 use Rattle.oai_xml.specs.Answers.{Goes, StopsIn, Stops, Tells}
-use Rattle.oai_xml.specs.Readings.{Reading, ◌>>=◌, read}
+use Rattle.oai_xml.specs.Readings.{◌>>=◌, read}
 use Rattle.oai_xml.specs.Parts.{past_spaces, past_space, past_equals, qname_in}
 use Rattle.oai_xml.specs.Tags.{Start, quoted_in, attribute_in, attributes_in, spaced_attribute_in, ends_tag, start_in}
 use Rattle.oai_xml.specs.Trees.{Attribute, spelled_attribute, start_tag}
 use Rattle.oai_xml.specs.Namespaces.{Declaration, Scope, declared, declaration_of, declared_prefix, is_declaring}
 use Rattle.oai_xml.specs.Whole.{names_of, within, has_default, are_names_whole}
 use Rattle.oai_xml.specs.Contents.{completion, completed, completed_start, closed_start, whole_start_in}
-use Rattle.oai_xml.specs.declared.faults.Fault.{Fault}
 use Rattle.oai_xml.specs.declared.faults.Stop.{Stop}
 use Rattle.oai_xml.specs.declared.faults.Stop.TheVariants.{At, NoMemory}
 use Rattle.oai_xml.proofs.Goings.{goes_none, goes_then, goes_end, goes_wrong}
 use Rattle.oai_xml.proofs.ValueLemmas.{cat, cat_joins}
-use Rattle.oai_xml.proofs.AttributeLemmas.{attribute_goes, attribute_wrong, attributes_closed, declared_cat, names_cat, tells_none, tells_then}
+use Rattle.oai_xml.proofs.AttributeLemmas.{attribute_goes, attribute_wrong, attributes_closed, tells_none, tells_then}
 
 -- ---- attributes
 

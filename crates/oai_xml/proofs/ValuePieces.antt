@@ -1,15 +1,12 @@
 -- Pieces of values, as the code appends them.
-use Rattle.std.proofs.Common.{◌≡◌, ◌∙◌, ◌<◌, ◌≤◌, ℕ, Bool, true, false, ◌||◌, eqb, List, [], ◌∷◌, ◌++◌, Result, Ok, Err, IfOk, length, refl, sym, ap, subst, arith, append_assoc, append-nil}
-use Rattle.std.proofs.lemmas.Bool.{eqb-true, true≢false}
+use Rattle.std.proofs.Common.{◌≡◌, ◌∙◌, ◌<◌, ℕ, true, false, ◌||◌, eqb, List, [], ◌∷◌, ◌++◌, Result, Ok, Err, IfOk, length, refl, sym, ap, subst, arith, append_assoc, append-nil}
 use Rattle.std.proofs.lemmas.Bool.Decides.{nat_tests}
 use Rattle.std.proofs.lemmas.Grind.{flat_map-append}
 use denote.Ref.{Bor}
 use Rattle.oai_names.specs.Escapes.{escaped, escaped_attribute, attribute_spelling}
 use Rattle.oai_xml.specs.Answers.{Goes, Leaves, LeavesPiece, StopsIn, formed, is_closed}
-use Rattle.oai_xml.specs.Readings.{Reading}
 use Rattle.oai_xml.specs.Parts.{reference_in}
 use Rattle.oai_xml.specs.Tags.{value_in, value_byte}
-use Rattle.oai_xml.specs.declared.faults.Fault.{Fault}
 use Rattle.oai_xml.specs.declared.faults.Stop.{Stop}
 use Rattle.oai_xml.specs.declared.faults.Stop.TheVariants.{At, NoMemory}
 use Rattle.oai_xml.specs.declared.values.Form.{Form}

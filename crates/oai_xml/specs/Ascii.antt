@@ -1,5 +1,5 @@
 -- Words of the code's own, on names of ASCII: no public contract names them.
-use Rattle.std.specs.Prelude.{ℕ, Bool, true, false, ◌&&◌, List, [], ◌∷◌}
+use Rattle.std.specs.Prelude.{ℕ, Bool, false, ◌&&◌, List, [], ◌∷◌}
 use Rattle.std.specs.List.{list_all}
 use Rattle.oai_xml.specs.QNames.{is_ascii_start, is_ascii_further, is_start_char}
 

@@ -1,9 +1,9 @@
 -- Elements and what stands in them. XML 1.0 (fifth edition), sections 2.4, 2.7 and 3.1.
-use Rattle.std.specs.Prelude.{ℕ, zero, suc, Bool, true, false, ◌==◌, ◌-◌, ◌++◌, not, List, [], ◌∷◌, length, codes, Result, Ok, Err, if◌then◌else◌}
+use Rattle.std.specs.Prelude.{ℕ, zero, suc, ◌==◌, ◌-◌, ◌++◌, List, [], ◌∷◌, length, codes, Err, if◌then◌else◌}
 use Rattle.oai_xml.specs.Trees.{Attribute, Content, Tree, nothing, followed_by, text_of, alone}
 use Rattle.oai_xml.specs.Namespaces.{Scope, declared}
 use Rattle.oai_xml.specs.Whole.{has_default, are_names_whole, names_of, within}
-use Rattle.oai_xml.specs.Readings.{Reading, Passing, ◌>>=◌, read, begins, behind, past}
+use Rattle.oai_xml.specs.Readings.{Reading, ◌>>=◌, read, begins, behind, past}
 use Rattle.oai_xml.specs.Parts.{reference_in, comment_in, instruction_in, cdata_in}
 use Rattle.oai_xml.specs.Tags.{Start, start_in, end_in}
 

@@ -1,6 +1,6 @@
 -- A text that is the document of one element, with no document type; its tree, and its canonical text. XML 1.0 (fifth edition), sections 2.1, 2.2,
 -- 2.8, 2.9, 2.11 and 4.3.3.
-use Rattle.std.specs.Prelude.{ℕ, zero, suc, Bool, true, false, ◌==◌, ◌||◌, ◌&&◌, ◌+◌, ◌-◌, not, List, [], ◌∷◌, length, take, drop, codes, Option, Some, None, Result, Ok, Err, if◌then◌else◌}
+use Rattle.std.specs.Prelude.{ℕ, zero, suc, Bool, true, false, ◌==◌, ◌||◌, ◌&&◌, ◌+◌, ◌-◌, not, List, [], ◌∷◌, length, take, drop, codes, Option, Result, Ok, Err, if◌then◌else◌}
 use Rattle.std.specs.List.{prefix_len}
 use Rattle.std.specs.Result.{result_ok}
 use Rattle.std.specs.Char.{is_ascii_digit, len_utf8}
@@ -8,7 +8,7 @@ use Rattle.std.specs.Str.{chars, is_utf8, str_eq_ignore_ascii_case}
 use Rattle.oai_names.specs.Characters.{is_xml_char, is_xml_text}
 use Rattle.oai_xml.specs.Trees.{Tree, spelled}
 use Rattle.oai_xml.specs.Readings.{Reading, Passing, ◌>>=◌, read, begins, behind, past}
-use Rattle.oai_xml.specs.Parts.{is_space, past_spaces, past_space, past_equals, comment_in, instruction_in}
+use Rattle.oai_xml.specs.Parts.{past_spaces, past_space, past_equals, comment_in, instruction_in}
 use Rattle.oai_xml.specs.Contents.{element_in, content_in}
 use Rattle.oai_xml.specs.declared.limits.TheConstants.{MAX_DEPTH}
 

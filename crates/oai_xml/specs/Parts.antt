@@ -1,6 +1,6 @@
 -- Parts of a document: white space, names, references, comments and processing instructions. XML 1.0 (fifth edition), sections 2.3 to 2.7
 -- and 4.1; the number of each production stands before it, with NS where it is one of Namespaces in XML 1.0 (third edition).
-use Rattle.std.specs.Prelude.{ℕ, Bool, true, false, ◌==◌, ◌||◌, ◌&&◌, ◌+◌, ◌*◌, not, nat_le, nat_lt, List, [], ◌∷◌, length, take, drop, codes, Result, Ok, Err, if◌then◌else◌}
+use Rattle.std.specs.Prelude.{ℕ, Bool, ◌==◌, ◌||◌, ◌&&◌, ◌+◌, ◌*◌, not, nat_le, nat_lt, List, [], ◌∷◌, length, take, drop, codes, Ok, Err, if◌then◌else◌}
 use Rattle.std.specs.List.{prefix_len}
 use Rattle.std.specs.Char.{digit_value, encode_utf8}
 use Rattle.std.specs.Str.{str_eq_ignore_ascii_case}

@@ -1,10 +1,9 @@
 -- What reading an element answers.
-use Rattle.std.specs.Prelude.{◌≡◌, ◌-◌, ℕ, Bool, true, false, ◌==◌, ◌&&◌, List, Result, Ok, Err}
+use Rattle.std.specs.Prelude.{◌≡◌, ◌-◌, ℕ, true, false, ◌==◌, ◌&&◌, List, Result, Ok, Err}
 use Rattle.std.specs.Str.{is_utf8}
 use Rattle.oai_names.specs.Characters.{is_xml_text}
 use Rattle.oai_xml.specs.Trees.{Tree, spelled}
 use Rattle.oai_xml.specs.Documents.{document_in, normalized, origin, place_of, canonical}
-use Rattle.oai_xml.specs.declared.faults.Fault.{Fault}
 use Rattle.oai_xml.specs.declared.faults.Stop.{Stop}
 use Rattle.oai_xml.specs.declared.faults.Stop.TheVariants.{At}
 use Rattle.oai_xml.specs.declared.faults.Stop.TheVariants as stop

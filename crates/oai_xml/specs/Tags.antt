@@ -1,7 +1,7 @@
 -- Tags: attributes with their values, start tags, end tags. XML 1.0 (fifth edition), sections 2.3, 2.11, 3.1 and 3.3.3.
-use Rattle.std.specs.Prelude.{ℕ, zero, suc, Bool, true, false, ◌==◌, ◌||◌, ◌&&◌, not, List, [], ◌∷◌, ◌++◌, length, codes, Result, Ok, Err, if◌then◌else◌}
+use Rattle.std.specs.Prelude.{ℕ, zero, suc, Bool, ◌==◌, ◌||◌, List, [], ◌∷◌, ◌++◌, length, codes, Err, if◌then◌else◌}
 use Rattle.oai_xml.specs.Trees.{Attribute}
-use Rattle.oai_xml.specs.Readings.{Reading, Passing, ◌>>=◌, read, begins, behind, past}
+use Rattle.oai_xml.specs.Readings.{Reading, Passing, ◌>>=◌, read, begins, past}
 use Rattle.oai_xml.specs.Parts.{is_space, past_spaces, past_space, past_equals, qname_in, reference_in}
 
 -- ---- values

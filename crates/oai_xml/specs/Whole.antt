@@ -1,5 +1,5 @@
 -- When a tree is whole: its names, its namespaces and its size are legal, each where it stands. And when bytes are an element.
-use Rattle.std.specs.Prelude.{◌≡◌, ℕ, Bool, true, ◌==◌, ◌&&◌, ◌-◌, not, nat_le, List, [], ◌∷◌, ◌++◌, length, map}
+use Rattle.std.specs.Prelude.{◌≡◌, ℕ, Bool, true, ◌==◌, ◌&&◌, ◌-◌, not, nat_le, List, [], ◌++◌, length, map}
 use Rattle.std.specs.List.{list_all}
 use Rattle.std.specs.Option.{is_some}
 use Rattle.std.specs.Str.{IsUtf8, bytes_eq}

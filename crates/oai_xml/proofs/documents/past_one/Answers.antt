@@ -1,7 +1,6 @@
-use Rattle.std.proofs.Common.{◌≡◌, ◌∙◌, ◌<◌, true, false, length, sym, ap, arith}
+use Rattle.std.proofs.Common.{◌∙◌, ◌<◌, length, sym, ap, arith}
 use Rattle.std.specs.Prelude.{codes}
 use Rattle.oai_xml.specs.Readings.{begins}
-use Rattle.oai_xml.specs.Parts.{past_spaces}
 use Rattle.oai_xml.specs.Documents.{whole_comment_in, whole_instruction_in}
 use Rattle.oai_xml.proofs.Miscellaneous.{comment_passed, comment_failed, instruction_passed, instruction_failed, misc_ended}
 use Rattle.oai_xml.proofs.documents.past_one.Goals as goal

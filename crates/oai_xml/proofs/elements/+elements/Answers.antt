@@ -1,5 +1,5 @@
 -- Each function of the cycle reads what one definition says: a lemma of ElementPieces leads from what its calls leave to what it leaves.
-use Rattle.std.proofs.Common.{◌≡◌, ◌∙◌, ◌<◌, ◌≤◌, ℕ, Err, length, sym, ap, arith}
+use Rattle.std.proofs.Common.{◌∙◌, ◌<◌, ℕ, Err, length, sym, ap, arith}
 use Rattle.std.proofs.lemmas.Bool.{eq-eqb, ne_eqb}
 use Rattle.oai_xml.specs.Trees.{nothing, followed_by}
 use Rattle.oai_xml.specs.Contents.{content_in}

@@ -1,4 +1,4 @@
-use Rattle.std.proofs.Common.{◌≡◌, ◌∙◌, ℕ, List, Result, Ok, Err, sym}
+use Rattle.std.proofs.Common.{◌∙◌, sym}
 use Rattle.oai_xml.proofs.CanonicalLemmas.{canonical_tree, canonical_again}
 use Rattle.oai_xml.proofs.ReadWhole.{no_ok}
 use Rattle.oai_xml.proofs.laws.canonical_law.Goals as goal

@@ -1,4 +1,4 @@
-use Rattle.std.proofs.Common.{◌≡◌, ◌∙◌, ◌+◌, ◌&&◌, ◌<◌, ℕ, Bool, true, false, eqb, List, ◌∷◌, length, drop, get_or, refl, sym, ap, add-zero}
+use Rattle.std.proofs.Common.{◌≡◌, ◌∙◌, ◌+◌, ◌&&◌, ◌<◌, ℕ, Bool, false, eqb, List, ◌∷◌, length, drop, get_or, sym, ap, add-zero}
 use Rattle.std.proofs.lemmas.Bool.{cond-false}
 use Rattle.std.proofs.lemmas.List.{drop_more}
 use Rattle.oai_xml.specs.Documents.{origin}

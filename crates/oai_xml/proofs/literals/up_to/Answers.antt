@@ -1,4 +1,4 @@
-use Rattle.std.proofs.Common.{◌≡◌, ◌∙◌, List, ℕ, true, false, Ok, take, drop, sym, ap}
+use Rattle.std.proofs.Common.{◌≡◌, ◌∙◌, List, ℕ, true, false, Ok, drop, sym, ap}
 use Rattle.oai_xml.specs.Readings.{begins, behind}
 use Rattle.oai_xml.proofs.LiteralLemmas.{up_to_step, up_to_found, up_to_end}
 use Rattle.oai_xml.proofs.literals.up_to.Goals as goal

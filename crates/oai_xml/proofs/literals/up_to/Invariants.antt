@@ -1,4 +1,4 @@
-use Rattle.std.proofs.Common.{◌≡◌, ◌++◌, List, ℕ, take, drop}
+use Rattle.std.proofs.Common.{◌≡◌, ◌++◌, take, drop}
 use Rattle.oai_xml.specs.Answers.{before}
 use Rattle.oai_xml.specs.Readings.{up_to}
 use Rattle.oai_xml.proofs.literals.up_to.Given as goal

@@ -1,4 +1,4 @@
-use Rattle.std.proofs.Common.{◌≡◌, ◌∙◌, ◌<◌, length, sym, arith}
+use Rattle.std.proofs.Common.{◌∙◌, ◌<◌, length, sym, arith}
 use Rattle.oai_xml.proofs.NameLemmas.{target_some}
 use Rattle.oai_xml.proofs.names.past_target.Goals as goal
 

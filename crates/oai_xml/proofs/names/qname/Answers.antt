@@ -1,4 +1,4 @@
-use Rattle.std.proofs.Common.{◌≡◌, ◌∙◌, ◌<◌, length, take, sym, ap, arith}
+use Rattle.std.proofs.Common.{◌∙◌, ◌<◌, length, take, sym, ap, arith}
 use Rattle.std.specs.List.{list_all}
 use Rattle.oai_xml.specs.QNames.{is_name_byte}
 use Rattle.oai_xml.proofs.Bare.{run_passes}

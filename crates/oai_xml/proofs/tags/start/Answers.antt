@@ -1,5 +1,5 @@
 -- What each call left is joined to what the tag is (`Started`), and then the names are tested.
-use Rattle.std.proofs.Common.{◌≡◌, ◌∙◌, ◌≤◌, ℕ, List, [], Err, length, drop, sym, ap, subst}
+use Rattle.std.proofs.Common.{◌∙◌, ◌≤◌, ℕ, Err, length, drop, sym, ap, subst}
 use Rattle.oai_xml.specs.Answers.{Tells}
 use Rattle.oai_xml.specs.Whole.{are_names_whole}
 use Rattle.oai_xml.proofs.TagPieces.{start_unnamed, start_stops, started, started_well, started_ill, within_long}

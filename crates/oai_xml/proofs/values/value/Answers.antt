@@ -1,4 +1,4 @@
-use Rattle.std.proofs.Common.{◌≤◌, ◌++◌, [], length, arith}
+use Rattle.std.proofs.Common.{◌++◌, [], arith}
 use Rattle.std.proofs.lemmas.Bool.{eq-eqb}
 use Rattle.std.proofs.lemmas.List.{nil_from_length}
 use Rattle.oai_xml.proofs.ValuePieces.{so_far_none, so_far_more, value_whole, value_cut_off, value_stops}
