@@ -57,7 +57,7 @@ whole_start_read scope bytes rest s is same whole =
     ap (λ r. r >>= λ s. closed_start scope (completed_start scope s.0) s.1) is ∙ ap (λ s. closed_start scope s rest) same
     ∙ cond-true (are_names_whole (within scope s.attributes) (declared s.attributes) s.name (names_of s.attributes)) _ _ whole
 
-whole_start_back : (scope : Scope) (name rest : List ℕ) (attributes : List Attribute) → Whole scope name attributes
+pub whole_start_back : (scope : Scope) (name rest : List ℕ) (attributes : List Attribute) → Whole scope name attributes
     → whole_start_in scope (name ++ (flat_map spelled_attribute attributes ++ 62 ∷ rest)) ≡ Ok (record { name = name; attributes = attributes }, 62 ∷ rest)
 whole_start_back scope name rest attributes w =
     whole_start_read scope (name ++ (flat_map spelled_attribute attributes ++ 62 ∷ rest)) (62 ∷ rest) (record { name = name; attributes = attributes })

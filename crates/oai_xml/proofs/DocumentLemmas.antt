@@ -11,7 +11,7 @@ use Rattle.oai_xml.specs.Readings.{Passing, ◌>>=◌, past}
 use Rattle.oai_xml.specs.Trees.{Tree, spelled}
 use Rattle.oai_xml.specs.Contents.{element_in, content_in}
 use Rattle.oai_xml.specs.Documents.{opening_in, misc_in, prolog_in, tail_in, root_in, document_in, legal_len, legal_front, lines, normalized, origin, placed, place_of, is_spelled_text, accepted, element_of, canonical}
-use Rattle.oai_xml.specs.Reads.{IsRead, IsFrontRead, IsTaken, IsFaultOf}
+use Rattle.oai_xml.specs.Reads.{IsRead, IsFrontRead, IsTaken, IsFaultOf, IsAtSamePlace}
 use Rattle.oai_xml.specs.declared.faults.Stop.{Stop}
 use Rattle.oai_xml.specs.declared.faults.Stop.TheVariants.{At}
 use Rattle.oai_xml.specs.declared.faults.Stop.TheVariants as stop
@@ -103,6 +103,13 @@ refused_as text front new legal (Refused offset cause) len cut wrong =
     (element_steps text (Err wrong.0) (ap (λ w. document_in (normalized w)) (sym at) ∙ wrong.1))
     ∙ ap (λ w. Err (place_of w wrong.0)) (sym at) ∙ ap (λ (n : ℕ). Err n) (sym wrong.2)
 refused_as text front new legal fault.NoMemory len cut wrong = tt
+
+-- a fault by another cause
+pub same_place : (text : List ℕ) (f g : XmlFault) → IsAtSamePlace f g → IsRead text (Err f) → IsRead text (Err g)
+same_place text (Refused offset cause) (Refused place other) same is = is ∙ ap (λ (n : ℕ). Err n) (sym same)
+same_place text (Refused offset cause) fault.NoMemory same is = absurd same
+same_place text fault.NoMemory (Refused place other) same is = absurd same
+same_place text fault.NoMemory fault.NoMemory same is = tt
 
 -- ---- the front of a text
 

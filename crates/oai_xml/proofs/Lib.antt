@@ -17,3 +17,4 @@ pub mod ReadWhole
 pub mod CanonicalLemmas
 pub mod LegalLemmas
 pub mod DocumentLemmas
+pub mod RootLemmas

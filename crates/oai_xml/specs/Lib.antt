@@ -10,3 +10,4 @@ pub mod Documents
 pub mod Answers
 pub mod Ascii
 pub mod Reads
+pub mod Roots

@@ -30,6 +30,13 @@ IsTaken legal len bytes (Ok element) = (element ≡ bytes) × ((legal == len) &&
 IsTaken legal len bytes (Err (Refused offset cause)) = (offset ≡ legal) × ((legal == len) && (is_utf8 bytes && is_xml_text bytes) ≡ false)
 IsTaken legal len bytes (Err NoMemory) = Unit {0}
 
+-- a fault, perhaps by another cause
+abbrev pub IsAtSamePlace : XmlFault → XmlFault → Type 0
+IsAtSamePlace (Refused offset cause) (Refused place other) = place ≡ offset
+IsAtSamePlace (Refused offset cause) NoMemory = ⊥
+IsAtSamePlace NoMemory (Refused place other) = ⊥
+IsAtSamePlace NoMemory NoMemory = Unit {0}
+
 -- a fault, by its place in the text itself: where that many bytes are so normalized
 abbrev pub IsFaultOf : List ℕ → ℕ → Stop → XmlFault → Type 0
 IsFaultOf text len (At fault) (Refused offset cause) = offset ≡ origin false text (len - fault.left)

@@ -1,5 +1,5 @@
 ghost use Rattle.std.specs.Prelude.{◌≡◌, ◌++◌, ◌-◌, ℕ, List, [], true, IfOk};
-ghost use Rattle.oai_xml.specs.Reads.{IsFaultOf, IsFrontRead, IsRead, IsTaken};
+ghost use Rattle.oai_xml.specs.Reads.{IsAtSamePlace, IsFaultOf, IsFrontRead, IsRead, IsTaken};
 
 use crate::documents::document;
 use crate::faults::{Stop, XmlCause, XmlFault};
@@ -35,7 +35,7 @@ impl ElementText {
         let mut out = Vec::new(alloc);
         match read_front(alloc, front, &mut out) {
             Ok(()) => taken(legal, text.len(), out),
-            Err(fault) => Err(fault),
+            Err(fault) => Err(at_character(fault, legal, text.len())),
         }
     }
 
@@ -53,6 +53,25 @@ impl ElementText {
         Ok(ElementText {
             text: String::from_str(alloc, self.as_str())?,
         })
+    }
+}
+
+/// The fault, where so many bytes of a text stand before the first character that XML does not allow: at that place, it is
+/// this character that is at fault.
+fn at_character(fault: XmlFault, legal: usize, len: usize) -> XmlFault
+    ensures { IsAtSamePlace fault result }
+{
+    match fault {
+        XmlFault::Refused { offset, cause } => {
+            if offset == legal && legal < len {
+                return XmlFault::Refused {
+                    offset,
+                    cause: XmlCause::Character,
+                };
+            }
+            XmlFault::Refused { offset, cause }
+        }
+        XmlFault::NoMemory => XmlFault::NoMemory,
     }
 }
 

@@ -139,8 +139,9 @@ fn are_alike(scope: &[Declared], name: &[u8], other: &[u8]) -> bool
             && space_of(scope, name) == space_of(scope, other))
 }
 
-/// The namespace of a name that has a prefix.
-fn space_of<'s>(scope: &'s [Declared], name: &[u8]) -> &'s [u8]
+/// The namespace that the prefix of a name is bound to; of the name of an element without a prefix, the default
+/// namespace.
+pub(crate) fn space_of<'s>(scope: &'s [Declared], name: &[u8]) -> &'s [u8]
     ensures { result.now ≡ spec.space_of scope.now name.now }
 {
     match namespace_of(scope, prefix_of(name)) {

@@ -8,4 +8,6 @@ mod limits;
 #[cfg(test)]
 mod readings;
 #[cfg(test)]
+mod roots;
+#[cfg(test)]
 mod rows;

@@ -1,5 +1,5 @@
 use Rattle.std.proofs.Common.{◌∙◌, take, ap}
-use Rattle.oai_xml.proofs.DocumentLemmas.{read_as, refused_as}
+use Rattle.oai_xml.proofs.DocumentLemmas.{read_as, refused_as, same_place}
 use Rattle.oai_xml.proofs.element_texts.ElementText.read.Goals as goal
 
 pub returns-in-Ok : goal.returns-in-Ok
@@ -9,5 +9,6 @@ returns-in-Ok c =
 
 pub returns-in-Err : goal.returns-in-Err
 returns-in-Err c =
-    refused_as c.args.text.now c.split_at.result.0.now c.read_front.new.out.items c.legal_len-legal.result c.in-Err.fault c.legal_len-legal.ensures.len
-    (c.split_at.ensures.front ∙ ap (take c.legal_len-legal.result) c.as_bytes.ensures.value) c.in-Err.ensures
+    same_place c.args.text.now c.in-Err.fault c.at_character.result c.at_character.ensures
+    (refused_as c.args.text.now c.split_at.result.0.now c.read_front.new.out.items c.legal_len-legal.result c.in-Err.fault c.legal_len-legal.ensures.len
+    (c.split_at.ensures.front ∙ ap (take c.legal_len-legal.result) c.as_bytes.ensures.value) c.in-Err.ensures)
