@@ -18,6 +18,7 @@ GROUPS = {
         "exit-statuses": "statuses",
         "daemon-statuses": "statuses",
         "fuzz": "fuzz",
+        "elements": "elements",
         "interop": "interop",
         "valid": "documents",
         "well-formed": "documents",
