@@ -20,6 +20,7 @@ GROUPS = {
         "exit-statuses": "statuses",
         "daemon-statuses": "statuses",
         "fuzz": "fuzz",
+        "elements": "elements",
         "interop": "interop",
         "valid": "documents",
         "well-formed": "documents",

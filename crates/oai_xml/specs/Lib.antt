@@ -1,0 +1,13 @@
+pub mod Trees
+pub mod QNames
+pub mod Namespaces
+pub mod Whole
+pub mod Readings
+pub mod Parts
+pub mod Tags
+pub mod Contents
+pub mod Documents
+pub mod Answers
+pub mod Ascii
+pub mod Reads
+pub mod Roots
