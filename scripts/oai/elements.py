@@ -192,7 +192,7 @@ def differences(text, read, libxml2):
         yield "not the same by libxml2"
 
 
-def elements(count, seed="1"):
+def elements(count: int, seed: int = 1):
     """Compares what is read of texts at random with what expat and libxml2 read of them.
 
     COUNT texts are made of a seed, most of them elements, and as many that are mutilated. A program over oai_xml reads
@@ -202,11 +202,9 @@ def elements(count, seed="1"):
     see the same in it as in its canonical text: names with their namespaces, attributes with their values, and texts;
     comments and instructions are left out. Each difference is printed. The last line is
     `N texts, M taken, D differences`; the status is 0 where D is 0.
-
-    Usage: scripts/run elements COUNT [SEED]
     """
     author, libxml2 = Author(f"elements {seed}"), Libxml2()
-    texts = [author.text() for _ in range(int(count))]
+    texts = [author.text() for _ in range(count)]
     texts += [author.mutilated(text) for text in texts]
     with Tool("read_elements", built=True) as tool:
         source, target = tool.folder / "texts", tool.folder / "read"
