@@ -34,7 +34,8 @@ use sqlite_disk::Disk;
 /// - at each repository each answer without a fault is the machine's after what was performed before it, in whichever
 ///   life;
 /// - lists that are followed by their unexpired tokens, by requests without a fault, are what was selected at their
-///   first request; a token of a list that a checkpoint ended is refused;
+///   first request; a token of a list that a checkpoint ended is refused, and no number of a list is given twice, before
+///   a checkpoint or after it;
 /// - harvests miss nothing, where deleted records are kept, even if each of them was made in another life, after
 ///   another checkpoint.
 ///
