@@ -14,18 +14,18 @@ use oai_names::Text;
 use oai_time::Granularity;
 use std::alloc::AllocError;
 
-/// What Identify returns beside the base URL of a repository (OAI-PMH 2.0, section 4.2).
+/// What Identify returns besides the base URL of a repository (OAI-PMH 2.0, section 4.2).
 #[derive(Clone, Copy, Debug)]
 pub struct Identity<'a> {
-    /// The name for people.
+    /// The repository's name.
     pub name: &'a str,
     /// The addresses of the administrators.
     pub addresses: &'a [Text],
-    /// The lower limit of all datestamps, in seconds from 1970 on.
+    /// The earliestDatestamp, in seconds from 1970 on.
     pub earliest: i64,
-    /// What is kept of deleted records.
+    /// The policy on deleted records.
     pub deleted: DeletedRecord,
-    /// How fine the datestamps are.
+    /// The granularity of the datestamps.
     pub granularity: Granularity,
 }
 
@@ -46,7 +46,7 @@ pub(crate) fn write_identify(
     Ok(())
 }
 
-/// Appends what the repository is called, where it is asked, in which version, and whom to write to.
+/// Appends the elements `repositoryName`, `baseURL`, `protocolVersion` and `adminEmail`.
 fn write_names(base: &str, identity: &Identity<'_>, out: &mut Vec<u8>) -> Result<(), AllocError>
     ensures { OnOk result (Appends out.old.items out.new.items
         (text_element (codes "repositoryName") identity.now.name.now
@@ -61,7 +61,7 @@ fn write_names(base: &str, identity: &Identity<'_>, out: &mut Vec<u8>) -> Result
     Ok(())
 }
 
-/// Appends what its datestamps and its deleted records are.
+/// Appends the elements `earliestDatestamp`, `deletedRecord` and `granularity`.
 fn write_rules(identity: &Identity<'_>, out: &mut Vec<u8>) -> Result<(), AllocError>
     requires { IsWritable identity.now.earliest }
     ensures { OnOk result (Appends out.old.items out.new.items

@@ -10,7 +10,7 @@ use crate::verbs::Verb;
 use oai_names::is_xml_text;
 use std::alloc::{AllocError, Global};
 
-/// The arguments of a request: how often each key is given that some verb has, and its value.
+/// The arguments of a request: how often each key of any verb is given, and its value.
 #[derive(Drop)]
 pub(crate) struct Arguments {
     pub(crate) verb: Given,
@@ -25,7 +25,7 @@ pub(crate) struct Arguments {
 }
 
 impl Arguments {
-    /// What no pairs give.
+    /// The arguments of no pairs.
     #[tactic(auto, unfolding(crate::specs::Arguments::arguments_in, crate::specs::Arguments::given, crate::specs::Pairs::values_of, crate::specs::Pairs::has_only_keys, crate::specs::Pairs::has_xml_values))]
     fn new() -> Arguments
         ensures { result ≡ arguments_in [] }
@@ -53,7 +53,7 @@ impl Arguments {
         Ok(arguments)
     }
 
-    /// Takes the pairs of a query, where none were taken before.
+    /// Adds the pairs of a query to arguments that have none.
     #[tactic(auto, unfolding(crate::specs::Pairs::decoded_pairs))]
     fn add_all(&mut self, alloc: Global, query: &[u8]) -> Result<(), AllocError>
         requires { self.old ≡ arguments_in [] }
@@ -67,7 +67,7 @@ impl Arguments {
         Ok(())
     }
 
-    /// Takes one more pair.
+    /// Adds one more pair.
     #[tactic(auto, unfolding(crate::specs::Steps::arguments_with, crate::specs::Steps::given_with, crate::specs::Pairs::values_of, crate::specs::Pairs::has_only_keys, crate::specs::Pairs::has_xml_values))]
     fn add(&mut self, alloc: Global, key: &str, value: &str) -> Result<(), AllocError>
         ensures { IfOk result
@@ -89,7 +89,7 @@ impl Arguments {
         }
     }
 
-    /// The verb that is asked for, if `verb` is given once and names one.
+    /// The requested verb, if `verb` is given once and names one.
     #[tactic(auto, unfolding(crate::specs::Requests::asked_verb))]
     pub(crate) fn asked_verb(&self) -> Option<Verb>
         ensures { result ≡ asked_verb self.now }
@@ -101,7 +101,7 @@ impl Arguments {
         }
     }
 
-    /// Whether every key is known, and each argument is given as often as its role wants.
+    /// Whether every key is known, and each argument is given as often as its role requires.
     #[tactic(auto, unfolding(crate::specs::Requests::suit))]
     pub(crate) fn suit(&self, part: Part, verb: Verb) -> bool
         ensures { result ≡ suit part verb self.now }

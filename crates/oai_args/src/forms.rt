@@ -12,7 +12,7 @@ use oai_names::{ListVerb, Text, is_prefix, is_set_spec};
 use oai_time::Granularity;
 
 impl Arguments {
-    /// Takes out the request that the arguments make, or says why they make none. It takes no memory.
+    /// Takes the request out of the arguments; the error is why they make none. Allocates nothing.
     #[tactic(auto, unfolding(crate::specs::Requests::request_in))]
     pub(crate) fn take_request(&mut self, granularity: Granularity) -> Result<Ask, ArgFault>
         ensures { result ≡ result_of (spec.request_in granularity self.old) }
@@ -29,7 +29,7 @@ impl Arguments {
         }
     }
 
-    /// Takes out the request of that verb; where a resumptionToken is given, for the next part of its list.
+    /// Takes out the request of that verb; if a resumptionToken is given, for the next part of its list.
     #[tactic(auto, unfolding(crate::specs::Requests::form_of))]
     fn take_ask(&mut self, granularity: Granularity, verb: Verb) -> Option<Ask>
         ensures { result ≡ spec.form_of granularity verb self.old }
@@ -47,7 +47,7 @@ impl Arguments {
         }
     }
 
-    /// Takes out the first request that arguments make which suit the verb.
+    /// Takes out the first request of arguments that suit the verb.
     #[tactic(auto, unfolding(crate::specs::Requests::first_of))]
     fn take_first(&mut self, granularity: Granularity, verb: Verb) -> Option<Ask>
         ensures { result ≡ spec.first_of granularity verb self.old }
@@ -64,7 +64,7 @@ impl Arguments {
         }
     }
 
-    /// Takes out GetRecord, if the prefix is of its syntax.
+    /// Takes out GetRecord, if the prefix has the syntax of one.
     #[tactic(auto, unfolding(crate::specs::Requests::get_record_of))]
     fn take_item(&mut self) -> Option<Ask>
         ensures { result ≡ spec.get_record_of self.old }
@@ -78,7 +78,7 @@ impl Arguments {
         }
     }
 
-    /// Takes out a first ListIdentifiers or ListRecords, if its arguments are of their syntax.
+    /// Takes out a first ListIdentifiers or ListRecords, if its arguments have valid syntax.
     #[tactic(auto, unfolding(crate::specs::Requests::first_list_of, crate::specs::Bounds::are_bounds))]
     fn take_list(&mut self, granularity: Granularity, verb: ListVerb) -> Option<Ask>
         ensures { result ≡ spec.first_list_of granularity verb self.old }
@@ -114,7 +114,7 @@ impl Arguments {
     }
 }
 
-/// Whether the argument `set` is not given, or is of a setSpec's syntax.
+/// Whether the argument `set` is absent, or has the syntax of a setSpec.
 fn is_none_or_set_spec(set: &Option<Text>) -> bool
     ensures { result ≡ is_none_or_set_spec set.now }
 {

@@ -15,7 +15,7 @@ pub(crate) enum Given {
 }
 
 impl Given {
-    /// Takes one more value of the key.
+    /// Adds one more value of the key.
     #[tactic(auto, unfolding(crate::specs::Steps::given_with))]
     pub(crate) fn add(&mut self, alloc: Global, value: &str) -> Result<(), AllocError>
         ensures { IfOk result (λ _. self.new ≡ given_with self.old (value.now ∷ [])) }

@@ -9,7 +9,7 @@ use oai_time::Granularity;
 use std::alloc::Global;
 use thiserror::Error;
 
-/// A request (OAI-PMH 2.0, section 4). Its texts are decoded, and otherwise as they were given.
+/// A request (OAI-PMH 2.0, section 4). Its texts are decoded, and otherwise unchanged.
 #[derive(Debug, Drop)]
 pub enum Ask {
     /// Identify (section 4.2).
@@ -25,20 +25,20 @@ pub enum Ask {
     Get {
         /// The argument `identifier`, which is any text.
         identifier: Text,
-        /// The argument `metadataPrefix`, of a prefix's syntax and any length.
+        /// The argument `metadataPrefix`, with the syntax of a prefix and any length.
         prefix: Text,
     },
     /// ListIdentifiers or ListRecords (sections 4.3 and 4.5), from the first record on.
     List {
         /// `Identifiers` or `Records`.
         verb: ListVerb,
-        /// The argument `metadataPrefix`, of a prefix's syntax and any length.
+        /// The argument `metadataPrefix`, with the syntax of a prefix and any length.
         prefix: Text,
         /// The argument `from`, not finer than the repository's granularity.
         from: Option<BoundText>,
-        /// The argument `until`, as `from`; with both given, of the same granularity and not before it.
+        /// The argument `until`, as `from`; if both are given, with the same granularity and not before it.
         until: Option<BoundText>,
-        /// The argument `set`, of a setSpec's syntax and any length.
+        /// The argument `set`, with the syntax of a setSpec and any length.
         set: Option<Text>,
     },
     /// ListIdentifiers, ListRecords or ListSets, continued (section 3.5).
@@ -56,19 +56,18 @@ pub enum ArgFault {
     /// `verb` is missing, given more than once, or none of the six verbs, whatever else is given.
     #[error("the verb is missing, repeated or illegal")]
     BadVerb,
-    /// An argument is not the verb's, repeated, missing or of illegal syntax.
+    /// An argument is not the verb's, is repeated or missing, or has illegal syntax.
     #[error("an argument is illegal, repeated, missing or of illegal syntax")]
     BadArgument,
-    /// The arguments could not be stored; what they mean was not looked at.
+    /// Out of memory; the meaning of the arguments was not looked at.
     #[error("out of memory")]
     NoMemory,
 }
 
-/// Reads the arguments of a request from the bytes of a query, in the type
-/// `application/x-www-form-urlencoded` (OAI-PMH 2.0, section 3.1.1), for a repository of that
-/// granularity. `NoMemory` is returned while the arguments are stored, before their meaning is looked
-/// at, and never for an empty query; then `BadVerb` comes before `BadArgument`. A `List` that is returned is
-/// by `Identifiers` or `Records`.
+/// Reads the arguments of a request from the bytes of a query, in the type `application/x-www-form-urlencoded` (OAI-PMH
+/// 2.0, section 3.1.1), for a repository with that granularity. The errors: `NoMemory` while the arguments are stored,
+/// before their meaning is looked at, and never for an empty query; then `BadVerb` before `BadArgument`. A returned
+/// `List` is by `Identifiers` or `Records`.
 pub fn read_request(alloc: Global, query: &[u8], granularity: Granularity) -> Result<Ask, ArgFault>
     ensures read { IsReadFrom granularity (decoded_pairs query.now) result }
     ensures lists { IfOk result (λ ask. lists_records ask ≡ true) }
@@ -79,10 +78,9 @@ pub fn read_request(alloc: Global, query: &[u8], granularity: Granularity) -> Re
     }
 }
 
-/// The law of requests, which holds of every granularity and every list of arguments: reading them
-/// gives a request exactly where they are of its form, `BadVerb` exactly where `verb` is not given
-/// once with the name of a verb, and `BadArgument` exactly in all other cases. A theorem,
-/// proved by an empty function.
+/// The law of requests, for every granularity and every list of arguments: reading them gives a request exactly if they
+/// have its form, `BadVerb` exactly if `verb` is not given once with the name of a verb, and `BadArgument` exactly in
+/// all other cases. A theorem, proved by an empty function.
 #[tactic(auto, using(crate::proofs::RequestLemmas::gives_the_answer))]
 pub fn request_law()
     ensures { GivesTheAnswer }

@@ -1,5 +1,5 @@
-//! The commands of `oaihost`, over any readers, writers, streams and clocks: the exchanges and the connections that
-//! stand in the lines of an input, and the connections that it serves.
+//! The commands of `oaihost`, over any readers, writers, streams and clocks: the exchanges and the connections in the
+//! lines of an input, and the connections that it serves.
 #![tactic(auto)]
 
 mod ask;

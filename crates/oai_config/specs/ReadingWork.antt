@@ -1,5 +1,5 @@
--- What the calls give that the reading of a text is made of, step by step. Words that tie the code to the definitions;
--- the contract of the whole (`Reading`) needs none of them.
+-- What the calls return that read parts of a text, step by step. Words that tie the code to the definitions; the
+-- contract of the whole (`Reading`) needs none of them.
 use Rattle.std.specs.Prelude.{◌≡◌, ◌||◌, ℕ, Bool, false, nat_le, if◌then◌else◌, List, Option, Some, None, is_none, codes, Result, Ok, Err}
 use Rattle.std.specs.List.{list_any}
 use Rattle.serde_json.specs.Data.{Data}
@@ -21,13 +21,13 @@ use Rattle.oai_config.specs.Reading.{HasSettings, HaveSettings, IsLowest}
 
 -- ---- the shape
 
--- a call that takes no memory gave what the reading gives, seen by the view
+-- a call that allocates nothing returned the part, seen by the view
 abbrev pub GivesView : {A B : Type 0} → (A → B) → Result A ReadFault → Option B → Type 0
 GivesView view (Ok x) reading = reading ≡ Some (view x)
 GivesView view (Err BadShape) reading = reading ≡ None
 GivesView view (Err fault) reading = ⊥
 
--- a call gave what the reading gives, or memory was refused
+-- a call returned the part, or out of memory
 abbrev pub GivesRead : {A : Type 0} → Result A ReadFault → Option A → Type 0
 GivesRead (Ok x) reading = reading ≡ Some x
 GivesRead (Err BadShape) reading = reading ≡ None
@@ -78,7 +78,7 @@ settings_with base texts rules formats = record {
   formats = formats;
 }
 
--- the settings that the text has, or why it has none
+-- the settings in the text, or why it has none
 abbrev pub IsJsonText : List ℕ → Result HostSettings ReadFault → Type 0
 IsJsonText text (Ok told) = told_in text ≡ Some told
 IsJsonText text (Err BadJson) = json_in text ≡ None
@@ -88,7 +88,7 @@ IsJsonText text (Err fault) = ⊥
 
 -- ---- the causes
 
--- a fault of a repository alone is one of the text
+-- a fault of one repository is one of the text
 abbrev pub read_fault_of : ConfigFault → ReadFault
 read_fault_of alone.BadShape = BadShape
 read_fault_of alone.BadName = BadName
@@ -97,7 +97,7 @@ read_fault_of alone.BadDate = BadDate
 read_fault_of alone.BadNumber = BadNumber
 read_fault_of alone.NoMemory = NoMemory
 
--- the first cause that lies in the whole, in the order of the numbers
+-- the first cause in the whole, in the order of the numbers
 unfoldable pub first_together : Option ℕ → List Settings → Option ReadFault
 first_together cache repositories =
     if is_wrong_together BadShape cache repositories then Some BadShape
@@ -106,17 +106,17 @@ first_together cache repositories =
     else (if is_wrong_together TooMany cache repositories then Some TooMany
     else None)))
 
--- what looking at the whole finds: the pages of the cache, or the first cause
+-- the result of testing the whole: the pages of the cache, or the first cause
 abbrev pub IsWhole : Option ℕ → List Settings → Result ℕ ReadFault → Type 0
 IsWhole cache repositories (Ok pages) = (first_together cache repositories ≡ None) × (cache ≡ Some pages)
 IsWhole cache repositories (Err fault) = first_together cache repositories ≡ Some fault
 
--- of the causes this is the lowest that applies; none does, where there is none
+-- this is the lowest of the causes that applies; none does, if there is none
 abbrev pub IsLowestOf : (ReadFault → Bool) → Option ReadFault → Type 0
 IsLowestOf causes (Some fault) = IsLowest causes fault
 IsLowestOf causes None = (fault : ReadFault) → causes fault ≡ false
 
--- the fault, or the one before it where that is not higher
+-- the fault, or the one before it if that is not higher
 abbrev pub lower : Option ReadFault → ReadFault → ReadFault
 lower None fault = fault
 lower (Some lowest) fault = if nat_le (fault_number lowest) (fault_number fault) then lowest else fault
@@ -127,12 +127,11 @@ HasSettingsOr settings (Ok entry) = HasSettings settings entry
 HasSettingsOr settings (Err NoMemory) = Unit {0}
 HasSettingsOr settings (Err fault) = IsLowest (λ cause. is_wrong_alone cause settings) fault
 
--- causes, and those that lie in any repository
+-- causes, and those in any repository
 abbrev pub or_alone : (ReadFault → Bool) → List Settings → ReadFault → Bool
 or_alone causes settings cause = causes cause || list_any (is_wrong_alone cause) settings
 
--- the repositories of the settings, where there are no causes; or the lowest of those and of the faults in any
--- repository
+-- the repositories of the settings, if there are no causes; or the lowest of those and of the faults in any repository
 abbrev pub AreMade : (ReadFault → Bool) → List Settings → Result (List NamedConfig) ReadFault → Type 0
 AreMade causes settings (Ok entries) = ((fault : ReadFault) → or_alone causes settings fault ≡ false) × HaveSettings settings entries
 AreMade causes settings (Err NoMemory) = Unit {0}

@@ -12,7 +12,7 @@ use oai_settings::FormatSettings;
 use serde_json::Value;
 use std::alloc::Global;
 
-/// The format that each value has, in order; `BadShape` at the first that has none.
+/// The format of each value, in order; `BadShape` at the first that has none.
 #[tactic(auto, using(oai_deposit::proofs::ReadingLemmas::starts))]
 pub(crate) fn each_format(
     alloc: Global,
@@ -27,7 +27,7 @@ pub(crate) fn each_format(
     Ok(Sequence::new(formats))
 }
 
-/// The format that an object of exactly its members has; `BadShape` at any other value.
+/// The format of an object with exactly its members; `BadShape` for any other value.
 #[tactic(auto, unfolding(crate::specs::Shapes::format_in))]
 fn read_format(alloc: Global, value: &Value) -> Result<FormatSettings, ReadFault>
     ensures { GivesRead result (shape.format_in (view value.now)) }

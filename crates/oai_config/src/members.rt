@@ -11,7 +11,7 @@ use oai_names::{Sequence, Text};
 use serde_json::Value;
 use std::alloc::Global;
 
-/// A copy of the text of the member of that name; `BadShape` where there is no such string.
+/// A copy of the text of the member with that name; `BadShape` if there is no such string.
 pub(crate) fn read_text(alloc: Global, value: &Value, name: &str) -> Result<Text, ReadFault>
     ensures { GivesRead result (json.text_at name.now (view value.now)) }
 {
@@ -21,7 +21,7 @@ pub(crate) fn read_text(alloc: Global, value: &Value, name: &str) -> Result<Text
     }
 }
 
-/// A copy of the texts of the members of two names; `BadShape` where one of them is no such string.
+/// A copy of the texts of the members with two names; `BadShape` if one of them is not a string.
 pub(crate) fn read_two(
     alloc: Global,
     value: &Value,
@@ -35,8 +35,8 @@ pub(crate) fn read_two(
     Ok((first, second))
 }
 
-/// The number of the member of that name, None where it is none of 64 bits that is whole and not
-/// negative; `BadShape` where there is no such number.
+/// The number of the member with that name, `None` if it is not whole, is negative, or does not fit 64 bits; `BadShape`
+/// if there is no such number.
 pub(crate) fn read_number(value: &Value, name: &str) -> Result<Option<u64>, ReadFault>
     ensures { GivesView (λ number. number) result (json.number_at name.now (view value.now)) }
 {
@@ -46,7 +46,7 @@ pub(crate) fn read_number(value: &Value, name: &str) -> Result<Option<u64>, Read
     }
 }
 
-/// A copy of the texts of the member of that name; `BadShape` where there is no such list of strings.
+/// A copy of the texts of the member with that name; `BadShape` if there is no such list of strings.
 #[tactic(auto, unfolding(oai_deposit::specs::Json::texts_at))]
 pub(crate) fn read_texts(
     alloc: Global,

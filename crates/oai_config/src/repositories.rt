@@ -31,8 +31,7 @@ pub(crate) fn repositories_at(
     }
 }
 
-/// The settings that each value has of a repository below the base, in order; `BadShape` at the
-/// first that has none.
+/// The settings of a repository below the base in each value, in order; `BadShape` at the first that has none.
 #[tactic(auto, using(oai_deposit::proofs::ReadingLemmas::starts))]
 fn each_repository(
     alloc: Global,
@@ -48,8 +47,7 @@ fn each_repository(
     Ok(Sequence::new(repositories))
 }
 
-/// The settings that an object of exactly the members of a repository has; `BadShape` at any
-/// other value.
+/// The settings of an object with exactly the members of a repository; `BadShape` for any other value.
 #[tactic(auto, unfolding(crate::specs::Shapes::settings_of))]
 fn settings_of(alloc: Global, base: &str, value: &Value) -> Result<Settings, ReadFault>
     ensures { GivesRead result (shape.settings_of base.now (view value.now)) }
@@ -85,7 +83,7 @@ struct Texts {
     earliest: Text,
 }
 
-/// The texts that the members of a repository have; `BadShape` where one of them is of another kind.
+/// The texts of the members of a repository; `BadShape` if one of them is of another kind.
 #[tactic(auto, unfolding(crate::specs::ReadingWork::texts_from))]
 fn texts_of(alloc: Global, value: &Value) -> Result<Texts, ReadFault>
     ensures { GivesRead result (texts_from (view value.now)) }
@@ -98,7 +96,7 @@ fn texts_of(alloc: Global, value: &Value) -> Result<Texts, ReadFault>
     })
 }
 
-/// What a repository's settings say of its deleted records, its datestamps and its limits.
+/// The policy on deleted records, the granularity and the limits in a repository's settings.
 #[derive(Clone, Copy)]
 struct Rules {
     deleted: DeletedRecord,
@@ -109,7 +107,7 @@ struct Rules {
     items: Option<u64>,
 }
 
-/// What the members of a repository say of these; `BadShape` where one of them is of another kind.
+/// These, from the members of a repository; `BadShape` if one of them is of another kind.
 #[tactic(auto, unfolding(crate::specs::ReadingWork::rules_from))]
 fn rules_of(value: &Value) -> Result<Rules, ReadFault>
     ensures { GivesView (λ rules. rules) result (rules_from (view value.now)) }
@@ -124,7 +122,7 @@ fn rules_of(value: &Value) -> Result<Rules, ReadFault>
     })
 }
 
-/// Whether the value is an object of exactly the members of a repository.
+/// Whether the value is an object with exactly the members of a repository.
 fn is_repository(value: &Value) -> bool
     ensures { result ≡ has_members shape.repository_members (view value.now) }
 {
@@ -146,7 +144,7 @@ fn is_repository(value: &Value) -> bool
     )
 }
 
-/// What is kept of deleted records, from the member `deletedRecord`.
+/// The policy on deleted records, from the member `deletedRecord`.
 #[tactic(auto, unfolding(crate::specs::Shapes::deleted_at))]
 fn deleted_at(value: &Value) -> Result<DeletedRecord, ReadFault>
     ensures { GivesView (λ deleted. deleted) result (shape.deleted_at (view value.now)) }
@@ -169,7 +167,7 @@ fn deleted_of(text: &str) -> Result<DeletedRecord, ReadFault>
     }
 }
 
-/// How fine the datestamps are, from the member `granularity`.
+/// The granularity of the datestamps, from the member `granularity`.
 #[tactic(auto, unfolding(crate::specs::Shapes::granularity_at))]
 fn granularity_at(value: &Value) -> Result<Granularity, ReadFault>
     ensures { GivesView (λ granularity. granularity) result (shape.granularity_at (view value.now)) }

@@ -1,4 +1,4 @@
--- Why the program stops where its service ended. This repository's own.
+-- Why the program stops when its service ended. This repository's own.
 use Rattle.std.specs.Prelude.{ℕ, ℤ, pos, min, Option, Some, None, Result, Ok, Err}
 use Rattle.oai_archive.specs.declared.stop.Stop.{Stop}
 use Rattle.oai_archive.specs.declared.stop.Stop.TheVariants.{CannotWrite, Common, Jumped}
@@ -10,7 +10,8 @@ use Rattle.oai_startup.specs.declared.stop.Stop.TheVariants as other
 abbrev pub moment_at : ℕ → ℤ
 moment_at second = pos (min second 9_223_372_036_854_775_807)
 
--- the journal could not be written; or the clock jumped to that second, or could not be read; or what became ready could not be learnt
+-- the journal could not be written; or the clock jumped to that second, or could not be read; or the program could not
+-- wait for readiness
 abbrev pub stop_of : ServeFault → Option ℕ → Stop
 stop_of Wait jumped = Common other.SocketFault
 stop_of Clock None = Common other.InputFault

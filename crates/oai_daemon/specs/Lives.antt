@@ -16,8 +16,8 @@ use Rattle.oai_serving.specs.declared.faults.ServeFault.{ServeFault}
 use Rattle.oai_durable.specs.Journaled.{IsExchange, IsHeld, IsSettled, Parts}
 use Rattle.oai_daemon.specs.Archives.{archived}
 
--- the host begins with these records replayed, which are all that the journal's file has, and all of them are durable; and the journal is of the
--- configuration in the text
+-- the host begins with these records replayed, which are all that the journal's file has, and all of them are durable;
+-- and the journal is of the configuration in the text
 pub record BeginsWithAll {D : Type 0} (j : journal.Ghosts (FileJournal D)) (file text : List ℕ) (config : HostConfig) (parts : Parts HostState (FileJournal D)) : Type 0 where
   pub first : Entry
   pub own : IsOf first.name first.body text
@@ -25,9 +25,9 @@ pub record BeginsWithAll {D : Type 0} (j : journal.Ghosts (FileJournal D)) (file
   pub all : IsUndamaged file first found
   pub held : IsHeld archived j (map begun config.repositories) parts found (length found)
 
--- the server of the configuration in the text lived until it ended so, in that world, after those streams were accepted: over a disk that returned
--- what was written to it, as far as the journal was read, it began with all of the journal's records replayed; it had no connection then, and none was
--- accepted before; and it was a service
+-- the server of the configuration in the text lived until it ended so, in that world, after those streams were
+-- accepted: over a disk that returned what was written to it, as far as the journal was read, it began with all of the
+-- journal's records replayed; it had no connection then, and none was accepted before; and it was a service
 pub record HasLived {S D : Type 0} (j : journal.Ghosts (FileJournal D)) (seen : D → List ℕ) (is_clean : D → Bool) (contents remaining : S → Option (List ℕ)) (text : List ℕ)
     (later : Known S) (result : Result (Unit {0}) ServeFault) (new : World S (Parts HostState (FileJournal D))) : Type 0 where
   pub config : HostConfig

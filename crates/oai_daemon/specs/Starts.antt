@@ -18,7 +18,7 @@ use Rattle.oai_durable.specs.Records.{Leaving}
 use Rattle.oai_durable.specs.Recovered.{HasRedone, IsRecovered}
 use Rattle.oai_daemon.specs.Archives.{archived}
 
--- all records of the journal behind its first one were read and replayed, from that beginning
+-- all records of the journal after its first one were read and replayed, from that beginning
 abbrev pub HasRedoneAll : {H K D : Type 0} → (H → K) → (H → Bool) → Leaving K → (D → List ℕ) → (D → List ℕ → Type 0) → K → H → Recovery D → Entry → Type 0
 HasRedoneAll kept is_honest leaving seen may_leave begun handler recovery first =
     (count : ℕ) × IsRecovered kept is_honest leaving seen may_leave begun handler recovery first count
@@ -34,7 +34,8 @@ pub record HasStarted {D : Type 0} (seen : D → List ℕ) (may_leave : D → Li
   pub redone : IsTrue (is_clean (disk_of recovery)) → (first : Entry) × IsOf first.name first.body text
       × HasRedoneAll archived.kept archived.is_honest archived.leaving seen may_leave (map begun config.repositories) host recovery first
 
--- a server with that handler and no connection served, from when those streams were accepted, until it ended so, in that world
+-- a server with that handler and no connection served, from when those streams were accepted, until it ended so, in
+-- that world
 pub record HasServed {S H : Type 0} (step : Steps H) (settled : Settles H) (contents remaining : S → Option (List ℕ)) (handler : H)
     (known later : Known S) (result : Result (Unit {0}) ServeFault) (new : World S H) : Type 0 where
   pub old : World S H

@@ -37,8 +37,8 @@ pub(crate) fn open_journal<P: Place, C: Clock>(
     reopen_journal(alloc, place, text)
 }
 
-/// The journal of the place, of which the first record is read, and which was replaced by a checkpoint with the configuration in the text.
-/// The error is `NotOurs` where it is of another one.
+/// The journal of the place, which was replaced by a checkpoint with the configuration in the text; its first record is
+/// read. The error is `NotOurs` if it has another one.
 pub(crate) fn reopen_journal<P: Place>(
     alloc: Global,
     place: &mut P,

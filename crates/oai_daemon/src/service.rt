@@ -29,13 +29,13 @@ pub struct Ended<S, K, H> {
     pub port: K,
     /// Why it ended; Ok after at least 2^64 - 1 rounds.
     pub result: Result<(), ServeFault>,
-    /// The second from 1970 on to which the system's clock jumped, where it did.
+    /// The second from 1970 on to which the system's clock jumped, if it did.
     pub jumped: Option<u64>,
 }
 
 impl<S, K, H> Ended<S, K, H> {
-    /// Why the program stops: `CannotWrite` where the journal could not be written or synced, `Jumped` where the clock jumped,
-    /// `InputFault` where it could not be read, and `SocketFault` where the sockets could not be waited for.
+    /// Why the program stops: `CannotWrite` if the journal could not be written or synced, `Jumped` if the clock
+    /// jumped, `InputFault` if it could not be read, and `SocketFault` if it could not wait for readiness.
     pub fn outcome(&self) -> Result<(), Stop>
         ensures { result ≡ outcome_of self.now.result self.now.jumped }
     {
@@ -46,8 +46,8 @@ impl<S, K, H> Ended<S, K, H> {
     }
 }
 
-/// The handler of a place's server: a host over the pages of the place, whose exchanges stand in its journal, and whose faults are
-/// reported to it.
+/// The handler of a place's server: a host over the pages of the place, whose exchanges are logged in its journal, and
+/// whose faults are reported to it.
 pub type Hosting<'a, P> = Watched<
     'a,
     Journaled<Host<PagedVersions<<P as Place>::Pages>>, FileJournal<<P as Place>::Disk>>,

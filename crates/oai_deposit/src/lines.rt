@@ -24,12 +24,12 @@ use oai_names::{Identifier, NameFault, Sequence, SetSpec, Text};
 use serde_json::Value;
 use std::alloc::Global;
 
-/// Reads one line of a deposit, without its line end: a JSON object (RFC 8259) of exactly the
-/// members of a command. The errors, in this order: `BadJson`, `BadCommand`, `BadIdentifier`,
-/// `BadSetSpec`, `BadText`, each for the whole line before the next; and at any point `NoMemory`,
-/// but not for a line that is empty or not in UTF-8. Of two members of one name the last counts.
-/// A deposit with its members in the order `deposit`, `sets`, `records`, under prefixes that rise, is
-/// read with no JSON value made of it; each text of a line is copied from what was read at most once.
+/// Reads one line of a deposit, without its line end: a JSON object (RFC 8259) with exactly the members of a command.
+/// The errors, in this order: `BadJson`, `BadCommand`, `BadIdentifier`, `BadSetSpec`, `BadText`, each for the whole
+/// line before the next; and at any point `NoMemory`, but not for a line that is empty or not in UTF-8. Of two members
+/// with one name the last counts. A deposit with its members in the order `deposit`, `sets`, `records`, under rising
+/// prefixes, is read without making a JSON value of it; each text of a line is copied from the parser's result at most
+/// once.
 #[tactic(auto, unfolding(crate::specs::Lines::line_of))]
 pub fn read_line(alloc: Global, line: &[u8]) -> Result<Change, LineFault>
     ensures { Gives (json.TakesMemory line.now) result (lines.line_of line.now) }
@@ -41,7 +41,7 @@ pub fn read_line(alloc: Global, line: &[u8]) -> Result<Change, LineFault>
     }
 }
 
-/// Reads a line of any command, in any order of its members, by the JSON value that it is.
+/// Reads a line of any command, with its members in any order, by its JSON value.
 #[tactic(auto, unfolding(crate::specs::Lines::line_of))]
 fn read_any(alloc: Global, line: &[u8]) -> Result<Change, LineFault>
     ensures { Gives (json.TakesMemory line.now) result (lines.line_of line.now) }
@@ -52,14 +52,13 @@ fn read_any(alloc: Global, line: &[u8]) -> Result<Change, LineFault>
     }
 }
 
-/// The law of the shapes: a value has the shape of a command exactly where it is the JSON object
-/// that the command is written as, and is refused as no command exactly where it is none of these
-/// objects. A theorem, proved by an empty function.
+/// The law of the shapes: a value has the shape of a command exactly if it is the JSON object of the command, and is
+/// refused as no command exactly if it is none of these objects. A theorem, proved by an empty function.
 pub fn shape_law()
     ensures { ShapeLaw }
 {}
 
-/// The change that the value asks for, of the shape that its members have.
+/// The change that the value requests, by the shape that its members have.
 #[tactic(auto, unfolding(crate::specs::Lines::shape_of))]
 fn read_value(alloc: Global, value: &Value) -> Result<Change, LineFault>
     ensures { Gives (has_command_members (view value.now) ≡ true) result
@@ -78,8 +77,7 @@ fn read_value(alloc: Global, value: &Value) -> Result<Change, LineFault>
     }
 }
 
-/// The deposit that an object of its members asks for. The whole shape is read before its texts are
-/// looked at.
+/// The deposit of an object with its members. The whole shape is read before its texts are tested.
 #[tactic(auto, unfolding(crate::specs::Lines::deposit_shape))]
 fn deposit_of(alloc: Global, value: &Value) -> Result<Change, LineFault>
     ensures { Gives Anywhere result (lines.change_asked (lines.deposit_shape (view value.now))) }
@@ -119,7 +117,7 @@ fn deposit_from(alloc: Global, texts: DepositTexts<'_>) -> Result<Change, LineFa
     })
 }
 
-/// The deletion that an object of its member asks for.
+/// The deletion of an object with its member.
 #[tactic(auto, unfolding(crate::specs::Lines::deletion_shape))]
 fn deletion_of(alloc: Global, value: &Value) -> Result<Change, LineFault>
     ensures { Gives (is_some (lines.deletion_shape (view value.now)) ≡ true) result
@@ -129,7 +127,7 @@ fn deletion_of(alloc: Global, value: &Value) -> Result<Change, LineFault>
     deletion_from(alloc, identifier)
 }
 
-/// The deletion of the item of this identifier.
+/// The deletion of the item with this identifier.
 #[tactic(auto, unfolding(crate::specs::Lines::asked_change))]
 fn deletion_from(alloc: Global, identifier: &str) -> Result<Change, LineFault>
     ensures { Gives (may_be_identifier identifier.now ≡ true) result
@@ -140,7 +138,7 @@ fn deletion_from(alloc: Global, identifier: &str) -> Result<Change, LineFault>
     })
 }
 
-/// The purge that an object of its member asks for.
+/// The purge of an object with its member.
 #[tactic(auto, unfolding(crate::specs::Lines::purge_shape, crate::specs::Lines::asked_change))]
 fn purge_of(alloc: Global, value: &Value) -> Result<Change, LineFault>
     ensures { Gives (is_some (lines.purge_shape (view value.now)) ≡ true) result
@@ -152,7 +150,7 @@ fn purge_of(alloc: Global, value: &Value) -> Result<Change, LineFault>
     })
 }
 
-/// The new set that an object of its members asks for.
+/// The new set of an object with its members.
 #[tactic(auto, unfolding(crate::specs::Lines::set_shape))]
 fn new_set_of(alloc: Global, value: &Value) -> Result<Change, LineFault>
     ensures { Gives (is_some (lines.set_shape (view value.now)) ≡ true) result
@@ -175,7 +173,7 @@ fn new_set_from(alloc: Global, spec: &str, name: &str) -> Result<Change, LineFau
     })
 }
 
-/// The identifier that the text is; `BadIdentifier` where it is none.
+/// The text as an identifier. The error is `BadIdentifier` if it is none, or out of memory.
 fn identifier_of(alloc: Global, text: &str) -> Result<Identifier, LineFault>
     ensures { Gives (may_be_identifier text.now ≡ true) result
         (passed (may_be_identifier text.now) BadIdentifier text.now) }
@@ -188,7 +186,7 @@ fn identifier_of(alloc: Global, text: &str) -> Result<Identifier, LineFault>
     }
 }
 
-/// The setSpec that each text is, in order; `BadSetSpec` where one is none.
+/// Each text as a setSpec, in order. The error is `BadSetSpec` if one is none, or out of memory.
 fn set_specs_of(alloc: Global, texts: &[&str]) -> Result<Sequence<SetSpec>, LineFault>
     ensures { Gives Anywhere result (passed (list_all may_be_set_spec (map (λ text. text.now) texts.now))
         BadSetSpec (map (λ text. text.now) texts.now)) }
@@ -196,7 +194,7 @@ fn set_specs_of(alloc: Global, texts: &[&str]) -> Result<Sequence<SetSpec>, Line
     each_set_spec(alloc, texts)
 }
 
-/// The setSpec that each text is, in order, up to the first text that is none.
+/// Each text as a setSpec, in order, up to the first that is none.
 #[tactic(auto, using(crate::proofs::ReadingLemmas::starts))]
 fn each_set_spec(alloc: Global, texts: &[&str]) -> Result<Sequence<SetSpec>, LineFault>
     ensures { FindsBy BadSetSpec (λ specs. specs) Anywhere result
@@ -209,7 +207,7 @@ fn each_set_spec(alloc: Global, texts: &[&str]) -> Result<Sequence<SetSpec>, Lin
     Ok(Sequence::new(specs))
 }
 
-/// The setSpec that the text is; `BadSetSpec` where it is none.
+/// The text as a setSpec. The error is `BadSetSpec` if it is none, or out of memory.
 fn set_spec_of(alloc: Global, text: &str) -> Result<SetSpec, LineFault>
     ensures { Gives (may_be_set_spec text.now ≡ true) result
         (passed (may_be_set_spec text.now) BadSetSpec text.now) }
@@ -222,7 +220,7 @@ fn set_spec_of(alloc: Global, text: &str) -> Result<SetSpec, LineFault>
     }
 }
 
-/// The setName that the text is; `BadText` where it is none.
+/// The text as a setName. The error is `BadText` if it is none, or out of memory.
 fn set_name_of(alloc: Global, text: &str) -> Result<Text, LineFault>
     ensures { Gives (is_short_text text.now ≡ true) result
         (passed (is_short_text text.now) BadText text.now) }

@@ -18,7 +18,7 @@ use serde_json::Value;
 use std::alloc::Global;
 use std::collections::BTreeMap;
 
-/// The records that the member of them has; `BadCommand` where there is no such member.
+/// The records of the member `records`; `BadCommand` if there is no such member.
 #[tactic(auto, unfolding(crate::specs::Lines::records_at))]
 pub(crate) fn records_at(alloc: Global, value: &Value) -> Result<Records, LineFault>
     ensures { Finds Anywhere result (lines.records_at (view value.now)) }
@@ -29,8 +29,7 @@ pub(crate) fn records_at(alloc: Global, value: &Value) -> Result<Records, LineFa
     }
 }
 
-/// The records that the members of an object are; `BadCommand` at any other value. Each text is
-/// copied once.
+/// The records of the members of an object; `BadCommand` for any other value. Each text is copied once.
 #[tactic(auto, unfolding(crate::specs::Lines::records_of))]
 fn records_of(alloc: Global, value: &Value) -> Result<Records, LineFault>
     ensures { Finds (is_some (as_object (view value.now)) ≡ true) result
@@ -42,7 +41,7 @@ fn records_of(alloc: Global, value: &Value) -> Result<Records, LineFault>
     }
 }
 
-/// The record that each member is, in the order of the prefixes.
+/// The record of each member, in the order of the prefixes.
 #[tactic(auto, using(crate::proofs::ReadingLemmas::starts), unfolding(crate::specs::Lines::record_of))]
 fn records_in(alloc: Global, members: &BTreeMap<String, Value>) -> Result<Records, LineFault>
     ensures { Finds Anywhere result
@@ -56,7 +55,7 @@ fn records_in(alloc: Global, members: &BTreeMap<String, Value>) -> Result<Record
     Ok(Records::new(Sequence::new(records)))
 }
 
-/// The fields of an array of them; `BadCommand` at any other value.
+/// The fields of an array; `BadCommand` for any other value.
 #[tactic(auto, unfolding(crate::specs::Lines::field_list_of))]
 fn field_list_of(alloc: Global, value: &Value) -> Result<Sequence<Field>, LineFault>
     ensures { Finds (is_some (json.elements_of (view value.now)) ≡ true) result
@@ -68,7 +67,7 @@ fn field_list_of(alloc: Global, value: &Value) -> Result<Sequence<Field>, LineFa
     }
 }
 
-/// The field that each value is; `BadCommand` at the first that is none.
+/// The field of each value; `BadCommand` at the first that is none.
 #[tactic(auto, using(crate::proofs::ReadingLemmas::starts))]
 fn fields_in(alloc: Global, values: &[Value]) -> Result<Sequence<Field>, LineFault>
     ensures { Finds Anywhere result (each_of lines.field_of (map view values.now)) }
@@ -80,7 +79,7 @@ fn fields_in(alloc: Global, values: &[Value]) -> Result<Sequence<Field>, LineFau
     Ok(Sequence::new(fields))
 }
 
-/// The field that `[NAME,TEXT]` is; `BadCommand` at any other value.
+/// The field of `[NAME,TEXT]`; `BadCommand` for any other value.
 #[tactic(auto, unfolding(crate::specs::Lines::field_of))]
 fn field_of(alloc: Global, value: &Value) -> Result<Field, LineFault>
     ensures { Finds (is_some (lines.field_of (view value.now)) ≡ true) result
@@ -92,7 +91,7 @@ fn field_of(alloc: Global, value: &Value) -> Result<Field, LineFault>
     }
 }
 
-/// The field of two strings; `BadCommand` at any other values.
+/// The field of two strings; `BadCommand` for any other values.
 #[tactic(auto, unfolding(crate::specs::Lines::pair_of))]
 fn pair_of(alloc: Global, values: &[Value]) -> Result<Field, LineFault>
     ensures { Finds (is_some (lines.pair_of (map view values.now)) ≡ true) result
@@ -104,7 +103,7 @@ fn pair_of(alloc: Global, values: &[Value]) -> Result<Field, LineFault>
     }
 }
 
-/// The field of that name and that text.
+/// The field with that name and that text.
 pub(crate) fn field_from(alloc: Global, name: &str, text: &str) -> Result<Field, LineFault>
     ensures { Finds Anywhere result (Some (record { name = name.now; text = text.now })) }
 {

@@ -1,7 +1,7 @@
-//! Deposits that are read from the tokens of their line, with no JSON value made of it: those whose
-//! members stand in the order `deposit`, `sets`, `records`, under prefixes that rise.
+//! Deposits that are read from the tokens of their line, without making a JSON value: those with their members in the
+//! order `deposit`, `sets`, `records`, under rising prefixes.
 
-ghost use Rattle.std.specs.Prelude.{◌≡◌, [], ◌∷◌, ◌++◌, codes, map, true, IfSome};
+ghost use Rattle.std.specs.Prelude.{◌≡◌, [], ◌∷◌, ◌++◌, map, true, IfSome};
 ghost use Rattle.std.specs.List.{flat_map};
 ghost use Rattle.json.specs.Token as token;
 ghost use Rattle.oai_item.specs.Item.{are_rising};
@@ -14,11 +14,11 @@ use oai_item::{Field, Records};
 use oai_names::{Sequence, Text};
 use std::alloc::Global;
 
-/// For how many fields of a record there is room at first, so that most records need no more.
+/// The initial capacity for the fields of a record, enough for most records.
 const USUAL_FIELDS: usize = 8;
 
-/// The texts of the deposit that the line is. `None` says nothing of the line: it may be a deposit that
-/// is written in another order, any other line, or memory was refused.
+/// The texts of the deposit in the line. `None` says nothing about the line: it may be a deposit in another order, any
+/// other line, or memory ran out.
 pub(crate) fn read_deposit<'a>(
     alloc: Global,
     line: &'a [u8],
@@ -36,44 +36,25 @@ pub(crate) fn read_deposit<'a>(
     Some(texts)
 }
 
-/// Takes the deposit that stands next.
+/// Reads the next deposit.
 fn take_deposit<'a>(alloc: Global, reader: &mut Reader<'a>) -> Option<DepositTexts<'a>>
     ensures { IfSome result (λ texts. reader.old
         ≡ tokens.deposit_tokens texts.identifier.now (map (λ set. set.now) texts.sets.items) texts.records
         ++ reader.new) }
 {
-    let identifier = take_identifier(reader)?;
+    take_begin_object(reader)?;
+    take_key(reader, "deposit")?;
+    let identifier = take_text(reader)?;
     take_key(reader, "sets")?;
     let sets = take_texts(alloc, reader)?;
-    let records = take_last_records(alloc, reader)?;
+    take_key(reader, "records")?;
+    let records = take_records(alloc, reader)?;
+    take_end_object(reader)?;
     Some(DepositTexts {
         identifier,
         sets,
         records,
     })
-}
-
-/// Takes the brace that stands next and opens a deposit, and the member of its identifier.
-fn take_identifier<'a>(reader: &mut Reader<'a>) -> Option<&'a str>
-    ensures { IfSome result (λ identifier. reader.old
-        ≡ token.Token.begin_object ∷ token.Token.key (codes "deposit") ∷ token.Token.string identifier.now
-        ∷ reader.new) }
-{
-    take_begin_object(reader)?;
-    take_key(reader, "deposit")?;
-    take_text(reader)
-}
-
-/// Takes the member of the records that stands next, and the brace that closes the deposit behind it.
-fn take_last_records(alloc: Global, reader: &mut Reader<'_>) -> Option<Records>
-    ensures { IfSome result (λ records. reader.old
-        ≡ token.Token.key (codes "records") ∷ (tokens.records_tokens records
-        ++ token.Token.end_object ∷ reader.new)) }
-{
-    take_key(reader, "records")?;
-    let records = take_records(alloc, reader)?;
-    take_end_object(reader)?;
-    Some(records)
 }
 
 /// Takes the array of strings that stands next.
@@ -89,7 +70,7 @@ fn take_texts<'a>(alloc: Global, reader: &mut Reader<'a>) -> Option<Vec<&'a str>
     Some(texts)
 }
 
-/// Takes the object of records that stands next, whose prefixes rise.
+/// Reads the next object of records, whose prefixes rise.
 fn take_records(alloc: Global, reader: &mut Reader<'_>) -> Option<Records>
     ensures { IfSome result (λ records. reader.old
         ≡ tokens.records_tokens records ++ reader.new) }
@@ -100,7 +81,7 @@ fn take_records(alloc: Global, reader: &mut Reader<'_>) -> Option<Records>
     Some(Records::new(Sequence::new(records)))
 }
 
-/// Takes the records that stand next, whose prefixes rise, and the brace behind them, into an empty list.
+/// Reads the records, whose prefixes rise, and the brace after them, into an empty list.
 fn add_records(
     alloc: Global,
     reader: &mut Reader<'_>,
@@ -121,7 +102,7 @@ fn add_records(
     Some(())
 }
 
-/// Whether the prefix stands behind the last one.
+/// Whether the prefix follows the last one.
 fn may_follow(records: &[(Text, Sequence<Field>)], prefix: &str) -> bool
     ensures { result ≡ tokens.may_follow records.now prefix.now }
 {
@@ -131,7 +112,7 @@ fn may_follow(records: &[(Text, Sequence<Field>)], prefix: &str) -> bool
     }
 }
 
-/// Takes the array of fields that stands next.
+/// Reads the next array of fields.
 fn take_fields(alloc: Global, reader: &mut Reader<'_>) -> Option<Sequence<Field>>
     ensures { IfSome result (λ fields. reader.old ≡ tokens.array_tokens tokens.field_tokens fields ++ reader.new) }
 {
@@ -143,7 +124,7 @@ fn take_fields(alloc: Global, reader: &mut Reader<'_>) -> Option<Sequence<Field>
     Some(Sequence::new(fields))
 }
 
-/// Takes the field `[NAME,TEXT]` that stands next.
+/// Reads the next field, `[NAME,TEXT]`.
 fn take_field(alloc: Global, reader: &mut Reader<'_>) -> Option<Field>
     ensures { IfSome result (λ field. reader.old ≡ tokens.field_tokens field ++ reader.new) }
 {
@@ -156,7 +137,7 @@ fn take_field(alloc: Global, reader: &mut Reader<'_>) -> Option<Field>
     field_from(alloc, name, text).ok()
 }
 
-/// Takes the string that stands next.
+/// Reads the next string.
 fn take_text<'a>(reader: &mut Reader<'a>) -> Option<&'a str>
     ensures { IfSome result (λ text. reader.old ≡ token.Token.string text.now ∷ reader.new) }
 {
@@ -166,7 +147,7 @@ fn take_text<'a>(reader: &mut Reader<'a>) -> Option<&'a str>
     }
 }
 
-/// Takes the name of a member that stands next, where it is this one.
+/// Reads the name of the next member, if it is this one.
 fn take_key(reader: &mut Reader<'_>, name: &str) -> Option<()>
     ensures { IfSome result (λ _. reader.old ≡ token.Token.key name.now ∷ reader.new) }
 {
@@ -176,7 +157,7 @@ fn take_key(reader: &mut Reader<'_>, name: &str) -> Option<()>
     }
 }
 
-/// Takes the bracket that stands next and opens an array.
+/// Reads the bracket that opens an array.
 fn take_begin_array(reader: &mut Reader<'_>) -> Option<()>
     ensures { IfSome result (λ _. reader.old ≡ token.Token.begin_array ∷ reader.new) }
 {
@@ -186,7 +167,7 @@ fn take_begin_array(reader: &mut Reader<'_>) -> Option<()>
     }
 }
 
-/// Takes the brace that stands next and opens an object.
+/// Reads the brace that opens an object.
 fn take_begin_object(reader: &mut Reader<'_>) -> Option<()>
     ensures { IfSome result (λ _. reader.old ≡ token.Token.begin_object ∷ reader.new) }
 {
@@ -196,7 +177,7 @@ fn take_begin_object(reader: &mut Reader<'_>) -> Option<()>
     }
 }
 
-/// Takes the brace that stands next and closes an object.
+/// Reads the brace that closes an object.
 fn take_end_object(reader: &mut Reader<'_>) -> Option<()>
     ensures { IfSome result (λ _. reader.old ≡ token.Token.end_object ∷ reader.new) }
 {

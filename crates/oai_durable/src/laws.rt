@@ -41,8 +41,8 @@ pub fn life_law<H: Replayed, J: Journal>()
 {}
 
 /// A service, as `Server::serve` promises it, is such a life, for its clients too: each that was accepted, connected or
-/// not, received a prefix of the answers to its own messages among those that were sent, and each of these has its place
-/// among the records that a crash then leaves.
+/// not, received a prefix of the answers to its own messages among those that were sent, and each of these has its
+/// place among the records that a crash then leaves.
 pub fn service_law<S: Stream, H: Replayed, J: Journal>()
     ensures { (begun : H.Kept) (found : List Entry) (known later : Known S) (old new : World S (Parts H J))
         (result : Result Unit Fault) (left : List Entry)

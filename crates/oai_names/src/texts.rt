@@ -37,7 +37,7 @@ fn are_plain(bytes: &[u8]) -> bool
     plain
 }
 
-/// Whether the byte is a character of ASCII that XML allows. All are compared, so that there is no branch.
+/// Whether the byte is an ASCII character that XML allows. All comparisons are made, so that there is no branch.
 fn is_plain_byte(b: u8) -> bool
     ensures { result ≡ is_plain_byte b }
 {

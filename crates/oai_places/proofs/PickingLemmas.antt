@@ -200,11 +200,17 @@ picking_ends p most old mid new skip between some items Damaged h = h
 picking_ends p most old mid new skip between some items NoMemory h = tt
 
 -- the item that was found is put behind the part
-pub found_added : (p : ItemState → Bool) (most : ℕ) (part new : List ItemState) (skip : ℕ) (item found : ItemState) (option : Option ItemState) → IsFoundWanted p item option → option ≡ Some found
-    → skip ≤ 0 → length part < most → new ≡ part ++ found ∷ [] → IsPartTaken p most part new skip skip (item ∷ [])
-found_added p most part new skip item found option h is none some new_is =
+pub found_added : (p : ItemState → Bool) (most : ℕ) (part new : List ItemState) (skip : ℕ) (item : ItemState) → p item ≡ true → skip ≤ 0 → length part < most → new ≡ part ++ item ∷ []
+    → IsPartTaken p most part new skip skip (item ∷ [])
+found_added p most part new skip item passes none some new_is =
+    subst (λ (xs : List ItemState). IsPartTaken p most part xs skip skip (item ∷ [])) (sym new_is) (taken_one p most part skip item passes (omega (arith, none)) some)
+
+-- what comes of an item that passes comes of the one that was found
+pub found_taken : (p : ItemState → Bool) (most : ℕ) (part new : List ItemState) (skip left : ℕ) (item found : ItemState) (option : Option ItemState)
+    → IsFoundWanted p item option → option ≡ Some found → (p found ≡ true → IsPartTaken p most part new skip left (found ∷ [])) → IsPartTaken p most part new skip left (item ∷ [])
+found_taken p most part new skip left item found option h is added =
     let one : IsFoundWanted p item (Some found) = subst (λ (o : Option ItemState). IsFoundWanted p item o) is h in
-    subst (λ (xs : List ItemState). IsPartTaken p most part xs skip skip (item ∷ [])) (sym (new_is ∙ ap (λ x. part ++ x ∷ []) one.0)) (taken_one p most part skip item one.1 (omega (arith, none)) some)
+    subst (λ (x : ItemState). IsPartTaken p most part new skip left (x ∷ [])) one.0 (added (ap p one.0 ∙ one.1))
 
 -- ---- item by item
 

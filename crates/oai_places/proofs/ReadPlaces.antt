@@ -1,19 +1,22 @@
 -- What is so of a place of a directory that is read.
-use Rattle.std.proofs.Common.{◌≡◌, ◌==◌, ◌&&◌, ◌∙◌, ◌+◌, ◌<◌, ◌≤◌, ℕ, ℤ, Bool, true, false, List, ◌∷◌, ◌++◌, length, take, drop, get_or, sym, ap, subst, arith, IsTrue}
+use Rattle.std.proofs.Common.{◌≡◌, ◌==◌, ◌&&◌, ◌∙◌, ◌+◌, ◌<◌, ◌≤◌, ℕ, ℤ, Bool, true, false, refl, List, ◌∷◌, ◌++◌, length, take, drop, get_or, sym, ap, subst, arith, IsTrue}
 use Rattle.std.proofs.lemmas.Bool.{and_from, and_parts, both_ways, eqb-true, false_from_ne_true}
 use Rattle.std.proofs.lemmas.List.{get_or_read}
 use Rattle.oai_names.proofs.Lists.{cut}
 use Rattle.oai_item.specs.Item.{ItemState}
 use Rattle.oai_item.specs.Order.{are_in_order}
+use Rattle.oai_item.specs.declared.decodings.DecodeFault.{DecodeFault}
+use Rattle.oai_item.specs.declared.decodings.DecodeFault.TheVariants as decoding
+use Rattle.oai_item.specs.declared.faults.Fault.{Fault}
 use Rattle.oai_item.specs.declared.faults.Fault.TheVariants.{Damaged}
 use Rattle.oai_item.proofs.Around.{in_order-append}
 use Rattle.oai_pool.specs.declared.pools.PagePool.{Ghosts}
-use Rattle.oai_places.specs.Calls.{ReadsPages}
+use Rattle.oai_places.specs.Calls.{ReadsPages, decoding_fault_of}
 use Rattle.oai_places.specs.Directory.{IsDirectory}
 use Rattle.oai_pool.specs.Names.{times}
 use Rattle.oai_places.specs.Pages.{FitPage, IsPage, begins_at, fit_one, items_in, size_of}
 use Rattle.oai_places.specs.Places.{FitPages, IsSoundPlace, Pages, PlaceState, are_below, bytes_on, items_at, items_on, named_in, page_at}
-use Rattle.oai_places.specs.Searches.{MayBeAt}
+use Rattle.oai_places.specs.Searches.{MayBeAt, are_of}
 use Rattle.oai_places.proofs.DirectoryLemmas.{goes_on, items-cut, no_place, placed-cut}
 use Rattle.oai_places.proofs.OrderedPlaces.{own_below}
 use Rattle.oai_places.proofs.HaveReadLemmas.{HaveRead, err_of}
@@ -60,6 +63,22 @@ reads_damaged g p q h not_honest = record {
     honesty = record { same = h.honesty; damaged = λ _. not_honest };
   };
 }
+
+-- and so what cannot be read as items, where it is damaged
+pub reads_undecoded : {P A : Type 0} (g : Ghosts P) (fault : DecodeFault) (told : Fault) (p q : P) → told ≡ decoding_fault_of fault → HaveRead g p q
+    → (fault ≡ decoding.Damaged → g.honest p ≡ false) → ReadsPages g (err_of A told) p q
+reads_undecoded {A = A} g fault told p q is h so = subst (λ (f : Fault). ReadsPages g (err_of A f) p q) (sym is) (of_fault fault so) where
+  of_fault : (fault : DecodeFault) → (fault ≡ decoding.Damaged → g.honest p ≡ false) → ReadsPages g (err_of A (decoding_fault_of fault)) p q
+  of_fault decoding.Damaged so = reads_damaged g p q h (so refl)
+  of_fault decoding.NoMemory so = record {
+    counts = h.counts;
+    same = h.same;
+    pool = record {
+      room = record { enough = λ same. cc; used = omega (arith, h.room) };
+      device = record { count = h.count; device = λ same. cc };
+      honesty = record { same = h.honesty; damaged = λ same. cc };
+    };
+  }
 
 pub not_honest_from : (honest test : Bool) → (IsTrue honest → test ≡ true) → test ≡ false → honest ≡ false
 not_honest_from honest test h fails = false_from_ne_true honest (λ is. both_ways test fails (h is))
@@ -111,6 +130,17 @@ whole_from entries p h =
     let parts = and_parts (length entries == p.len) (size_of entries == p.size) h in
     (eqb-true (length entries) p.len parts.0, eqb-true (size_of entries) p.size parts.1)
 
+-- all of it
+pub read_of : (pages : Pages) (places : List PlaceState) (at : ℕ) (numbers : List ℕ) (p : PlaceState) (entries : List ItemState) → IsDirectory pages places → at < length places
+    → p ≡ get_or places at p → entries ≡ items_in (bytes_on pages numbers) → numbers ≡ p.pages → are_of p (drop (at + 1) places) entries ≡ true
+read_of pages places at numbers p entries h within is read same =
+    let whole : Bool = length entries == p.len && size_of entries == p.size in
+    let begins : Bool = begins_at p.stamp p.identifier entries in
+    let below : Bool = are_below entries (drop (at + 1) places) in
+    and_from (whole && begins) below
+    (and_from whole begins (read_whole pages places at numbers p entries h within is read same) (read_begins pages places at numbers p entries p.stamp p.identifier h within is read same refl refl))
+    (read_below pages places at numbers p entries h within is read same)
+
 -- items that were read, and seen to be all, and to begin and to end so
 pub may_be_read : (places : List PlaceState) (at : ℕ) (numbers : List ℕ) (p : PlaceState) (entries : List ItemState) (stamp : ℤ) (identifier : List ℕ) → at < length places → p ≡ get_or places at p
     → numbers ≡ p.pages → stamp ≡ p.stamp → identifier ≡ p.identifier → FitPage entries → (length numbers ≤ 1 → fit_one entries ≡ true) → (length entries ≡ p.len) × (size_of entries ≡ p.size) → begins_at stamp identifier entries ≡ true
@@ -122,3 +152,13 @@ may_be_read places at numbers p entries stamp identifier within is paged dated n
   begins = λ d. sym (λ i. begins_at ((dated ∙ ap (λ (q : PlaceState). q.stamp) (get_or_read places at p within is d)) i) ((named ∙ ap (λ (q : PlaceState). q.identifier) (get_or_read places at p within is d)) i) entries) ∙ begins;
   below = below;
 }
+
+-- as one test
+pub may_be_of : (places : List PlaceState) (at : ℕ) (numbers : List ℕ) (p : PlaceState) (entries : List ItemState) → at < length places → p ≡ get_or places at p → numbers ≡ p.pages
+    → FitPage entries → (length numbers ≤ 1 → fit_one entries ≡ true) → are_of p (drop (at + 1) places) entries ≡ true → MayBeAt places at entries
+may_be_of places at numbers p entries within is paged page fits test =
+    let whole : Bool = length entries == p.len && size_of entries == p.size in
+    let begins : Bool = begins_at p.stamp p.identifier entries in
+    let parts = and_parts (whole && begins) (are_below entries (drop (at + 1) places)) test in
+    let front = and_parts whole begins parts.0 in
+    may_be_read places at numbers p entries p.stamp p.identifier within is paged refl refl page fits (whole_from entries p front.0) front.1 parts.1

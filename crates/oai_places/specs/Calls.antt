@@ -1,6 +1,8 @@
 -- What a call does to the pool of pages.
 use Rattle.std.specs.Prelude.{◌≡◌, ◌⊎◌, ◌+◌, ◌<◌, ℕ, List, Result, Ok}
 use Rattle.oai_catalogue.specs.Store.{Spares, Spends}
+use Rattle.oai_item.specs.declared.decodings.DecodeFault.{DecodeFault}
+use Rattle.oai_item.specs.declared.decodings.DecodeFault.TheVariants as decoding
 use Rattle.oai_item.specs.declared.faults.Fault.{Fault}
 use Rattle.oai_item.specs.declared.faults.Fault.TheVariants as told
 use Rattle.oai_pool.specs.declared.pools.PoolFault.{PoolFault}
@@ -9,29 +11,29 @@ use Rattle.oai_pool.specs.Counts.{count_of}
 use Rattle.oai_pool.specs.declared.pools.PagePool.{Ghosts}
 use Rattle.oai_places.specs.Places.{PlaceState, named_in}
 
--- what a call that cannot fail returns, as what one returns that can
+-- the result of a call that cannot fail, as that of one that can
 abbrev pub returned : {A : Type 0} → A → Result A Fault
 returned a = Ok a
 
--- it reads pages alone
+-- it only reads pages
 pub record ReadsPages {P A : Type 0} (g : Ghosts P) (result : Result A Fault) (old new : P) : Type 0 where
   pub counts : g.counts new ≡ g.counts old
   pub same : g.pages new ≡ g.pages old
   pub pool : Spends g.room g.failures g.honest 0 result old new
 
--- the pages that the places before named are named once less, and those that the places after name once more; a page
--- that others named too is as it was
+-- the reference counts of the pages of the leaves before are decremented, and of those of the leaves after incremented;
+-- a page that others referenced too is unchanged
 pub record Renames {P : Type 0} (g : Ghosts P) (before after : List PlaceState) (old new : P) : Type 0 where
   pub counts : (n : ℕ) → count_of (g.counts new) n + named_in before n ≡ count_of (g.counts old) n + named_in after n
   pub kept : (n : ℕ) → named_in before n < count_of (g.counts old) n → g.pages new n ≡ g.pages old n
 
--- pages that were kept in memory are kept no more, and nothing else changes
+-- pages are dropped from memory, and nothing else changes
 pub record Forgets {P : Type 0} (g : Ghosts P) (old new : P) : Type 0 where
   pub counts : g.counts new ≡ g.counts old
   pub same : g.pages new ≡ g.pages old
   pub pool : Spares g.room g.failures g.honest old new
 
--- names once more are refused for want of memory, or since one of the pages is named as often as it can be
+-- further references fail for lack of memory, or since one of the pages has as many references as it can
 abbrev pub IsShareFault : Type 0 → Fault → Type 0
 IsShareFault full cause = (cause ≡ told.NoMemory) ⊎ ((cause ≡ told.TooManyPages) × full)
 
@@ -41,3 +43,8 @@ fault_of pool.Device = told.Device
 fault_of pool.Damaged = told.Damaged
 fault_of pool.NoMemory = told.NoMemory
 fault_of pool.TooManyPages = told.TooManyPages
+
+-- the fault of a store that reports why bytes could not be read as items
+abbrev pub decoding_fault_of : DecodeFault → Fault
+decoding_fault_of decoding.Damaged = told.Damaged
+decoding_fault_of decoding.NoMemory = told.NoMemory

@@ -27,8 +27,8 @@ use std::alloc::{AllocError, Global};
 use std::cmp::Ordering;
 use std::marker::Model;
 
-/// Items as the entries of a page: the spelling of each behind its length. Contracts see them as the list of the
-/// items. None of them is decoded, but where one is asked for.
+/// Items as the entries of a leaf page: each encoded, after its length. Contracts see them as the list of the items.
+/// None of them is decoded until it is requested.
 #[derive(Drop)]
 pub struct Entries {
     bytes: Vec<u8>,
@@ -47,17 +47,17 @@ impl Model for Entries {
     ghost invariant = { λ e. AreEntries e.bytes.items e.ends.items };
 }
 
-/// Where entries are cut, to be put on three pages at most.
+/// Where entries are split, to be put on at most three pages.
 #[derive(Clone, Copy)]
 pub struct Cuts {
-    /// How many stand on the first page.
+    /// How many are on the first page.
     pub first: usize,
-    /// How many stand on the first two pages.
+    /// How many are on the first two pages.
     pub second: usize,
 }
 
 impl Entries {
-    /// No entries. It takes no memory.
+    /// No entries. Allocates nothing.
     pub fn new(alloc: Global) -> Entries
         ensures { result ≡ [] }
     {
@@ -67,8 +67,8 @@ impl Entries {
         }
     }
 
-    /// The entries of a page, which with its overflow pages may be longer than one. `Damaged` where the bytes are not
-    /// the page of any items; `NoMemory`.
+    /// The entries of a page, which with its overflow pages may be longer than one. The errors: `Damaged` if the bytes
+    /// are not a page of items; `NoMemory`.
     pub(crate) fn read(alloc: Global, page: &[u8]) -> Result<Entries, DecodeFault>
         requires { 4 ≤ length page.now }
         ensures { IsPageReading page.now result }
@@ -78,8 +78,8 @@ impl Entries {
         Entries::ending(alloc, page, ends, size)
     }
 
-    /// The entries of a page, each of which is known to spell an item, and is not tested. `Damaged` where the bytes are
-    /// not the page of any items; `NoMemory`.
+    /// The entries of a page, each of which is known to encode an item, and is not validated. The errors: `Damaged` if
+    /// the bytes are not a page of items; `NoMemory`.
     pub(crate) fn of_page(alloc: Global, page: &[u8]) -> Result<Entries, DecodeFault>
         requires long { 4 ≤ length page.now }
         requires tested { has_items page.now ≡ true }
@@ -90,8 +90,8 @@ impl Entries {
         Entries::ending(alloc, page, ends, size)
     }
 
-    /// The entries of a page, which has so many bytes of them, and of which each ends at one of the numbers. `Damaged`
-    /// where the bytes are not the page of any items; `NoMemory`.
+    /// The entries of a page, which have that many bytes, and each of which ends at one of the numbers. The errors:
+    /// `Damaged` if the bytes are not a page of items; `NoMemory`.
     fn ending(
         alloc: Global,
         page: &[u8],
@@ -135,7 +135,7 @@ impl Entries {
         self.bytes.len()
     }
 
-    /// How the item at that place stands to this datestamp, in seconds from 1970 on, and identifier.
+    /// Compares the item at that position with this datestamp, in seconds from 1970 on, and identifier.
     pub(crate) fn order_to(&self, at: usize, stamp: i64, identifier: &str) -> Ordering
         requires { at < length self.now }
         ensures { HoldsAt (λ item. result ≡ place_cmp item stamp identifier.now) self.now at }
@@ -143,8 +143,8 @@ impl Entries {
         self.spelled(at).order_to(stamp, identifier)
     }
 
-    /// Where this datestamp, in seconds from 1970 on, and identifier are among the items: the place of the item that
-    /// has them, or where it would stand.
+    /// Binary search for this datestamp, in seconds from 1970 on, and identifier among the items: the position of the
+    /// item that has them, or where it would be inserted.
     pub(crate) fn place_of(&self, stamp: i64, identifier: &str) -> Result<usize, usize>
         requires { are_in_order self.now ≡ true }
         ensures { IsPlace self.now stamp identifier.now result }
@@ -169,8 +169,7 @@ impl Entries {
         self.len() > 0 && self.order_to(0, stamp, identifier) == Ordering::Equal
     }
 
-    /// Whether all items, which are in their order, stand before this datestamp, in seconds from 1970 on, and
-    /// identifier.
+    /// Whether all items, which are in their order, precede this datestamp, in seconds from 1970 on, and identifier.
     pub fn are_before(&self, stamp: i64, identifier: &str) -> bool
         requires { are_in_order self.now ≡ true }
         ensures { result ≡ list_all (λ item. is_lt (place_cmp item stamp identifier.now)) self.now }
@@ -179,7 +178,7 @@ impl Entries {
         len == 0 || self.order_to(len - 1, stamp, identifier) == Ordering::Less
     }
 
-    /// The item at that place, in memory of its own. The error is out of memory.
+    /// The decoded item at that position. The error is out of memory.
     pub(crate) fn item(&self, alloc: Global, at: usize) -> Result<Item, AllocError>
         requires { at < length self.now }
         ensures { IfOk result (λ item. HoldsAt (λ own. item ≡ own) self.now at) }
@@ -188,9 +187,9 @@ impl Entries {
         Ok(item)
     }
 
-    /// The items, which fit on one page, with that one, whose spelling has at most `MAX_ITEM_BYTES` of oai_item, in
-    /// place of the one of its datestamp and identifier where there is one; and where the entries are cut: around the
-    /// item, where it needs overflow pages, or else as `cuts` says for the same `fills`. The error is out of memory.
+    /// The items, which fit on one page, with that one, whose encoding has at most `MAX_ITEM_BYTES` of oai_item, in
+    /// place of the one with its datestamp and identifier if there is one; and where the entries are split: around the
+    /// item, if it needs overflow pages, or else as `cuts` says for the same `fills`. The error is out of memory.
     pub fn put(
         &self,
         alloc: Global,
@@ -209,7 +208,7 @@ impl Entries {
         }
     }
 
-    /// The items but that of this datestamp, in seconds from 1970 on, and identifier, or None where none of them has
+    /// The items without that with this datestamp, in seconds from 1970 on, and identifier, or None if no item has
     /// these. The error is out of memory.
     pub fn remove(
         &self,
@@ -228,8 +227,8 @@ impl Entries {
         }
     }
 
-    /// Where the entries are cut, to be put on pages: nowhere, where they fit on one; else in halves or, if `fills`
-    /// says so, after a page that is filled to nine tenths; and again, where the rest does not fit on one page.
+    /// Where the entries are split, to be put on pages: nowhere, if they fit on one; else in halves or, if `fills` says
+    /// so, after a page that is filled to nine tenths; and again, if the rest does not fit on one page.
     pub fn cuts(&self, fills: bool) -> Cuts
         requires size { size_of self.now ≤ 2 * MAX_ENTRY_BYTES }
         requires short { are_short self.now ≡ true }
@@ -242,15 +241,14 @@ impl Entries {
         Cuts { first, second }
     }
 
-    /// Whether all of them stand on one page, without overflow pages.
+    /// Whether all of them fit on one page, without overflow pages.
     pub(crate) fn fit_one(&self) -> bool
         ensures { result ≡ fit_one self.now }
     {
         self.size() <= MAX_ENTRY_BYTES && self.are_short()
     }
 
-    /// How many overflow pages the entries from the one place up to the other need, which stand on one page, or are
-    /// one.
+    /// How many overflow pages the entries in the range need, which fit on one page, or are one.
     pub fn overflow(&self, from: usize, to: usize) -> usize
         requires some { from < to }
         requires within { to ≤ length self.now }
@@ -265,9 +263,8 @@ impl Entries {
         (size + NUMBER_BYTES - FRONT_BYTES + (PAGE_BYTES - 1)) / PAGE_BYTES
     }
 
-    /// Writes the page at that place among the pages of the entries from the one place up to the other, which stand on
-    /// one page, or are one: the page of the entries, and behind it the overflow pages. Nothing is left of what the
-    /// page was.
+    /// Writes one of the pages of the entries in the range, which fit on one page, or are one: at index 0 the page of
+    /// the entries, then the overflow pages. All bytes of the page are overwritten.
     pub fn fill_page(&self, from: usize, to: usize, at: usize, page: &mut Page)
         requires some { from < to }
         requires within { to ≤ length self.now }
@@ -289,7 +286,7 @@ impl Entries {
         fill_with(page, &[], &entries[start..end])
     }
 
-    /// The datestamp of the item at that place, in seconds from 1970 on.
+    /// The datestamp of the item at that position, in seconds from 1970 on.
     pub fn stamp(&self, at: usize) -> i64
         requires { at < length self.now }
         ensures { HoldsAt (λ item. result ≡ item.stamp) self.now at }
@@ -297,7 +294,7 @@ impl Entries {
         self.spelled(at).stamp()
     }
 
-    /// The identifier of the item at that place. The error is out of memory.
+    /// The identifier of the item at that position. The error is out of memory.
     pub fn identifier(&self, alloc: Global, at: usize) -> Result<Identifier, AllocError>
         requires { at < length self.now }
         ensures { IfOk result (λ identifier. HoldsAt (λ item. identifier ≡ item.identifier) self.now at) }
@@ -306,8 +303,7 @@ impl Entries {
         Ok(identifier)
     }
 
-    /// The prefixes of which the items from the one place up to the other each have a record. The error is out of
-    /// memory.
+    /// The prefixes with which each item in the range has a record. The error is out of memory.
     pub fn prefixes(
         &self,
         alloc: Global,
@@ -325,7 +321,7 @@ impl Entries {
         Ok(Sequence::new(prefixes))
     }
 
-    /// Whether the items from the one place up to the other each have a record of each of the prefixes.
+    /// Whether each item in the range has a record with each of the prefixes.
     pub fn have_records(&self, from: usize, to: usize, prefixes: &[Prefix]) -> bool
         requires order { from ≤ to }
         requires within { to ≤ length self.now }
@@ -338,9 +334,9 @@ impl Entries {
         all
     }
 
-    /// How many of the items from the one place up to the other are in each set, and where these stand, with setSpecs
-    /// of those names. Of where they stand nothing is promised where their entries have more than `MAX_ENTRY_BYTES`
-    /// bytes together. None where there are too many sets, or memory is refused.
+    /// How many of the items in the range are in each set, and where these are, with setSpecs of those names. Nothing
+    /// is promised of where they are if their entries have more than `MAX_ENTRY_BYTES` bytes together. None if there
+    /// are too many sets, or memory runs out.
     pub fn set_counts(
         &self,
         alloc: Global,
@@ -359,8 +355,8 @@ impl Entries {
         counts.packed(alloc)
     }
 
-    /// Where the entry of the item at that place stands among those from `from` on. Where those up to its end have more
-    /// than `MAX_ENTRY_BYTES` bytes, nothing is promised of the answer.
+    /// The span of the entry of the item at that position among those from `from` on. If those up to its end have more
+    /// than `MAX_ENTRY_BYTES` bytes, nothing is promised of the result.
     fn span_of(&self, from: usize, at: usize) -> Span
         requires order { from ≤ at }
         requires within { at < length self.now }
@@ -373,7 +369,7 @@ impl Entries {
         }
     }
 
-    /// How many bytes the entries from the one place up to the other have.
+    /// How many bytes the entries in the range have.
     pub fn size_between(&self, from: usize, to: usize) -> usize
         requires order { from ≤ to }
         requires within { to ≤ length self.now }
@@ -382,7 +378,7 @@ impl Entries {
         self.entries(from, to).len()
     }
 
-    /// These entries and the others behind them. The error is out of memory.
+    /// These entries and the others after them. The error is out of memory.
     fn and(&self, alloc: Global, others: &Entries) -> Result<Entries, AllocError>
         ensures { IfOk result (λ all. all ≡ self.now ++ others.now) }
     {
@@ -393,8 +389,8 @@ impl Entries {
         Ok(Entries { bytes, ends })
     }
 
-    /// These entries and the others behind them, where all stand on one page, in their order; or else None, and where
-    /// memory is refused.
+    /// These entries and the others after them, if all fit on one page, in their order; None otherwise, and if memory
+    /// runs out.
     pub fn joined(&self, alloc: Global, others: &Entries) -> Option<Entries>
         ensures all { IfSome result (λ all. all ≡ self.now ++ others.now) }
         ensures one_page { IfSome result (λ all. fit_one all ≡ true) }
@@ -412,7 +408,7 @@ impl Entries {
         Some(all)
     }
 
-    /// How many records the item at that place has.
+    /// How many records the item at that position has.
     pub fn records(&self, at: usize) -> usize
         requires { at < length self.now }
         ensures { HoldsAt (λ item. result ≡ length item.formats) self.now at }
@@ -422,7 +418,7 @@ impl Entries {
 }
 
 impl Entries {
-    /// Where the entry at that place begins.
+    /// The offset of the entry at that position.
     fn start(&self, at: usize) -> usize
         requires { at ≤ length self.now }
         ensures { result ≡ size_of (take at self.now) }
@@ -433,7 +429,7 @@ impl Entries {
         self.end(at - 1)
     }
 
-    /// Where the entry at that place ends.
+    /// The offset behind the entry at that position.
     fn end(&self, at: usize) -> usize
         requires { at < length self.now }
         ensures { result ≡ size_of (take (at + 1) self.now) }
@@ -441,7 +437,7 @@ impl Entries {
         self.ends[at]
     }
 
-    /// The bytes of the entries from the one place up to the other.
+    /// The bytes of the entries in the range.
     fn entries(&self, from: usize, to: usize) -> &[u8]
         requires order { from ≤ to }
         requires within { to ≤ length self.now }
@@ -452,7 +448,7 @@ impl Entries {
         &self.bytes[start..end]
     }
 
-    /// The spelling of the item at that place.
+    /// The encoded item at that position.
     fn spelling(&self, at: usize) -> &[u8]
         requires { at < length self.now }
         ensures { HoldsAt (λ item. Spells result.now item) self.now at }
@@ -463,7 +459,7 @@ impl Entries {
         &entry[NUMBER_BYTES..]
     }
 
-    /// The item at that place, as it is spelled.
+    /// The item at that position, read in place.
     pub(crate) fn spelled(&self, at: usize) -> Spelling<'_>
         requires { at < length self.now }
         ensures { HoldsAt (λ item. result ≡ item) self.now at }
@@ -471,7 +467,7 @@ impl Entries {
         Spelling::new(self.spelling(at))
     }
 
-    /// Whether each item stands before the next.
+    /// Whether each item precedes the next.
     fn are_rising(&self) -> bool
         ensures { result ≡ are_in_order self.now }
     {
@@ -490,8 +486,8 @@ impl Entries {
         true
     }
 
-    /// Up to which place the entries from `from` on go on a page: to the end, where it has room for them; else so many
-    /// as have no more bytes than `goal`, but one at least.
+    /// Up to which position the entries from `from` on go on a page: to the end, if they fit; else as many as have at
+    /// most `goal` bytes, but at least one.
     fn front(&self, from: usize, goal: usize) -> usize
         requires within { from ≤ length self.now }
         requires goal { goal ≤ MAX_ENTRY_BYTES }
@@ -515,7 +511,8 @@ impl Entries {
         to
     }
 
-    /// The items, which fit on one page, with that one in place of so many from the place on, and where they are cut.
+    /// The items, which fit on one page, with that one in place of `gone` from the position on, and where they are
+    /// split.
     fn put_at(
         &self,
         alloc: Global,
@@ -544,7 +541,7 @@ impl Entries {
         Ok((entries, cuts))
     }
 
-    /// Whether the spelling of the item at that place is too long to stand whole in its entry.
+    /// Whether the encoded item at that position is too long to fit in its entry without overflow pages.
     fn is_long(&self, at: usize) -> bool
         requires { at < length self.now }
         ensures { HoldsAt (λ item. result ≡ nat_lt MAX_WHOLE_BYTES (length (encoded item))) self.now at }
@@ -552,7 +549,7 @@ impl Entries {
         self.spelling(at).len() > MAX_WHOLE_BYTES
     }
 
-    /// Whether the spelling of each item is short enough to stand whole in its entry.
+    /// Whether each encoded item is short enough to fit in its entry.
     fn are_short(&self) -> bool
         ensures { result ≡ are_short self.now }
     {
@@ -564,7 +561,7 @@ impl Entries {
         true
     }
 
-    /// The items with that one in place of so many from the place on.
+    /// The items with that one in place of several from the position on.
     fn with(
         &self,
         alloc: Global,
@@ -589,7 +586,7 @@ impl Entries {
         Ok(Entries { bytes, ends })
     }
 
-    /// The items but the one at that place.
+    /// The items without the one at that position.
     fn without(&self, alloc: Global, at: usize) -> Result<Entries, AllocError>
         requires { at < length self.now }
         ensures { IfOk result

@@ -1,4 +1,4 @@
-//! The bytes of entries, and what stands on them.
+//! The bytes of entries, and their contents.
 ghost use Rattle.std.specs.Prelude.{◌≡◌, ◌==◌, ◌+◌, ◌-◌, ◌*◌, ◌^◌, ◌<◌, ◌≤◌, ℕ, List, [], true, ◌++◌, ◌∷◌, length, take, drop, replicate, filter, map, All, IfOk, IsErrOf, OnOk};
 ghost use Rattle.std.specs.List.{list_all};
 ghost use Rattle.oai_device.specs.declared.devices.TheConstants.{PAGE_BYTES};
@@ -29,7 +29,7 @@ pub(crate) fn prefixes_of(alloc: Global, item: &Spelling<'_>) -> Result<Vec<Pref
     Ok(prefixes)
 }
 
-/// Whether the item has a record of each of the prefixes.
+/// Whether the item has a record with each of the prefixes.
 pub(crate) fn has_each(item: &Spelling<'_>, prefixes: &[Prefix]) -> bool
     ensures { result ≡ list_all (λ prefix. has_record prefix item.now.formats) prefixes.now }
 {
@@ -38,7 +38,7 @@ pub(crate) fn has_each(item: &Spelling<'_>, prefixes: &[Prefix]) -> bool
         .all(|prefix| item.has_record(prefix.as_str()))
 }
 
-/// Those of the prefixes of which the item has a record.
+/// Those of the prefixes with which the item has a record.
 pub(crate) fn common(prefixes: Vec<Prefix>, item: &Spelling<'_>) -> Vec<Prefix>
     ensures { result.items
         ≡ filter (λ prefix. has_record prefix item.now.formats) prefixes.items }
@@ -48,7 +48,7 @@ pub(crate) fn common(prefixes: Vec<Prefix>, item: &Spelling<'_>) -> Vec<Prefix>
     kept
 }
 
-/// Writes the two into the page, one behind the other, and zeros behind them.
+/// Writes the two into the page, one after the other, and zeros after them.
 pub(crate) fn fill_with(page: &mut Page, front: &[u8], back: &[u8])
     requires { length front.now + length back.now ≤ PAGE_BYTES }
     ensures { page.new ≡ filled (front.now ++ back.now) }
@@ -58,14 +58,14 @@ pub(crate) fn fill_with(page: &mut Page, front: &[u8], back: &[u8])
     clear(&mut page[front.len() + back.len()..]);
 }
 
-/// Makes each of the bytes 0.
+/// Zeroes the bytes.
 fn clear(bytes: &mut [u8])
     ensures { bytes.new ≡ replicate (length bytes.old) 0 }
 {
     bytes.fill(0);
 }
 
-/// Writes the bytes into the page, from that place on.
+/// Writes the bytes into the page, from that offset on.
 fn put_at(page: &mut Page, at: usize, bytes: &[u8])
     requires { at + length bytes.now ≤ PAGE_BYTES }
     ensures { page.new
@@ -74,7 +74,7 @@ fn put_at(page: &mut Page, at: usize, bytes: &[u8])
     page[at..at + bytes.len()].copy_from_slice(bytes);
 }
 
-/// The number in front of the bytes.
+/// The number at the start of the bytes.
 pub(crate) fn first_number(bytes: &[u8]) -> usize
     requires { 4 ≤ length bytes.now }
     ensures { result ≡ first_number bytes.now }
@@ -84,8 +84,8 @@ pub(crate) fn first_number(bytes: &[u8]) -> usize
     u32::from_be_bytes(number) as usize
 }
 
-/// How many bytes the entry has that stands in front of the bytes. `Damaged` where none does; `NoMemory`, which is
-/// taken where its item is in many sets.
+/// The length of the entry at the start of the bytes. The errors: `Damaged` if there is none; `NoMemory`, which an item
+/// in many sets may need.
 fn entry_len(alloc: Global, bytes: &[u8]) -> Result<usize, DecodeFault>
     ensures { IsEntryReading bytes.now result }
 {
@@ -103,8 +103,8 @@ fn entry_len(alloc: Global, bytes: &[u8]) -> Result<usize, DecodeFault>
     Ok(NUMBER_BYTES + len)
 }
 
-/// Where each of so many entries in front of the bytes ends, and the last of them. `Damaged` where there are not so
-/// many; `NoMemory`.
+/// The offset behind each of that many entries at the start of the bytes, and that of the last. The errors: `Damaged`
+/// if there are not so many; `NoMemory`.
 pub(crate) fn read_ends(
     alloc: Global,
     bytes: &[u8],
@@ -125,8 +125,8 @@ pub(crate) fn read_ends(
     Ok((ends, end))
 }
 
-/// Where each of so many entries in front of the bytes ends, each of which is known to spell an item, and the last of
-/// them. The error is out of memory.
+/// The offset behind each of that many entries at the start of the bytes, each of which is known to encode an item, and
+/// that of the last. The error is out of memory.
 pub(crate) fn ends_of(
     alloc: Global,
     bytes: &[u8],
@@ -144,7 +144,7 @@ pub(crate) fn ends_of(
     Ok((ends, end))
 }
 
-/// How many bytes the entry has that stands in front of the bytes, which is known to spell an item.
+/// The length of the entry at the start of the bytes, which is known to encode an item.
 fn spelled_len(bytes: &[u8]) -> usize
     requires { spells_item bytes.now ≡ true }
     ensures entry { HasEntry bytes.now result }
@@ -162,8 +162,8 @@ fn push_end(ends: &mut Vec<usize>, end: usize) -> Result<(), AllocError>
     Ok(())
 }
 
-/// Whether each of the bytes is 0. The loop has no other end than the last byte, and what it finds is handed out of a
-/// function of its own, so that many bytes are tested at a time.
+/// Whether each of the bytes is 0. The loop ends only at the last byte, and a separate function returns what it finds,
+/// so that it can be vectorized.
 #[inline(never)]
 pub(crate) fn are_zeros(bytes: &[u8]) -> bool
     ensures { result ≡ list_all (λ byte. byte == 0) bytes.now }
@@ -220,7 +220,7 @@ pub(crate) fn entry_of(alloc: Global, item: &Item) -> Result<Vec<u8>, AllocError
     Ok(entry)
 }
 
-/// The spelling of the item.
+/// The encoded item.
 fn spelling_of(alloc: Global, item: &Item) -> Result<Vec<u8>, AllocError>
     requires { length (encoded item.now) ≤ MAX_ITEM_BYTES }
     ensures spelling { IfOk result (λ bytes. bytes.items ≡ encoded item.now) }
@@ -238,7 +238,7 @@ fn spelling_of(alloc: Global, item: &Item) -> Result<Vec<u8>, AllocError>
     }
 }
 
-/// Adds the ends, of entries that began at the one number and now begin at the other.
+/// Appends the ends, of entries that began at the one offset and now begin at the other.
 pub(crate) fn push_moved(
     ends: &mut Vec<usize>,
     more: &[usize],

@@ -1,30 +1,30 @@
-//! Groups of places of a directory that follow one another: what is known of the items of a group spares a look at each
-//! of its places.
+//! Groups of consecutive leaves of a directory (zone maps): the statistics of a group save a look at each of its
+//! leaves.
 ghost use Rattle.std.specs.Prelude.{◌≡◌, ◌+◌, ◌<◌, ◌≤◌, List, [], None, length, drop, IfOk, IfSome, IsTrue};
 ghost use Rattle.oai_places.specs.Places.{PlaceState};
 ghost use Rattle.oai_places.specs.Sums.{AreExchanged, AreGroups, IsStretch, IsSoundGroup, IsSumInside};
 
 use crate::places::SharedPlace;
-use crate::reading::{Wanted, ends_by};
 use crate::sums::SharedSum;
+use crate::wanted::{Wanted, ends_by};
 use std::alloc::{AllocError, Global};
 use std::marker::Model;
 
-/// How many places a new group has.
+/// How many leaves a new group has.
 const GROUP_PLACES: usize = 256;
 
-/// Where groups have fewer places on the whole, all are made anew.
+/// If groups have fewer leaves on average, all are rebuilt.
 const MIN_GROUP_PLACES: usize = 64;
 
-/// How many places a group has at most, before all groups are made anew.
+/// The maximum number of leaves of a group, above which all groups are rebuilt.
 const MAX_GROUP_PLACES: usize = 1_024;
 
-/// Places that follow one another.
+/// Consecutive leaves.
 #[derive(Drop)]
 struct Group {
     first: usize,
     len: usize,
-    /// None where one of the places was changed, or memory was refused.
+    /// None if one of the leaves was changed, or memory ran out.
     sum: Option<SharedSum>,
 }
 
@@ -36,8 +36,8 @@ impl Model for Group {
     ghost view = { λ g. record { first = g.first; len = g.len; sum = g.sum } };
 }
 
-/// Groups of the places of a directory that follow one another, in their order: of each, where it is known, how many
-/// items it has, of which datestamps and prefixes, and how many are in each set. A place may be in none.
+/// Groups of consecutive leaves of a directory, in their order: for each, if it is known, how many items it has, with
+/// which datestamps and prefixes, and how many are in each set. A leaf may be in none.
 #[derive(Drop)]
 pub struct Groups {
     groups: Vec<Group>,
@@ -52,7 +52,7 @@ impl Model for Groups {
     ghost view = { λ g. g.groups.items };
 }
 
-/// Places that are passed over, and how many of their items are wanted.
+/// Leaves that are skipped, and how many of their items are wanted.
 #[derive(Clone, Copy)]
 pub(crate) struct Stretch {
     pub(crate) places: usize,
@@ -60,7 +60,7 @@ pub(crate) struct Stretch {
 }
 
 impl Groups {
-    /// No groups. It takes no memory.
+    /// No groups. Allocates nothing.
     pub fn new(alloc: Global) -> Groups
         ensures { result ≡ [] }
     {
@@ -69,7 +69,7 @@ impl Groups {
         }
     }
 
-    /// A copy of the groups, which takes the memory of a few numbers for each, or no groups where there is none.
+    /// A copy of the groups, which takes a few numbers for each, or no groups if memory runs out.
     pub fn copy(&self, alloc: Global) -> Groups
         ensures { (places : List PlaceState) → AreGroups places self.now → AreGroups places result }
     {
@@ -90,8 +90,8 @@ impl Groups {
         Ok(Groups { groups })
     }
 
-    /// Forgets what is known of the groups of which one of the `len` places from `at` on was exchanged, in whose place
-    /// `count` others stand now. The groups behind are moved.
+    /// Invalidates the statistics of the groups that contain one of the `len` leaves from `at` on, which were replaced
+    /// by `count` others. The groups behind are moved.
     pub fn exchange(&mut self, at: usize, len: usize, count: usize)
         ensures { (before after : List PlaceState) → AreExchanged at len count before after
             → AreGroups before self.old → AreGroups after self.new }
@@ -101,8 +101,8 @@ impl Groups {
         }
     }
 
-    /// Finds out what is not known of the groups, and makes groups of the places behind the last one, as far as there
-    /// is memory. Where there are too many groups, or one has too many places, all are made anew.
+    /// Rebuilds the missing statistics of the groups, and makes groups of the leaves after the last one, as far as
+    /// memory is available. If there are too many groups, or one has too many leaves, all are rebuilt.
     pub fn tend(&mut self, alloc: Global, places: &[SharedPlace])
         ensures { AreGroups places.now self.old → AreGroups places.now self.new }
     {
@@ -113,7 +113,7 @@ impl Groups {
         self.extend(alloc, places);
     }
 
-    /// Whether there are too many groups for so many places, or one has too many places.
+    /// Whether there are too many groups for that many leaves, or one has too many leaves.
     fn are_uneven(&self, places: usize) -> bool {
         if self.groups.len() > 2 + places / MIN_GROUP_PLACES {
             return true;
@@ -121,7 +121,7 @@ impl Groups {
         self.groups.iter().any(|group| group.len > MAX_GROUP_PLACES)
     }
 
-    /// Finds out what is not known of the groups, as far as there is memory.
+    /// Rebuilds the missing statistics of the groups, as far as memory is available.
     fn sum_up(&mut self, alloc: Global, places: &[SharedPlace])
         ensures { AreGroups places.now self.old → AreGroups places.now self.new }
     {
@@ -130,7 +130,7 @@ impl Groups {
         }
     }
 
-    /// Makes groups of the places behind the last one, as far as there is memory. Fewer than make a group are left.
+    /// Makes groups of the leaves after the last one, as far as memory is available. Fewer than make a group are left.
     fn extend(&mut self, alloc: Global, places: &[SharedPlace])
         ensures { AreGroups places.now self.old → AreGroups places.now self.new }
     {
@@ -146,7 +146,7 @@ impl Groups {
         }
     }
 
-    /// Puts the group behind the others. The error is out of memory.
+    /// Appends the group to the others. The error is out of memory.
     fn push(&mut self, group: Group) -> Result<(), AllocError>
         ensures { (places : List PlaceState) → IsSoundGroup places group → AreGroups places self.old → AreGroups places self.new }
     {
@@ -154,7 +154,7 @@ impl Groups {
         Ok(())
     }
 
-    /// Behind which place the last group ends.
+    /// The position after the last leaf of the last group.
     fn end(&self) -> usize {
         match self.groups.last() {
             Some(group) => group.first.saturating_add(group.len),
@@ -162,7 +162,7 @@ impl Groups {
         }
     }
 
-    /// The places from `at` on of the group that begins there, where it is known how many of their items are wanted.
+    /// The leaves from `at` on of the group that begins there, if it is known how many of their items are wanted.
     pub(crate) fn stretch_at(
         &self,
         places: &[SharedPlace],
@@ -181,7 +181,7 @@ impl Groups {
         self.groups[near].stretch_at(places, at, wanted)
     }
 
-    /// Where the last group stands that begins at that place or before it, or 0.
+    /// The position of the last group that begins at that leaf or before it, or 0.
     fn place_of(&self, at: usize) -> usize {
         let mut low = 0;
         let mut high = self.groups.len();
@@ -198,7 +198,7 @@ impl Groups {
 }
 
 impl Group {
-    /// The group of some places from `first` on.
+    /// The group of some leaves from `first` on.
     fn new(alloc: Global, places: &[SharedPlace], first: usize) -> Group
         ensures { IsSoundGroup places.now result }
     {
@@ -226,8 +226,8 @@ impl Group {
         })
     }
 
-    /// Forgets what is known of the group where so many places from `at` on were changed, some of them its own, for
-    /// which so many others were put in: they are places of the group in which the first of those stood.
+    /// Invalidates the statistics of the group if `len` leaves from `at` on were changed, some of them its own, and
+    /// replaced by `count` others: these belong to the group of the first of the old ones.
     fn exchange(&mut self, at: usize, len: usize, count: usize)
         ensures { (before after : List PlaceState) → AreExchanged at len count before after
             → IsSoundGroup before self.old → IsSoundGroup after self.new }
@@ -252,14 +252,14 @@ impl Group {
         }
     }
 
-    /// Whether the place at `at` is behind those of the group.
+    /// Whether the leaf at `at` is behind those of the group.
     fn ends_by(&self, at: usize) -> bool
         ensures { IsTrue result → self.now.first + self.now.len ≤ at }
     {
         self.first <= at && self.len <= at - self.first
     }
 
-    /// Finds out what is not known of the places of the group, as far as there is memory.
+    /// Rebuilds the statistics of the leaves of the group, as far as memory is available.
     fn sum_up(&mut self, alloc: Global, places: &[SharedPlace])
         ensures { IsSoundGroup places.now self.old → IsSoundGroup places.now self.new }
     {
@@ -276,7 +276,7 @@ impl Group {
         self.sum = SharedSum::of(alloc, &rest[..self.len]);
     }
 
-    /// The places of the group, where it begins at `at` and it is known how many of their items are wanted.
+    /// The leaves of the group, if it begins at `at` and it is known how many of their items are wanted.
     fn stretch_at(&self, places: &[SharedPlace], at: usize, wanted: Wanted<'_>) -> Option<Stretch>
         requires within { at < length places.now }
         requires group { IsSoundGroup places.now self.now }
@@ -307,8 +307,8 @@ impl Group {
     }
 }
 
-/// Where the place at `first` stands behind a change of so many places from `at` on, for which so many others were put
-/// in; None where it is one of those that were changed, or stands before them.
+/// The position of the leaf at `first` after a change of `len` leaves from `at` on, which were replaced by `count`
+/// others; None if it is one of those that were changed, or precedes them.
 fn place_after(first: usize, at: usize, len: usize, count: usize) -> Option<usize>
     ensures { IfSome result (λ new. (at + len ≤ first) × (new + len ≡ first + count)) }
 {
@@ -321,8 +321,8 @@ fn place_after(first: usize, at: usize, len: usize, count: usize) -> Option<usiz
     (first - len).checked_add(count)
 }
 
-/// Whether it is known that all items of the places of the sum are wanted that are in the set, where one is asked for.
-/// The next places are these.
+/// Whether it is known that all items of the leaves of the sum are wanted that are in the set, if one is requested. The
+/// next leaves are these.
 fn is_inside(sum: &SharedSum, next: &[SharedPlace], wanted: Wanted<'_>) -> bool
     ensures { IsTrue result → IsSumInside sum.now next.now wanted.entry.filter.now wanted.entry.stamp wanted.entry.identifier.now }
 {

@@ -1,7 +1,7 @@
-//! Items that are picked from a page of which most are in other sets: the bytes are read within which those of the set
-//! stand, and what is in other sets among them is passed over by its length, and not tested.
+//! Picks items from a page most of which are in other sets: reads the bytes within which those of the set are, and
+//! skips by its length what is in other sets among them, without validating it.
 
-ghost use Rattle.std.specs.Prelude.{◌≡◌, ◌++◌, ◌+◌, ◌-◌, ◌<◌, ◌≤◌, ◌∷◌, ◌^◌, ℕ, List, [], Some, false, length, IfOk, IfSome, IsTrue};
+ghost use Rattle.std.specs.Prelude.{◌≡◌, ◌++◌, ◌+◌, ◌-◌, ◌<◌, ◌≤◌, ◌∷◌, ◌^◌, ℕ, Bool, List, [], Some, false, true, length, IfOk, IfSome, IsTrue};
 ghost use Rattle.oai_device.specs.Device.{range_of};
 ghost use Rattle.oai_device.specs.declared.devices.TheConstants.{PAGE_BYTES};
 ghost use Rattle.oai_item.specs.Encoding.{Spells, encoded_list, encoded_text};
@@ -18,11 +18,12 @@ ghost use Rattle.oai_pool.specs.Counts.{count_of};
 ghost use Rattle.oai_pool.specs.Names.{times};
 
 use crate::entry_bytes::first_number;
-use crate::faults::fault_of;
+use crate::faults::{decoding_fault_of, fault_of};
 use crate::finding::{first_entry, first_text};
 use crate::places::SharedPlace;
-use crate::reading::{Wanted, forget_damaged, is_item_wanted};
+use crate::reading::forget_damaged;
 use crate::sizes::NUMBER_BYTES;
+use crate::wanted::{Wanted, is_item_wanted};
 use oai_catalogue::Filter;
 use oai_device::PAGE_BYTES;
 use oai_item::{DecodeFault, Fault, Item, Spelling};
@@ -30,12 +31,12 @@ use oai_pool::{PageNo, PagePool};
 use oai_sums::Span;
 use std::alloc::{AllocError, Global};
 
-/// The bytes before the identifier in the spelling of an item: whether it is live, and its datestamp.
+/// The bytes before the identifier of an encoded item: whether it is live, and its datestamp.
 const STAMP_BYTES: usize = 9;
 
-/// The bytes are entries. Adds the wanted ones of their items to the part, but for the first `skip` wanted ones, until
-/// the part has `most` items; returns how many are still to be skipped. `Damaged` only where the bytes are not entries;
-/// `NoMemory`.
+/// The bytes are entries. Appends the wanted ones of their items to the part, except the first `skip` wanted ones,
+/// until the part has `most` items; returns how many remain to be skipped. The errors: `Damaged` only if the bytes are
+/// not entries; `NoMemory`.
 pub(crate) fn pick_entries(
     alloc: Global,
     entries: &[u8],
@@ -63,8 +64,8 @@ pub(crate) fn pick_entries(
     Ok(left)
 }
 
-/// Adds the item that the bytes spell to the part, where it is wanted and none is to be skipped; returns how many are
-/// still to be skipped. `Damaged` only where they spell none; `NoMemory`.
+/// Appends the item that the bytes encode to the part, if it is wanted and none is to be skipped; returns how many
+/// remain to be skipped. The errors: `Damaged` only if they encode none; `NoMemory`.
 fn pick_next(
     alloc: Global,
     spelling: &[u8],
@@ -77,21 +78,26 @@ fn pick_next(
         part.old.items part.new.items skip (item ∷ []) result }
 {
     match pick(alloc, spelling, wanted) {
-        Ok(Some(item)) => {
-            if skip > 0 {
-                return Ok(skip - 1);
-            }
-            match part.push(item) {
-                Ok(()) => Ok(skip),
-                Err(_) => Err(DecodeFault::NoMemory),
-            }
-        }
+        Ok(Some(item)) => Ok(add(item, skip, part)?),
         Ok(None) => Ok(skip),
         Err(fault) => Err(fault),
     }
 }
 
-/// The item that the bytes spell, where it is wanted. `Damaged` only where they spell none; `NoMemory`.
+/// Adds the item to the part, where none is to be skipped; returns how many are still to be skipped. The error is out of
+/// memory.
+fn add(item: Item, skip: usize, part: &mut Vec<Item>) -> Result<usize, AllocError>
+    ensures { IfOk result (λ left. (passes : ItemState → Bool) (most : ℕ) → passes item ≡ true → length part.old.items < most
+        → IsPartTaken passes most part.old.items part.new.items skip left (item ∷ [])) }
+{
+    if skip > 0 {
+        return Ok(skip - 1);
+    }
+    part.push(item)?;
+    Ok(skip)
+}
+
+/// The item that the bytes encode, if it is wanted. The errors: `Damaged` only if they encode none; `NoMemory`.
 fn pick(alloc: Global, spelling: &[u8], wanted: Wanted<'_>) -> Result<Option<Item>, DecodeFault>
     ensures { (item : ItemState) → Spells spelling.now item
         → IsPicked (is_wanted wanted.entry.filter.now wanted.entry.stamp wanted.entry.identifier.now) item result }
@@ -105,7 +111,7 @@ fn pick(alloc: Global, spelling: &[u8], wanted: Wanted<'_>) -> Result<Option<Ite
     }
 }
 
-/// The item in memory of its own, where it is wanted. The error is out of memory.
+/// The decoded item, if it is wanted. The error is out of memory.
 fn copy_wanted(
     alloc: Global,
     item: &Spelling<'_>,
@@ -120,7 +126,7 @@ fn copy_wanted(
     Ok(Some(Item::spelled(alloc, item)?))
 }
 
-/// Whether the item that the bytes spell may be in the set, where one is given: where it is in it, the answer is true.
+/// Whether the item that the bytes encode may be in the set, if one is given: if it is in it, the result is true.
 fn may_be_in(spelling: &[u8], filter: &Filter) -> bool
     ensures { (item : ItemState) → Spells spelling.now item → result ≡ false → is_in_given filter.now.set item.sets ≡ false }
 {
@@ -133,8 +139,8 @@ fn may_be_in(spelling: &[u8], filter: &Filter) -> bool
     }
 }
 
-/// The bytes of the item that these spell from the list of its setSpecs on. Where they spell none, nothing is promised
-/// of the answer; where they spell one, it is not None.
+/// The bytes of the encoded item from the list of its setSpecs on. If they encode none, nothing is promised of the
+/// result; if they encode one, it is not None.
 fn sets_in(spelling: &[u8]) -> Option<&[u8]>
     ensures { (item : ItemState) → Spells spelling.now item → AreSetsFound item result }
 {
@@ -147,8 +153,8 @@ fn sets_in(spelling: &[u8]) -> Option<&[u8]>
     }
 }
 
-/// Whether a setSpec of the list in front of the bytes may be that of the set, or lie below it: where one is or does,
-/// the answer is true.
+/// Whether a setSpec of the list at the start of the bytes may be the set's or a descendant of it: if one is, the
+/// result is true.
 fn may_have(bytes: &[u8], set: &str) -> bool
     ensures { (sets : List (List ℕ)) (behind : List ℕ) → length bytes.now < 2 ^ 32
         → bytes.now ≡ encoded_list encoded_text sets ++ behind → result ≡ false → is_in set.now sets ≡ false }
@@ -170,8 +176,8 @@ fn may_have(bytes: &[u8], set: &str) -> bool
     false
 }
 
-/// Where those items of the place stand that are in the set that is asked for, where it has one page, and half of its
-/// items at most are in the set.
+/// The span of the items of the leaf that are in the requested set, if it has one page, and at most half of its items
+/// are in the set.
 pub(crate) fn sparse_span(place: &SharedPlace, wanted: Wanted<'_>) -> Option<Span>
     ensures { IfSome result (λ span. IsPickable place.now wanted.entry.filter.now.set span) }
 {
@@ -189,9 +195,9 @@ pub(crate) fn sparse_span(place: &SharedPlace, wanted: Wanted<'_>) -> Option<Spa
     Some(span)
 }
 
-/// Adds the wanted items of the place, of which those in the set stand within the span, after the first `skip` to the
-/// part, up to `most`, and answers how many are then left to be skipped. It reads the bytes of the span alone, and
-/// tests what may be in the set. Any fault but `TooManyPages`. Where it is `Damaged`, the page is not kept in memory.
+/// Appends the wanted items of the leaf, those of the set being within the span, after the first `skip` to the part, up
+/// to `most`; returns how many remain to be skipped. It reads only the bytes of the span, and validates what may be in
+/// the set. Any fault but `TooManyPages`. If it is `Damaged`, the page is dropped from memory.
 pub(crate) fn pick_at<P: PagePool>(
     alloc: Global,
     pages: &mut P,
@@ -219,8 +225,8 @@ pub(crate) fn pick_at<P: PagePool>(
     }
 }
 
-/// Adds the wanted items of the place, of which those in the set stand within the span, after the first `skip` to the
-/// part, up to `most`, and answers how many are then left to be skipped. Any fault but `TooManyPages`.
+/// Appends the wanted items of the leaf, those of the set being within the span, after the first `skip` to the part, up
+/// to `most`; returns how many remain to be skipped. Any fault but `TooManyPages`.
 fn pick_in<P: PagePool>(
     alloc: Global,
     pages: &mut P,
@@ -242,12 +248,11 @@ fn pick_in<P: PagePool>(
     let bytes = read_span(alloc, pages, place.pages()[0], span)?;
     match pick_entries(alloc, &bytes, wanted, skip, most, part) {
         Ok(left) => Ok(left),
-        Err(DecodeFault::Damaged) => Err(Fault::Damaged),
-        Err(DecodeFault::NoMemory) => Err(Fault::NoMemory),
+        Err(fault) => Err(decoding_fault_of(fault)),
     }
 }
 
-/// The bytes of the entries of the span, on the page of that number, which is named. Any fault but `Damaged` and
+/// The bytes of the entries of the span, on the page with that number, which is referenced. Any fault but `Damaged` and
 /// `TooManyPages`.
 fn read_span<P: PagePool>(
     alloc: Global,

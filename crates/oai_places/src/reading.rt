@@ -1,61 +1,34 @@
-//! What is read of a directory: which items it has.
-ghost use Rattle.std.specs.Prelude.{◌≡◌, ◌==◌, ◌&&◌, ◌+◌, ◌*◌, ◌^◌, ◌<◌, ◌≤◌, ◌++◌, ℕ, [], true, false, length, take, drop, filter, HoldsAt, IfErr, IfOk, IfSome, IsSome, IsTrue, OnOk};
+//! What is read of the places of a directory: their entries, and an item that is looked for.
+ghost use Rattle.std.specs.Prelude.{◌≡◌, ◌==◌, ◌&&◌, ◌+◌, ◌*◌, ◌<◌, ◌≤◌, ◌++◌, ℕ, List, true, false, length, take, drop, HoldsAt, IfOk, IsTrue, OnOk};
 ghost use Rattle.std.specs.List.{flat_map, list_all};
-ghost use Rattle.std.specs.Ordering.{is_eq, is_gt};
-ghost use Rattle.oai_item.specs.Items.{item_at, items_after};
-ghost use Rattle.oai_item.specs.Item.{IsStamp, ItemState};
-ghost use Rattle.oai_item.specs.Order.{are_in_order, place_cmp};
-ghost use Rattle.oai_item.specs.Selection.{is_in_given, passes, selected};
+ghost use Rattle.std.specs.Ordering.{is_eq};
+ghost use Rattle.oai_item.specs.Item.{ItemState};
+ghost use Rattle.oai_item.specs.Items.{item_at};
+ghost use Rattle.oai_item.specs.Order.{are_in_order};
 ghost use Rattle.oai_pool.specs.Counts.{count_of};
 ghost use Rattle.oai_pool.specs.Names.{times};
-ghost use Rattle.oai_pool.specs.declared.pools.TheConstants.{MAX_PAGES};
 ghost use Rattle.oai_places.specs.Calls.{Forgets, ReadsPages};
 ghost use Rattle.oai_places.specs.Directory.{StandsIn};
-ghost use Rattle.oai_places.specs.Pages.{FitPage, IsPage, fit_one, items_in, size_of};
-ghost use Rattle.oai_places.specs.Parts.{EndsBy, IsInside, IsKnown, IsOutside, IsPartTaken};
-ghost use Rattle.oai_places.specs.Places.{FitPages, IsSoundPlace, are_below, bytes_on, first_cmp, is_wanted, items_at, items_on, page_at};
-ghost use Rattle.oai_places.specs.Searches.{MayBeAt, StartsAt};
-ghost use Rattle.oai_places.specs.Sums.{AreGroups};
+ghost use Rattle.oai_places.specs.Finding.{IsFinding};
+ghost use Rattle.oai_places.specs.Pages.{FitPage, IsPage, begins_at, fit_one, items_in, size_of};
+ghost use Rattle.oai_places.specs.Places.{FitPages, IsSoundPlace, are_below, bytes_on, first_cmp, items_at, items_on, page_at};
+ghost use Rattle.oai_places.specs.Searches.{MayBeAt, are_of};
 
 use crate::entries::Entries;
 use crate::entry_bytes::are_zeros;
-use crate::faults::fault_of;
+use crate::faults::{decoding_fault_of, fault_of};
 use crate::finding::{begins_on_page, find_on_page, has_items};
-use crate::groups::{Groups, Stretch};
 use crate::names::forget_all;
-use crate::picking::{pick_at, sparse_span};
 use crate::places::SharedPlace;
 use crate::searches::place_of;
 use crate::sizes::FRONT_BYTES;
-use oai_catalogue::Filter;
 use oai_device::PAGE_BYTES;
-use oai_item::{DecodeFault, Fault, Item, Spelling};
-use oai_names::Sequence;
+use oai_item::{DecodeFault, Fault, Item};
 use oai_pool::{PageKind, PageNo, PagePool};
-use oai_time::LAST_SECOND;
-use std::alloc::{AllocError, Global};
+use std::alloc::Global;
 use std::cmp::Ordering;
 
-/// What is asked of a directory: the items that pass the filter, of those that stand behind a datestamp, in seconds
-/// from 1970 on, and an identifier.
-#[derive(Clone, Copy)]
-pub(crate) struct Wanted<'a> {
-    /// What the items pass.
-    pub(crate) filter: &'a Filter,
-    /// The datestamp.
-    pub(crate) stamp: i64,
-    /// The identifier.
-    pub(crate) identifier: &'a str,
-}
-
-/// Places of which the wanted items were taken, and how many more are to be skipped.
-#[derive(Clone, Copy)]
-struct PartStep {
-    places: usize,
-    left: usize,
-}
-
-/// The entries of the page of that number, which is named, and the page of its items. Any fault but `TooManyPages`.
+/// The entries of the page with that number, which is referenced, and a page of items. Any fault but `TooManyPages`.
 fn read_page<P: PagePool>(alloc: Global, pages: &mut P, no: PageNo) -> Result<Entries, Fault>
     requires named { 0 < count_of (P.counts pages.old) no }
     requires page { IsPage (page_at (P.pages pages.old) no) (items_in (page_at (P.pages pages.old) no)) }
@@ -80,8 +53,8 @@ fn read_page<P: PagePool>(alloc: Global, pages: &mut P, no: PageNo) -> Result<En
     }
 }
 
-/// The entry that goes on on overflow pages, of which these are the numbers, the first that of the page of the entry.
-/// All are named. Any fault but `TooManyPages`.
+/// The entry that continues on overflow pages; these are its numbers, first that of the page of the entry. All are
+/// referenced. Any fault but `TooManyPages`.
 fn read_long<P: PagePool>(
     alloc: Global,
     pages: &mut P,
@@ -112,7 +85,7 @@ fn read_long<P: PagePool>(
     }
 }
 
-/// Adds the bytes of the pages of these numbers, which are named. Any fault but `Damaged` and `TooManyPages`.
+/// Appends the bytes of the pages with these numbers, which are referenced. Any fault but `Damaged` and `TooManyPages`.
 fn read_overflow<P: PagePool>(
     pages: &mut P,
     numbers: &[PageNo],
@@ -130,7 +103,7 @@ fn read_overflow<P: PagePool>(
     Ok(())
 }
 
-/// Adds the bytes of the page of that number, which is named. Any fault but `Damaged` and `TooManyPages`.
+/// Appends the bytes of the page with that number, which is referenced. Any fault but `Damaged` and `TooManyPages`.
 fn read_more<P: PagePool>(pages: &mut P, no: PageNo, bytes: &mut Vec<u8>) -> Result<(), Fault>
     requires { 0 < count_of (P.counts pages.old) no }
     ensures bytes { OnOk result (IsTrue (P.honest pages.old) → bytes.new.items ≡ bytes.old.items ++ page_at (P.pages pages.old) no) }
@@ -146,8 +119,8 @@ fn read_more<P: PagePool>(pages: &mut P, no: PageNo, bytes: &mut Vec<u8>) -> Res
     }
 }
 
-/// The entries on the pages of these numbers, which are named: those of a page, or the one that goes on on overflow
-/// pages. Any fault but `TooManyPages`.
+/// The entries on the pages with these numbers, which are referenced: those of a page, or the one that continues on
+/// overflow pages. Any fault but `TooManyPages`.
 fn read_entries<P: PagePool>(
     alloc: Global,
     pages: &mut P,
@@ -167,8 +140,8 @@ fn read_entries<P: PagePool>(
     read_page(alloc, pages, numbers[0])
 }
 
-/// The entries of a place. Any fault but `TooManyPages`. Where it is `Damaged`, none of the pages of the place is kept
-/// in memory.
+/// The entries of a leaf. Any fault but `TooManyPages`. If it is `Damaged`, the pages of the leaf are dropped from
+/// memory.
 pub fn read_place<P: PagePool>(
     alloc: Global,
     pages: &mut P,
@@ -191,7 +164,7 @@ pub fn read_place<P: PagePool>(
     }
 }
 
-/// The entries of a place. Any fault but `TooManyPages`.
+/// The entries of a leaf. Any fault but `TooManyPages`.
 fn read_at<P: PagePool>(
     alloc: Global,
     pages: &mut P,
@@ -207,26 +180,35 @@ fn read_at<P: PagePool>(
 {
     let place = &places[at];
     let entries = read_entries(alloc, pages, place.pages())?;
-    if !are_all(&entries, place) {
-        return Err(Fault::Damaged);
-    }
-    if !entries.begins_at(place.stamp(), place.identifier()) {
-        return Err(Fault::Damaged);
-    }
-    if !are_below(&entries, &places[at + 1..]) {
+    if !are_of(&entries, place, &places[at + 1..]) {
         return Err(Fault::Damaged);
     }
     Ok(entries)
 }
 
-/// Whether the items are as many, and of as many bytes, as those of the place.
+/// Whether the items, which are in their order, may be those of the place: they are as many, and of as many bytes, the first is the one that the place
+/// names, and all stand before those of the next place.
+fn are_of(entries: &Entries, place: &SharedPlace, next: &[SharedPlace]) -> bool
+    requires { are_in_order entries.now ≡ true }
+    ensures { result ≡ are_of place.now next.now entries.now }
+{
+    if !are_all(entries, place) {
+        return false;
+    }
+    if !entries.begins_at(place.stamp(), place.identifier()) {
+        return false;
+    }
+    are_below(entries, next)
+}
+
+/// Whether the items are as many, and of as many bytes, as those of the leaf.
 fn are_all(entries: &Entries, place: &SharedPlace) -> bool
     ensures { result ≡ (length entries.now == place.now.len && size_of entries.now == place.now.size) }
 {
     entries.len() == place.len() && entries.size() == place.size()
 }
 
-/// Whether the items, which are in their order, stand before those of the next place, where there is one.
+/// Whether the items, which are in their order, precede those of the next leaf, if there is one.
 fn are_below(entries: &Entries, places: &[SharedPlace]) -> bool
     requires { are_in_order entries.now ≡ true }
     ensures { result ≡ are_below entries.now places.now }
@@ -237,7 +219,7 @@ fn are_below(entries: &Entries, places: &[SharedPlace]) -> bool
     }
 }
 
-/// The item of that datestamp, in seconds from 1970 on, and identifier, or None. It reads one page, and the overflow
+/// The item with that datestamp, in seconds from 1970 on, and identifier, or None. It reads one page, and the overflow
 /// pages of an item that it returns, and decodes no other item. Any fault but `TooManyPages`.
 pub fn find<P: PagePool>(
     alloc: Global,
@@ -268,8 +250,8 @@ pub fn find<P: PagePool>(
     }
 }
 
-/// The item of that datestamp, in seconds from 1970 on, and identifier of those of the place, which has one page, or
-/// None. Any fault but `TooManyPages`. Where it is `Damaged`, the page is not kept in memory.
+/// The item with that datestamp, in seconds from 1970 on, and identifier in the leaf, which has one page, or None. Any
+/// fault but `TooManyPages`. If it is `Damaged`, the page is dropped from memory.
 fn find_at<P: PagePool>(
     alloc: Global,
     pages: &mut P,
@@ -293,8 +275,7 @@ fn find_at<P: PagePool>(
     }
 }
 
-/// Where the fault is `Damaged`, none of the pages of the place is kept in memory, so that each is read from the device
-/// again.
+/// If the fault is `Damaged`, drops the pages of the leaf from memory, so that each is read from the device again.
 pub(crate) fn forget_damaged<P: PagePool>(pages: &mut P, place: &SharedPlace, fault: Fault)
     ensures { Forgets P.PagePool pages.old pages.new }
 {
@@ -303,8 +284,8 @@ pub(crate) fn forget_damaged<P: PagePool>(pages: &mut P, place: &SharedPlace, fa
     }
 }
 
-/// The item of that datestamp, in seconds from 1970 on, and identifier of those of the place, which has one page, or
-/// None. Any fault but `TooManyPages`.
+/// The item with that datestamp, in seconds from 1970 on, and identifier in the leaf, which has one page, or None. Any
+/// fault but `TooManyPages`.
 fn find_in<P: PagePool>(
     alloc: Global,
     pages: &mut P,
@@ -319,25 +300,39 @@ fn find_in<P: PagePool>(
         → item ≡ item_at stamp identifier.now (items_at (P.pages pages.old) place.now)) }
     ensures pages { ReadsPages P.PagePool result pages.old pages.new }
 {
-    let page = match pages.read(place.pages()[0], PageKind::Items) {
-        Ok(page) => page,
-        Err(fault) => return Err(fault_of(fault)),
-    };
-    if !has_items(&page[..], place.len()) {
-        return Err(Fault::Damaged);
-    }
-    if !begins_on_page(&page[..], place.stamp(), place.identifier()) {
-        return Err(Fault::Damaged);
-    }
-    match find_on_page(alloc, &page[..], stamp, identifier) {
-        Ok(found) => Ok(found),
-        Err(DecodeFault::Damaged) => Err(Fault::Damaged),
-        Err(DecodeFault::NoMemory) => Err(Fault::NoMemory),
+    match pages.read(place.pages()[0], PageKind::Items) {
+        Ok(page) => match find_tested(alloc, &page[..], place, stamp, identifier) {
+            Ok(found) => Ok(found),
+            Err(fault) => Err(decoding_fault_of(fault)),
+        },
+        Err(fault) => Err(fault_of(fault)),
     }
 }
 
-/// Whether the place has one item alone, which goes on on overflow pages, and that is not the one of this datestamp, in
-/// seconds from 1970 on, and identifier.
+/// The item of that datestamp, in seconds from 1970 on, and identifier of those of the page, or None. `Damaged` only where the bytes are not the page of
+/// as many items as those of the place, of which the first is the one that the place names; `NoMemory`.
+fn find_tested(
+    alloc: Global,
+    page: &[u8],
+    place: &SharedPlace,
+    stamp: i64,
+    identifier: &str,
+) -> Result<Option<Item>, DecodeFault>
+    requires { 4 ≤ length page.now }
+    ensures { (items : List ItemState) → IsPage page.now items → length items ≡ place.now.len
+        → begins_at place.now.stamp place.now.identifier items ≡ true → IsFinding stamp identifier.now items result }
+{
+    if !has_items(page, place.len()) {
+        return Err(DecodeFault::Damaged);
+    }
+    if !begins_on_page(page, place.stamp(), place.identifier()) {
+        return Err(DecodeFault::Damaged);
+    }
+    find_on_page(alloc, page, stamp, identifier)
+}
+
+/// Whether the leaf has one item alone, which continues on overflow pages, and does not have this datestamp, in seconds
+/// from 1970 on, and identifier.
 fn is_other(place: &SharedPlace, stamp: i64, identifier: &str) -> bool
     ensures { IsTrue result → (1 < length place.now.pages) × (is_eq (first_cmp place.now stamp identifier.now) ≡ false) }
 {
@@ -345,451 +340,4 @@ fn is_other(place: &SharedPlace, stamp: i64, identifier: &str) -> bool
         return place.order_to(stamp, identifier) != Ordering::Equal;
     }
     false
-}
-
-/// How many items pass the filter. It reads the pages of those places only that are partly within the bounds, or of
-/// whose items it is not known that they have the prefix, or how many are in the set that is asked for. Any fault but
-/// `TooManyPages`.
-pub fn count<P: PagePool>(
-    alloc: Global,
-    pages: &mut P,
-    places: &[SharedPlace],
-    groups: &Groups,
-    filter: &Filter,
-) -> Result<usize, Fault>
-    requires stands { StandsIn P.PagePool pages.old places.now }
-    requires few { length places.now ≤ MAX_PAGES }
-    requires groups { AreGroups places.now groups.now }
-    ensures number { IfOk result (λ n. IsTrue (P.honest pages.old)
-        → n ≡ length (selected filter.now (items_on (P.pages pages.old) places.now))) }
-    ensures pages { ReadsPages P.PagePool result pages.old pages.new }
-{
-    count_wanted(alloc, pages, places, groups, Wanted::all(filter))
-}
-
-/// Of the items that pass the filter, in their order, those after the first `skip`, at most `most` of them. It passes
-/// over places by the number of their items, and reads the pages of the items that it answers. Any fault but
-/// `TooManyPages`.
-pub fn part<P: PagePool>(
-    alloc: Global,
-    pages: &mut P,
-    places: &[SharedPlace],
-    groups: &Groups,
-    filter: &Filter,
-    skip: usize,
-    most: usize,
-) -> Result<Sequence<Item>, Fault>
-    requires stands { StandsIn P.PagePool pages.old places.now }
-    requires groups { AreGroups places.now groups.now }
-    ensures part { IfOk result (λ part. IsTrue (P.honest pages.old)
-        → part ≡ take most (drop skip (selected filter.now (items_on (P.pages pages.old) places.now)))) }
-    ensures pages { ReadsPages P.PagePool result pages.old pages.new }
-{
-    part_wanted(
-        alloc,
-        pages,
-        places,
-        groups,
-        Wanted::all(filter),
-        skip,
-        most,
-    )
-}
-
-/// Of the items that pass the filter, in their order, those that stand behind this datestamp, in seconds from 1970 on,
-/// and identifier, at most `most` of them. It begins with a search, and reads the pages of the items that it answers.
-/// Any fault but `TooManyPages`.
-pub fn part_after<P: PagePool>(
-    alloc: Global,
-    pages: &mut P,
-    places: &[SharedPlace],
-    groups: &Groups,
-    filter: &Filter,
-    stamp: i64,
-    identifier: &str,
-    most: usize,
-) -> Result<Sequence<Item>, Fault>
-    requires stands { StandsIn P.PagePool pages.old places.now }
-    requires groups { AreGroups places.now groups.now }
-    ensures part { IfOk result (λ part. IsTrue (P.honest pages.old)
-        → part ≡ take most (selected filter.now
-        (items_after stamp identifier.now (items_on (P.pages pages.old) places.now)))) }
-    ensures pages { ReadsPages P.PagePool result pages.old pages.new }
-{
-    let wanted = Wanted {
-        filter,
-        stamp,
-        identifier,
-    };
-    part_wanted(alloc, pages, places, groups, wanted, 0, most)
-}
-
-/// How many items are wanted.
-fn count_wanted<P: PagePool>(
-    alloc: Global,
-    pages: &mut P,
-    places: &[SharedPlace],
-    groups: &Groups,
-    wanted: Wanted<'_>,
-) -> Result<usize, Fault>
-    requires stands { StandsIn P.PagePool pages.old places.now }
-    requires few { length places.now ≤ MAX_PAGES }
-    requires groups { AreGroups places.now groups.now }
-    ensures number { IfOk result (λ n. IsTrue (P.honest pages.old)
-        → n ≡ length (filter (is_wanted wanted.entry.filter.now wanted.entry.stamp wanted.entry.identifier.now)
-        (items_on (P.pages pages.old) places.now))) }
-    ensures pages { ReadsPages P.PagePool result pages.old pages.new }
-{
-    let mut total = 0;
-    let filter = wanted.filter;
-    let mut at = start_of(places, wanted);
-    'places: while at < places.len() {
-        if places[at].stamp() > filter.upper {
-            break;
-        }
-        let stretch = count_from(alloc, pages, places, groups, at, wanted)?;
-        total += stretch.items;
-        at += stretch.places;
-    }
-    Ok(total)
-}
-
-/// Of the wanted items, in their order, those after the first `skip`, at most `most` of them.
-fn part_wanted<P: PagePool>(
-    alloc: Global,
-    pages: &mut P,
-    places: &[SharedPlace],
-    groups: &Groups,
-    wanted: Wanted<'_>,
-    skip: usize,
-    most: usize,
-) -> Result<Sequence<Item>, Fault>
-    requires stands { StandsIn P.PagePool pages.old places.now }
-    requires groups { AreGroups places.now groups.now }
-    ensures part { IfOk result (λ part. IsTrue (P.honest pages.old)
-        → part ≡ take most (drop skip (filter (is_wanted wanted.entry.filter.now wanted.entry.stamp wanted.entry.identifier.now)
-        (items_on (P.pages pages.old) places.now)))) }
-    ensures pages { ReadsPages P.PagePool result pages.old pages.new }
-{
-    let mut part = Vec::new(alloc);
-    let mut left = skip;
-    let filter = wanted.filter;
-    let mut at = start_of(places, wanted);
-    'places: while at < places.len() {
-        if part.len() >= most {
-            break;
-        }
-        if places[at].stamp() > filter.upper {
-            break;
-        }
-        let taken = take_from(
-            alloc, pages, places, groups, at, wanted, left, most, &mut part,
-        )?;
-        left = taken.left;
-        at += taken.places;
-    }
-    Ok(Sequence::new(part))
-}
-
-impl<'a> Wanted<'a> {
-    /// All items that pass the filter.
-    pub(crate) fn all(filter: &'a Filter) -> Wanted<'a>
-        ensures { (item : ItemState) → IsStamp item.stamp
-            → is_wanted result.filter.now result.stamp result.identifier.now item ≡ passes filter.now item }
-    {
-        Wanted {
-            filter,
-            stamp: i64::MIN,
-            identifier: "",
-        }
-    }
-}
-
-/// The first place that may have wanted items.
-fn start_of(places: &[SharedPlace], wanted: Wanted<'_>) -> usize
-    ensures { StartsAt places.now wanted.entry.filter.now wanted.entry.stamp wanted.entry.identifier.now result }
-{
-    let filter = wanted.filter;
-    if filter.lower > wanted.stamp {
-        place_of(places, filter.lower, "")
-    } else {
-        place_of(places, wanted.stamp, wanted.identifier)
-    }
-}
-
-/// How many items of the place are wanted, where that is known without reading its pages.
-fn known_at(places: &[SharedPlace], at: usize, wanted: Wanted<'_>) -> Option<usize>
-    requires { at < length places.now }
-    ensures { IfSome result (λ n. IsKnown places.now at wanted.entry.filter.now wanted.entry.stamp wanted.entry.identifier.now n) }
-{
-    if is_outside(places, at, wanted) {
-        return Some(0);
-    }
-    let filter = wanted.filter;
-    let Some(count) = places[at].items_in(&filter.set) else {
-        return None;
-    };
-    if count == 0 {
-        return Some(0);
-    }
-    if is_inside(places, at, wanted) {
-        return Some(count);
-    }
-    None
-}
-
-/// Whether it is known without reading its page that all items of the place are wanted that are in the set, where one
-/// is asked for.
-fn is_inside(places: &[SharedPlace], at: usize, wanted: Wanted<'_>) -> bool
-    requires { at < length places.now }
-    ensures { IsTrue result → IsInside places.now at wanted.entry.filter.now wanted.entry.stamp wanted.entry.identifier.now }
-{
-    let place = &places[at];
-    let filter = wanted.filter;
-    if filter.lower > place.stamp() {
-        return false;
-    }
-    if place.order_to(wanted.stamp, wanted.identifier) != Ordering::Greater {
-        return false;
-    }
-    if !place.has_prefix(filter.prefix.as_str()) {
-        return false;
-    }
-    ends_by(&places[at + 1..], filter.upper)
-}
-
-/// Whether it is known without reading its pages that no item of the place is wanted: it has one alone, which goes on
-/// on overflow pages, and that stands before the lower bound, or not behind the datestamp and identifier.
-fn is_outside(places: &[SharedPlace], at: usize, wanted: Wanted<'_>) -> bool
-    requires { at < length places.now }
-    ensures { IsTrue result → IsOutside places.now at wanted.entry.filter.now wanted.entry.stamp wanted.entry.identifier.now }
-{
-    let place = &places[at];
-    let filter = wanted.filter;
-    if !place.is_long() {
-        return false;
-    }
-    if filter.lower > place.stamp() {
-        return true;
-    }
-    place.order_to(wanted.stamp, wanted.identifier) != Ordering::Greater
-}
-
-/// Whether all items before these places have a datestamp of at most `upper`, in seconds from 1970 on.
-pub(crate) fn ends_by(places: &[SharedPlace], upper: i64) -> bool
-    ensures { IsTrue result → EndsBy places.now upper }
-{
-    match places {
-        [] => upper >= LAST_SECOND,
-        [next, ..] => next.stamp() <= upper,
-    }
-}
-
-/// How many items are wanted of some places from `at` on: those of a group, where that is known of it, or else one
-/// place.
-fn count_from<P: PagePool>(
-    alloc: Global,
-    pages: &mut P,
-    places: &[SharedPlace],
-    groups: &Groups,
-    at: usize,
-    wanted: Wanted<'_>,
-) -> Result<Stretch, Fault>
-    requires within { at < length places.now }
-    requires stands { StandsIn P.PagePool pages.old places.now }
-    requires groups { AreGroups places.now groups.now }
-    ensures number { IfOk result (λ stretch. IsTrue (P.honest pages.old)
-        → stretch.items ≡ length (filter (is_wanted wanted.entry.filter.now wanted.entry.stamp wanted.entry.identifier.now)
-        (items_on (P.pages pages.old) (take stretch.places (drop at places.now))))) }
-    ensures some { IfOk result (λ stretch. 0 < stretch.places) }
-    ensures end { IfOk result (λ stretch. at + stretch.places ≤ length places.now) }
-    ensures few { IfOk result (λ stretch. stretch.items ≤ 4_294_967_295 * stretch.places) }
-    ensures pages { ReadsPages P.PagePool result pages.old pages.new }
-{
-    if let Some(stretch) = groups.stretch_at(places, at, wanted) {
-        return Ok(stretch);
-    }
-    let items = count_at(alloc, pages, places, at, wanted)?;
-    Ok(Stretch { places: 1, items })
-}
-
-/// How many items of the place are wanted.
-fn count_at<P: PagePool>(
-    alloc: Global,
-    pages: &mut P,
-    places: &[SharedPlace],
-    at: usize,
-    wanted: Wanted<'_>,
-) -> Result<usize, Fault>
-    requires within { at < length places.now }
-    requires stands { StandsIn P.PagePool pages.old places.now }
-    ensures number { IfOk result (λ n. IsTrue (P.honest pages.old)
-        → HoldsAt (λ place. n ≡ length (filter (is_wanted wanted.entry.filter.now wanted.entry.stamp wanted.entry.identifier.now)
-        (items_at (P.pages pages.old) place))) places.now at) }
-    ensures few { IfOk result (λ n. n < 2 ^ 32) }
-    ensures pages { ReadsPages P.PagePool result pages.old pages.new }
-{
-    if let Some(count) = known_at(places, at, wanted) {
-        return Ok(count);
-    }
-    let entries = read_place(alloc, pages, places, at)?;
-    Ok(count_in(&entries, wanted))
-}
-
-/// How many of the items are wanted.
-fn count_in(entries: &Entries, wanted: Wanted<'_>) -> usize
-    ensures number { result ≡ length (filter (is_wanted wanted.entry.filter.now wanted.entry.stamp wanted.entry.identifier.now) entries.now) }
-    ensures few { result ≤ length entries.now }
-{
-    let mut count = 0;
-    'entries: for at in 0..entries.len() {
-        if is_wanted(entries, at, wanted) {
-            count += 1;
-        }
-    }
-    count
-}
-
-/// Whether the item at that place is wanted.
-fn is_wanted(entries: &Entries, at: usize, wanted: Wanted<'_>) -> bool
-    requires { at < length entries.now }
-    ensures { HoldsAt (λ item. result ≡ is_wanted wanted.entry.filter.now wanted.entry.stamp wanted.entry.identifier.now item) entries.now at }
-{
-    is_item_wanted(&entries.spelled(at), wanted)
-}
-
-/// Whether the item is wanted. Its setSpecs are looked at first: of a set that is asked for most items are not.
-pub(crate) fn is_item_wanted(item: &Spelling<'_>, wanted: Wanted<'_>) -> bool
-    ensures { result ≡ is_wanted wanted.entry.filter.now wanted.entry.stamp wanted.entry.identifier.now item.now }
-{
-    if !is_in_given(item, wanted.filter) {
-        return false;
-    }
-    is_behind(item, wanted) && passes(item, wanted.filter)
-}
-
-/// Whether the item is in the set, where one is given.
-fn is_in_given(item: &Spelling<'_>, filter: &Filter) -> bool
-    ensures { result ≡ is_in_given filter.now.set item.now.sets }
-{
-    match &filter.set {
-        Some(set) => item.is_in(set),
-        None => true,
-    }
-}
-
-/// Whether the item stands behind the datestamp and identifier.
-fn is_behind(item: &Spelling<'_>, wanted: Wanted<'_>) -> bool
-    ensures { result ≡ is_gt (place_cmp item.now wanted.entry.stamp wanted.entry.identifier.now) }
-{
-    item.order_to(wanted.stamp, wanted.identifier) == Ordering::Greater
-}
-
-/// Whether the item is asked for.
-fn passes(item: &Spelling<'_>, filter: &Filter) -> bool
-    ensures { result ≡ passes filter.now item.now }
-{
-    item.passes(
-        filter.prefix.as_str(),
-        filter.lower,
-        filter.upper,
-        &filter.set,
-    )
-}
-
-/// Adds the wanted items of some places from `at` on after the first `skip` to the part, up to `most`, and answers how
-/// many are then left to be skipped: those of a group that is passed over, or else one place.
-fn take_from<P: PagePool>(
-    alloc: Global,
-    pages: &mut P,
-    places: &[SharedPlace],
-    groups: &Groups,
-    at: usize,
-    wanted: Wanted<'_>,
-    skip: usize,
-    most: usize,
-    part: &mut Vec<Item>,
-) -> Result<PartStep, Fault>
-    requires within { at < length places.now }
-    requires stands { StandsIn P.PagePool pages.old places.now }
-    requires groups { AreGroups places.now groups.now }
-    ensures taken { IfOk result (λ taken. IsTrue (P.honest pages.old)
-        → IsPartTaken (is_wanted wanted.entry.filter.now wanted.entry.stamp wanted.entry.identifier.now) most
-        part.old.items part.new.items skip taken.left (items_on (P.pages pages.old) (take taken.places (drop at places.now)))) }
-    ensures some { IfOk result (λ taken. 0 < taken.places) }
-    ensures end { IfOk result (λ taken. at + taken.places ≤ length places.now) }
-    ensures pages { ReadsPages P.PagePool result pages.old pages.new }
-{
-    if let Some(stretch) = groups.stretch_at(places, at, wanted) {
-        if skip >= stretch.items {
-            let left = skip - stretch.items;
-            return Ok(PartStep {
-                places: stretch.places,
-                left,
-            });
-        }
-    }
-    let left = take_at(alloc, pages, places, at, wanted, skip, most, part)?;
-    Ok(PartStep { places: 1, left })
-}
-
-/// Adds the wanted items of the place after the first `skip` to the part, up to `most`, and answers how many are then
-/// left to be skipped.
-fn take_at<P: PagePool>(
-    alloc: Global,
-    pages: &mut P,
-    places: &[SharedPlace],
-    at: usize,
-    wanted: Wanted<'_>,
-    skip: usize,
-    most: usize,
-    part: &mut Vec<Item>,
-) -> Result<usize, Fault>
-    requires within { at < length places.now }
-    requires stands { StandsIn P.PagePool pages.old places.now }
-    ensures taken { IfOk result (λ left. IsTrue (P.honest pages.old)
-        → HoldsAt (λ place. IsPartTaken (is_wanted wanted.entry.filter.now wanted.entry.stamp wanted.entry.identifier.now) most
-        part.old.items part.new.items skip left (items_at (P.pages pages.old) place)) places.now at) }
-    ensures pages { ReadsPages P.PagePool result pages.old pages.new }
-{
-    if let Some(count) = known_at(places, at, wanted) {
-        if skip >= count {
-            return Ok(skip - count);
-        }
-    }
-    let place = &places[at];
-    if let Some(span) = sparse_span(place, wanted) {
-        return pick_at(alloc, pages, place, span, wanted, skip, most, part);
-    }
-    let entries = read_place(alloc, pages, places, at)?;
-    Ok(take_in(alloc, &entries, wanted, skip, most, part)?)
-}
-
-/// Adds to the part those of the entries that are wanted, behind the first `skip` of them, until the part has `most`
-/// items; returns how many are still to be skipped. The error is out of memory.
-fn take_in(
-    alloc: Global,
-    entries: &Entries,
-    wanted: Wanted<'_>,
-    skip: usize,
-    most: usize,
-    part: &mut Vec<Item>,
-) -> Result<usize, AllocError>
-    ensures { IfOk result (λ left. IsPartTaken (is_wanted wanted.entry.filter.now wanted.entry.stamp wanted.entry.identifier.now) most
-        part.old.items part.new.items skip left entries.now) }
-{
-    let mut left = skip;
-    'entries: for at in 0..entries.len() {
-        if part.len() >= most {
-            break;
-        }
-        if is_wanted(entries, at, wanted) {
-            if left == 0 {
-                part.push(entries.item(alloc, at)?)?;
-            } else {
-                left -= 1;
-            }
-        }
-    }
-    Ok(left)
 }

@@ -1,9 +1,10 @@
-//! What is known of the items of places that follow one another, without a look at each of the places.
-ghost use Rattle.std.specs.Prelude.{◌≡◌, int_le, is_some, sum_by, true, IfOk, IfSome};
+//! Statistics of the items of consecutive leaves, without a look at each of the leaves.
+ghost use Rattle.std.specs.Prelude.{◌≡◌, ◌+◌, ℕ, List, int_le, is_some, sum_by, true, IfOk, IfSome, OnSome};
 ghost use Rattle.std.specs.List.{list_all};
 ghost use Rattle.oai_names.specs.Names.{is_among};
 ghost use Rattle.oai_places.specs.Places.{PlaceState};
-ghost use Rattle.oai_places.specs.Sums.{AreTotals, IsSum, have_prefixes, known_in_sum};
+ghost use Rattle.oai_places.specs.Sums.{AreTotals, IsSum, counted_at, have_prefixes, known_in_sum};
+ghost use Rattle.oai_sums.specs.Sums.{counted_in};
 
 use crate::places::{SharedPlace, is_among};
 use oai_names::{Prefix, Sequence, SetSpec};
@@ -12,16 +13,16 @@ use std::alloc::{AllocError, Global};
 use std::marker::Model;
 use std::rc::Rc;
 
-/// What is known of the items of places.
+/// What is known of the items of leaves.
 #[derive(Drop)]
 struct Sum {
     items: usize,
-    /// No place begins before this datestamp.
+    /// No leaf begins before this datestamp.
     least: i64,
-    /// No place begins behind this datestamp.
+    /// No leaf begins after this datestamp.
     greatest: i64,
     prefixes: Sequence<Prefix>,
-    /// None where the sets were too many, or memory was refused.
+    /// None if there were too many sets, or memory ran out.
     sets: Option<PackedCounts>,
 }
 
@@ -39,7 +40,7 @@ impl Model for Sum {
     } };
 }
 
-/// A sum that the directories of several versions may have in common: a copy of it takes no memory of its own.
+/// A sum that the directories of several versions may share: a copy of it allocates nothing.
 #[derive(Drop)]
 pub(crate) struct SharedSum {
     sum: Rc<Sum>,
@@ -54,8 +55,8 @@ impl Model for SharedSum {
 }
 
 impl SharedSum {
-    /// The sum of the places. None where their items are too many to be counted, where they do not stand in order, or
-    /// memory is refused.
+    /// The sum of the leaves. None if the number of their items overflows, if they are not in order, or if memory runs
+    /// out.
     pub(crate) fn of(alloc: Global, places: &[SharedPlace]) -> Option<SharedSum>
         ensures { IfSome result (λ sum. IsSum sum places.now) }
     {
@@ -86,7 +87,7 @@ impl SharedSum {
         }
     }
 
-    /// A copy of the sum, which is counted. The error is out of memory, where no more copies can be counted.
+    /// A reference-counted copy of the sum. The error is out of memory, if the count would overflow.
     pub(crate) fn copy(&self) -> Result<SharedSum, AllocError>
         ensures { IfOk result (λ copy. copy ≡ self.now) }
     {
@@ -95,7 +96,7 @@ impl SharedSum {
         })
     }
 
-    /// How many items are in the set, where one is given, or else how many there are; None where that is not known.
+    /// How many items are in the set, if one is given, or else how many there are; None if it is not known.
     pub(crate) fn items_in(&self, set: &Option<SetSpec>) -> Option<usize>
         ensures { result ≡ known_in_sum self.now set.now }
     {
@@ -108,21 +109,21 @@ impl SharedSum {
         }
     }
 
-    /// Whether the prefix is one of those of which each item is known to have a record.
+    /// Whether the prefix is one of those with which each item is known to have a record.
     pub(crate) fn has_prefix(&self, prefix: &str) -> bool
         ensures { result ≡ is_among self.now.prefixes prefix.now }
     {
         is_among(self.sum.prefixes.as_slice(), prefix)
     }
 
-    /// The datestamp before which no place begins, in seconds from 1970 on.
+    /// The datestamp before which no leaf begins, in seconds from 1970 on.
     pub(crate) fn least(&self) -> i64
         ensures { result ≡ self.now.least }
     {
         self.sum.least
     }
 
-    /// The datestamp behind which no place begins, in seconds from 1970 on.
+    /// The datestamp after which no leaf begins, in seconds from 1970 on.
     pub(crate) fn greatest(&self) -> i64
         ensures { result ≡ self.now.greatest }
     {
@@ -130,21 +131,21 @@ impl SharedSum {
     }
 }
 
-/// Whether no place begins before the datestamp, in seconds from 1970 on.
+/// Whether no leaf begins before the datestamp, in seconds from 1970 on.
 fn begin_from(places: &[SharedPlace], stamp: i64) -> bool
     ensures { result ≡ list_all (λ (place : PlaceState). int_le stamp place.stamp) places.now }
 {
     places.iter().all(|place| stamp <= place.stamp())
 }
 
-/// Whether no place begins behind the datestamp, in seconds from 1970 on.
+/// Whether no leaf begins after the datestamp, in seconds from 1970 on.
 fn begin_by(places: &[SharedPlace], stamp: i64) -> bool
     ensures { result ≡ list_all (λ (place : PlaceState). int_le place.stamp stamp) places.now }
 {
     places.iter().all(|place| place.stamp() <= stamp)
 }
 
-/// How many items the places have together, or None where they are too many to be counted.
+/// How many items the leaves have together; None on overflow.
 fn items_of(places: &[SharedPlace]) -> Option<usize>
     ensures { IfSome result (λ items. sum_by (λ (place : PlaceState). place.len) places.now ≡ items) }
 {
@@ -155,7 +156,7 @@ fn items_of(places: &[SharedPlace]) -> Option<usize>
     Some(items)
 }
 
-/// Those of the prefixes of a place that each of the places has. The error is out of memory.
+/// Those of the prefixes of a leaf that each of the leaves has. The error is out of memory.
 fn prefixes_of(
     alloc: Global,
     first: &SharedPlace,
@@ -174,24 +175,32 @@ fn prefixes_of(
     Ok(Sequence::new(prefixes))
 }
 
-/// Whether each of the places has the prefix.
+/// Whether each of the leaves has the prefix.
 fn each_has(places: &[SharedPlace], prefix: &str) -> bool
     ensures { result ≡ list_all (λ (place : PlaceState). is_among place.prefixes prefix.now) places.now }
 {
     places.iter().all(|place| place.has_prefix(prefix))
 }
 
-/// How many items of the places are in each set. None where that is not known of each place, where there are too many
-/// sets, or memory is refused.
+/// How many items of the leaves are in each set. None if it is not known of each leaf, if there are too many sets, or
+/// if memory runs out.
 fn sets_of(alloc: Global, places: &[SharedPlace]) -> Option<PackedCounts>
     ensures { IfSome result (λ totals. AreTotals totals places.now) }
 {
     let mut totals = SetCounts::new(alloc);
     'places: for at in 0..places.len() {
-        let Some(counts) = places[at].sets() else {
-            return None;
-        };
-        totals.add_all(counts)?;
+        add_sets(&mut totals, &places[at])?;
     }
     totals.packed(alloc)
+}
+
+/// Counts the items of the place too. None where it is not known how many are in each set, where there would be too many sets, or memory is refused.
+fn add_sets(totals: &mut SetCounts, place: &SharedPlace) -> Option<()>
+    ensures known { OnSome result (is_some place.now.sets ≡ true) }
+    ensures counts { OnSome result ((set : List ℕ) → counted_in set totals.new ≡ counted_in set totals.old + counted_at set place.now.sets) }
+{
+    match place.sets() {
+        Some(counts) => totals.add_all(counts),
+        None => None,
+    }
 }

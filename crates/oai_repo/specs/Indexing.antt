@@ -1,4 +1,4 @@
--- What the calls behind those of a repository do to its items, in the store and in the index: this repository's own.
+-- What the private calls of a repository do to its items, in the store and in the index: this repository's own.
 use Rattle.std.specs.Prelude.{◌≡◌, ◌⊎◌, ℕ, ℤ, Bool, true, false, not, List, Option, None, Some, Result, Ok, Err, IsSome, IsTrue, OnErr}
 use Rattle.std.specs.Option.{option_or}
 use Rattle.oai_item.specs.declared.changes.Change.{Change}
@@ -18,14 +18,14 @@ use Rattle.oai_item.specs.declared.refusals.Refusal.{Refusal}
 use Rattle.oai_item.specs.declared.refusals.Refusal.TheVariants as refusal
 
 -- a change with that datestamp: it is made, or refused by the first cause, or it fails; the last two leave what is held
--- as it was
+-- unchanged
 abbrev pub MakesChange : Config → ℤ → Holdings → Change → Result (Unit {0}) Refusal → Holdings → Type 0
 MakesChange config stamp old change (Ok _) new = (refusal_of config stamp old change ≡ None) × (new ≡ changed config stamp old change)
 MakesChange config stamp old change (Err (refusal.Refused cause)) new = (refusal_of config stamp old change ≡ Some cause) × (new ≡ old)
 MakesChange config stamp old change (Err (refusal.Fault fault)) new = (early_refusal config old change ≡ None) × (new ≡ old)
 
 -- a part of what is held after a change that neither an early cause nor a late one refuses, that the first of them
--- refuses, or that fails where there is no early one
+-- refuses, or that fails if there is no early one
 abbrev pub IsDone : {A : Type 0} → Option ChangeRefusal → Option ChangeRefusal → A → A → Result (Unit {0}) Refusal → A → Type 0
 IsDone early late old made (Ok _) new = (option_or early late ≡ None) × (new ≡ made)
 IsDone early late old made (Err (refusal.Refused refused)) new = (option_or early late ≡ Some refused) × (new ≡ old)
@@ -36,9 +36,9 @@ pub record IsMadeIn (honest : Bool) (config : Config) (stamp : ℤ) (change : Ch
   pub made : IsTrue honest → MakesChange config stamp (holdings_of old old_sets before) change result (holdings_of new new_sets after)
   pub indexed : IsTrue honest → IsIndexed config new new_sets after
 
--- ---- the index beside the store
+-- ---- the index and the store
 
--- what becomes of the lists where a version is changed, under its number or under one that was not in use
+-- the lists after a version is changed, under its number or under one that was not in use
 pub record IsMoved (v : ℕ) (before : Lists) (w : ℕ) (after : Lists) : Type 0 where
   pub lists : after ≡ with_list w (list_at after w) (without_list v before)
   pub number : (w ≡ v) ⊎ (before w ≡ None)
@@ -48,7 +48,7 @@ pub record StandsOn {V : Type 0} (g : Ghosts V) (index : ItemIndex) (store : V) 
   pub stands : IsSome (g.lists store index.version)
   pub agrees : IsTrue (g.honest store) → IndexAgrees index.entries (stored_items index (g.lists store))
 
--- the index's version is in use, and an honest store holds the items there, as the repository keeps them
+-- the index's version is in use, and an honest store holds the items there, which satisfy the repository's invariants
 pub record HoldsItems {V : Type 0} (g : Ghosts V) (config : Config) (index : ItemIndex) (sets : List NamedSet) (store : V) : Type 0 where
   pub stands : IsSome (g.lists store index.version)
   pub indexed : IsTrue (g.honest store) → IsIndexed config index sets (g.lists store)
@@ -58,7 +58,7 @@ abbrev pub is_one_named : List ℕ → Option ItemState → Bool
 is_one_named identifier None = false
 is_one_named identifier (Some item) = is_named identifier item
 
--- the item has an entry, and an honest store holds it, of the size that it may have
+-- the item has an entry, and an honest store holds it, within its maximum size
 pub record HoldsItem {V : Type 0} (g : Ghosts V) (index : ItemIndex) (item : ItemState) (store : V) : Type 0 where
   pub entered : IsSome (stamp_in item.identifier index.entries)
   pub small : IsTrue (g.honest store) → not (is_too_large item) ≡ true
@@ -70,13 +70,13 @@ pub record IsMadeOn {V : Type 0} (g : Ghosts V) (make : List ItemState → List 
   pub agrees : IsTrue (g.honest before) → IndexAgrees new.entries (stored_items new (g.lists after))
 
 -- the items after a change that neither an early cause nor a late one refuses, that the first of them refuses, or that
--- fails where there is no early one, over an honest store; and the index agrees with them
+-- fails if there is no early one, over an honest store; and the index agrees with them
 pub record IsDoneOn {V : Type 0} (g : Ghosts V) (early late : Option ChangeRefusal) (made : List ItemState) (result : Result (Unit {0}) Refusal) (old : ItemIndex) (before : V) (new : ItemIndex) (after : V) : Type 0 where
   pub done : IsTrue (g.honest before) → IsDone early late (stored_items old (g.lists before)) made result (stored_items new (g.lists after))
   pub agrees : IsTrue (g.honest before) → IndexAgrees new.entries (stored_items new (g.lists after))
 
--- no list changes but that of the index's version, which may get another number; a call that failed has left the index
--- and all lists
+-- only the list of the index's version may have changed, which may get another number; a call that failed has left the
+-- index and all lists unchanged
 pub record Moves {V A E : Type 0} (g : Ghosts V) (result : Result A E) (old : ItemIndex) (before : V) (new : ItemIndex) (after : V) : Type 0 where
   pub moved : IsMoved old.version (g.lists before) new.version (g.lists after)
   pub err : OnErr result (new ≡ old)

@@ -150,7 +150,7 @@ first_items repo lists filter = take (repo.config.now.chunk + 1) (view_selected 
 
 -- ---- the responses
 
--- about an item, if there is one: to GetRecord of that prefix, or to ListMetadataFormats where no prefix is given
+-- about an item, if there is one: to GetRecord with that prefix, or to ListMetadataFormats if no prefix is given
 abbrev pub answer_about_item : Config → Option ItemState → Option (List ℕ) → Answer
 answer_about_item config item (Some prefix) = record_answer config item prefix
 answer_about_item config item None = item_formats_answer config item
@@ -165,7 +165,7 @@ abbrev pub view_selection_response : RepoView → Table → Lists → Selection 
 view_selection_response repo table lists selection =
     selection_response repo.config.now repo.clock (view_open_lists repo table lists) selection.verb selection.format.now (view_selected repo lists selection.filter)
 
--- a list request comes to what is selected, whatever the lists are, or to an error, over the lists of an honest store
+-- the result of a list request: the selection, whatever the lists are, or an error, over the lists of an honest store
 abbrev pub IsSelection : RepoView → ListRequest → Result Selection ErrorCode → Type 0
 IsSelection repo request (Ok selection) =
     IsOfFormat repo.config.now selection × ((table : Table) (lists : Lists) → view_list_response repo table lists request ≡ view_selection_response repo table lists selection)

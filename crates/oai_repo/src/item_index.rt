@@ -1,5 +1,4 @@
-//! Where the items of a repository stand: in a version of a store, in which they are found by their
-//! datestamps.
+//! The index of the items of a repository, and their version in a store, in which they are found by their datestamps.
 ghost use Rattle.std.specs.Prelude.{◌≡◌, ◌≤◌, ◌+◌, ℕ, List, [], if◌then◌else◌, None, Some, true, is_none, length, IfErr, IfOk, IfSome, IsSome, IsTrue, OnErr, OnOk};
 ghost use Rattle.std.specs.BTreeMap.{get_by_text};
 ghost use Rattle.std.specs.Option.{option_copied};
@@ -28,9 +27,8 @@ use std::alloc::Global;
 use std::collections::BTreeMap;
 use std::marker::Model;
 
-/// Where the items of a repository stand: the number of their version in a store, and beside it the
-/// datestamp of each item under its identifier. An item is found by it in one search of the store; the
-/// search among the datestamps takes time in the logarithm of their number.
+/// The index of the items of a repository: the number of their version in a store, and the datestamp of each by its
+/// identifier. Reading an item is a look-up of its datestamp, O(log n), and one search of the store.
 #[derive(Debug, Drop)]
 pub(crate) struct ItemIndex {
     version: u64,
@@ -52,7 +50,7 @@ impl Model for ItemIndex {
 }
 
 impl ItemIndex {
-    /// No items, in the version of that number. It takes no memory.
+    /// No items, in the version with that number. Allocates nothing.
     pub(crate) fn new(alloc: Global, version: u64) -> ItemIndex
         ensures { result ≡ record { version = version; entries = [] } }
     {
@@ -76,7 +74,7 @@ impl ItemIndex {
         self.stamps.len() as u64
     }
 
-    /// The datestamp of the item of that identifier, in seconds from 1970 on, if there is one.
+    /// The datestamp of the item with that identifier, in seconds from 1970 on, if there is one.
     fn stamp_of(&self, identifier: &str) -> Option<i64>
         ensures stamped { result ≡ stamp_in identifier.now self.now.entries }
         ensures named { IsSome result → may_be_identifier identifier.now ≡ true }
@@ -84,7 +82,7 @@ impl ItemIndex {
         self.stamps.get(identifier).copied()
     }
 
-    /// The item of the identifier of that text, if there is one, as `find` gives it.
+    /// The item whose identifier is that text, if there is one, as `find` returns it.
     pub(crate) fn find_named<V: Versions>(
         &self,
         alloc: Global,
@@ -103,8 +101,8 @@ impl ItemIndex {
         self.find_at(store, stamp, &identifier)
     }
 
-    /// The item of that identifier, if there is one. Any fault but `TooManyPages` may come where it is
-    /// there, and `Damaged` where the store lacks it or returns another.
+    /// The item with that identifier, if there is one. Any fault but `TooManyPages` may come if it exists, and
+    /// `Damaged` if the store lacks it or returns another.
     pub(crate) fn find<V: Versions>(
         &self,
         store: &mut V,
@@ -127,8 +125,8 @@ impl ItemIndex {
         }
     }
 
-    /// The item of that identifier, whose entry has the datestamp `stamp`. Any fault but `TooManyPages` may
-    /// come, and `Damaged` where the store lacks the item or returns another.
+    /// The item with that identifier, whose entry has the datestamp `stamp`. Any fault but `TooManyPages` may come, and
+    /// `Damaged` if the store lacks the item or returns another.
     fn find_at<V: Versions>(
         &self,
         store: &mut V,
@@ -144,15 +142,14 @@ impl ItemIndex {
         ensures reads { OnlyReads V.Versions result store.old store.new }
     {
         let found = store.find(self.version, stamp, identifier)?;
-        if is_named(found.as_ref(), identifier.as_str()) {
+        if is_one_named(found.as_ref(), identifier.as_str()) {
             Ok(found)
         } else {
             Err(Fault::Damaged)
         }
     }
 
-    /// Puts the item among the others, in place of the one of its identifier, if there is one. A fault
-    /// leaves everything as it was.
+    /// Adds the item, in place of the one with its identifier, if there is one. A fault leaves everything unchanged.
     pub(crate) fn put<V: Versions>(
         &mut self,
         alloc: Global,
@@ -177,7 +174,7 @@ impl ItemIndex {
         }
     }
 
-    /// Puts in an item of an identifier that no other has.
+    /// Adds an item with a new identifier.
     fn insert<V: Versions>(
         &mut self,
         alloc: Global,
@@ -207,7 +204,7 @@ impl ItemIndex {
         }
     }
 
-    /// Puts in an item in place of the one of its identifier, which has the same datestamp.
+    /// Replaces the item with its identifier, which has the same datestamp.
     fn overwrite<V: Versions>(&self, store: &mut V, item: &Item) -> Result<(), Fault>
         requires stands { StandsOn V.Versions self.now store.old }
         requires fits { length (encoded item.now) ≤ MAX_ITEM_BYTES }
@@ -222,7 +219,7 @@ impl ItemIndex {
         store.put(self.version, item)
     }
 
-    /// Puts in an item in place of the one of its identifier, which has the datestamp `old`, another one.
+    /// Replaces the item with its identifier, which has another datestamp, `old`.
     fn move_to_new_stamp<V: Versions>(
         &mut self,
         store: &mut V,
@@ -245,7 +242,7 @@ impl ItemIndex {
         Ok(())
     }
 
-    /// Keeps another datestamp under an identifier that has one. It takes no memory.
+    /// Changes the datestamp of an identifier that has one. Allocates nothing.
     fn restamp(&mut self, identifier: &str, stamp: i64)
         requires { IsSome (stamp_in identifier.now self.old.entries) }
         ensures version { self.new.version ≡ self.old.version }
@@ -255,7 +252,7 @@ impl ItemIndex {
         overwrite_stamp(&mut self.stamps, identifier, stamp);
     }
 
-    /// Takes the item out, which stands among the others. A fault leaves everything as it was.
+    /// Removes the item, which is one of the repository's. A fault leaves everything unchanged.
     pub(crate) fn remove<V: Versions>(&mut self, store: &mut V, item: &Item) -> Result<(), Fault>
         requires stands { StandsOn V.Versions self.old store.old }
         requires there { IsTrue (V.honest store.old)
@@ -274,9 +271,9 @@ impl ItemIndex {
         Ok(())
     }
 
-    /// Takes out the deleted items of datestamps below the limit, in seconds from 1970 on, by a change of
-    /// a version of its own. Where there is none, nothing changes. A fault leaves everything as it was.
-    /// It reads each item of a datestamp below the limit once.
+    /// Removes the deleted items with datestamps below the limit, in seconds from 1970 on, in a new version. If there
+    /// are none, nothing changes. A fault leaves everything unchanged. It reads each item with a datestamp below the
+    /// limit once.
     pub(crate) fn purge<V: Versions>(
         &mut self,
         alloc: Global,
@@ -299,8 +296,8 @@ impl ItemIndex {
         self.remove_each(store, gone.as_slice())
     }
 
-    /// Takes the items out, which stand among the others, by a change of a version of its own. Where there
-    /// is none, nothing changes. A fault leaves everything as it was.
+    /// Removes the items, which are the repository's, in a new version. If there are none, nothing changes. A fault
+    /// leaves everything unchanged.
     fn remove_each<V: Versions>(&mut self, store: &mut V, gone: &[Item]) -> Result<(), Fault>
         requires stands { StandsOn V.Versions self.old store.old }
         requires taken { IsTrue (V.honest store.old)
@@ -319,7 +316,7 @@ impl ItemIndex {
         Ok(())
     }
 
-    /// Forgets the identifiers of the items. It takes no memory.
+    /// Removes the identifiers of the items from the index. Allocates nothing.
     fn forget_each(&mut self, gone: &[Item])
         ensures version { self.new.version ≡ self.old.version }
         ensures agrees { (items : List ItemState) → IndexAgrees self.old.entries items
@@ -331,7 +328,7 @@ impl ItemIndex {
         }
     }
 
-    /// Forgets the identifier. It takes no memory.
+    /// Removes the identifier from the index. Allocates nothing.
     fn forget(&mut self, identifier: &str)
         ensures version { self.new.version ≡ self.old.version }
         ensures entries { SetsStamp identifier.now None self.old.entries self.new.entries }
@@ -344,7 +341,7 @@ impl ItemIndex {
 }
 
 /// Whether there is an item, and it has that identifier.
-fn is_named(item: Option<&Item>, identifier: &str) -> bool
+fn is_one_named(item: Option<&Item>, identifier: &str) -> bool
     ensures { result ≡ is_one_named identifier.now (option_copied item.entry) }
 {
     match item {
@@ -353,7 +350,7 @@ fn is_named(item: Option<&Item>, identifier: &str) -> bool
     }
 }
 
-/// Writes another datestamp under a key that is there. It takes no memory.
+/// Writes another datestamp under an existing key. Allocates nothing.
 fn overwrite_stamp(stamps: &mut BTreeMap<String, i64>, identifier: &str, stamp: i64)
     requires { IsSome (get_by_text stamps.old identifier.now) }
     ensures stamps { (q : List ℕ) → get_by_text stamps.new q
@@ -366,7 +363,7 @@ fn overwrite_stamp(stamps: &mut BTreeMap<String, i64>, identifier: &str, stamp: 
     }
 }
 
-/// The identifier of that text, which is one. The error is out of memory.
+/// The text as an identifier, which it is. The error is out of memory.
 fn identifier_of(alloc: Global, text: &str) -> Result<Identifier, Fault>
     requires { may_be_identifier text.now ≡ true }
     ensures ok { IfOk result (λ identifier. identifier ≡ text.now) }

@@ -1,5 +1,5 @@
-//! ListIdentifiers and ListRecords (OAI-PMH 2.0, sections 4.3 and 4.5): what is selected is answered
-//! whole, or with the first part of a list that begins.
+//! ListIdentifiers and ListRecords (OAI-PMH 2.0, sections 4.3 and 4.5): the selection is answered whole, or with the
+//! first part of a new list.
 ghost use Rattle.std.specs.Prelude.{◌≡◌, ◌+◌, ◌<◌, ◌-ℤ◌, ◌&&◌, int_le, int_lt, is_some, length, true, None, Ok, IfOk, IsSome, IsTrue, OnOk};
 ghost use Rattle.oai_time.specs.declared.text.TheConstants.{LAST_SECOND};
 ghost use Rattle.std.specs.List.{list_all};
@@ -37,22 +37,22 @@ pub(crate) struct ListRequest<'a> {
     pub(crate) verb: ListVerb,
     /// The metadataPrefix.
     pub(crate) prefix: &'a str,
-    /// The first datestamp, where it is given.
+    /// The argument `from`, if it is given.
     pub(crate) from: &'a Option<BoundText>,
-    /// The last datestamp, where it is given.
+    /// The argument `until`, if it is given.
     pub(crate) until: &'a Option<BoundText>,
-    /// The setSpec, where it is given.
+    /// The setSpec, if it is given.
     pub(crate) set: &'a Option<Text>,
 }
 
-/// What a list request selects, and how it lists it.
+/// The selection of a list request, and how it is listed.
 #[derive(Drop)]
 pub(crate) struct Selection<'a> {
     /// Its verb.
     pub(crate) verb: ListVerb,
-    /// The format that is asked for.
+    /// The requested format.
     pub(crate) format: &'a Format,
-    /// What asks for the items.
+    /// The filter that selects the items.
     pub(crate) filter: Filter,
 }
 
@@ -79,8 +79,8 @@ pub(crate) fn reply_with_list<V: Versions>(
     }
 }
 
-/// What a list request selects, or the error that it is answered with: a set is asked for only where there are
-/// sets, and one that the repository lacks has no items.
+/// The selection of a list request, or the error of its answer: noSetHierarchy if a set is requested and there are no
+/// sets; a set that the repository lacks has no items.
 pub(crate) fn selection_of<'a>(
     repo: &RepoView<'a>,
     request: &ListRequest<'_>,
@@ -104,7 +104,7 @@ pub(crate) fn selection_of<'a>(
     }))
 }
 
-/// Replies with what is selected: whole where it is no more than a part of a list may have.
+/// Replies with the selection: whole if it is at most as long as a part of a list.
 fn reply_with_selection<V: Versions>(
     repo: &RepoView<'_>,
     lists: &mut Lists,
@@ -129,8 +129,7 @@ fn reply_with_selection<V: Versions>(
     reply_by_first(repo, lists, store, selection, first.as_slice())
 }
 
-/// Replies with what is selected, of which the first items are known, up to one more than a part of a list
-/// may have.
+/// Replies with the selection, whose first items are known, up to one more than a part of a list may have.
 fn reply_by_first<V: Versions>(
     repo: &RepoView<'_>,
     lists: &mut Lists,
@@ -155,7 +154,7 @@ fn reply_by_first<V: Versions>(
     Ok(reply_with_all(repo, selection, first)?)
 }
 
-/// Replies with the items as all that are selected.
+/// Replies with the items, which are the whole selection.
 fn reply_with_all(
     repo: &RepoView<'_>,
     selection: &Selection<'_>,
@@ -180,7 +179,7 @@ fn reply_with_all(
     )
 }
 
-/// One more than a part of a list may have.
+/// The maximum length of a part of a list, plus one.
 #[tactic(auto, unfolding(oai_settings::specs::Config::are_limits))]
 fn most_and_one(repo: &RepoView<'_>) -> usize
     ensures { result ≡ repo.now.config.now.chunk + 1 }
@@ -188,8 +187,8 @@ fn most_and_one(repo: &RepoView<'_>) -> usize
     repo.config.chunk() as usize + 1
 }
 
-/// Replies with the first part of a list that begins, or with the seconds to wait. The first items are
-/// one more than a part may have.
+/// Replies with the first part of a new list, or with the seconds to wait. The first items are one more than a part may
+/// have.
 fn open_list<V: Versions>(
     repo: &RepoView<'_>,
     lists: &mut Lists,
@@ -218,7 +217,7 @@ fn open_list<V: Versions>(
     }
 }
 
-/// Replies with the first part of a list, which begins with that number, the next one.
+/// Replies with the first part of a new list, which gets that number, the next one.
 fn start_list<V: Versions>(
     repo: &RepoView<'_>,
     lists: &mut Lists,
@@ -254,8 +253,8 @@ fn start_list<V: Versions>(
     Ok(reply)
 }
 
-/// Begins a list of so many records, of which no part is read: the items as they stand are frozen for it, and
-/// it keeps a copy of the filter.
+/// Opens a list of that many records, without reading a part: a snapshot of the items is taken for it, and it gets a
+/// copy of the filter.
 pub(crate) fn start_unread<V: Versions>(
     repo: &RepoView<'_>,
     lists: &mut Lists,
@@ -295,8 +294,8 @@ pub(crate) fn start_unread<V: Versions>(
     }
 }
 
-/// How many items the filter selects, of which the first are known, one more than a part of a list may
-/// have. Any fault but `TooManyPages` may come, and `Damaged` where the store counts fewer.
+/// How many items the filter selects; the first of them are known, one more than a part of a list may have. Any fault
+/// but `TooManyPages` may come, and `Damaged` if the store counts fewer.
 fn count_beyond<V: Versions>(
     repo: &RepoView<'_>,
     store: &mut V,
@@ -333,14 +332,14 @@ pub(crate) fn answer_by_verb<'a>(verb: ListVerb, format: &'a Format, list: Liste
     }
 }
 
-/// Whether a set is asked for where there are none.
+/// Whether a set is requested and there are none.
 fn lacks_sets(sets: &SetTree, set: &Option<Text>) -> bool
     ensures { result ≡ (is_some set.now && listing.has_no_sets sets.now) }
 {
     set.is_some() && sets.as_slice().is_empty()
 }
 
-/// What asks for the items, or None where the repository lacks the set.
+/// The filter that selects the items, or None if the repository lacks the set.
 fn filter_of(
     alloc: Global,
     sets: &SetTree,
@@ -361,7 +360,7 @@ fn filter_of(
     }
 }
 
-/// The first second that the argument `from` lets pass.
+/// The first second that the argument `from` includes.
 fn lower_given(from: &Option<BoundText>) -> i64
     ensures { result ≡ spec.lower_given (given_bound from.now) }
 {
@@ -371,7 +370,7 @@ fn lower_given(from: &Option<BoundText>) -> i64
     }
 }
 
-/// The last second that the argument `until` lets pass.
+/// The last second that the argument `until` includes.
 fn upper_given(until: &Option<BoundText>) -> i64
     ensures { result ≡ spec.upper_given (given_bound until.now) }
 {
@@ -381,8 +380,8 @@ fn upper_given(until: &Option<BoundText>) -> i64
     }
 }
 
-/// Drops the first of the lists that have ended at `now`, in seconds from 1970 on, and releases its
-/// version. It takes no memory and cannot fail.
+/// Drops the first of the lists that have ended at `now`, in seconds from 1970 on, and releases its version. It
+/// allocates nothing and cannot fail.
 pub(crate) fn drop_first_ended<V: Versions>(lists: &mut Lists, store: &mut V, now: i64)
     requires stands { AreInUse (versions_in lists.old) (V.lists store.old) }
     ensures table { lists.new ≡ dropped_at now lists.old }
@@ -396,7 +395,7 @@ pub(crate) fn drop_first_ended<V: Versions>(lists: &mut Lists, store: &mut V, no
     }
 }
 
-/// The seconds until the first of the open lists ends; 0 where none is open.
+/// The seconds until the first of the open lists ends; 0 if none is open.
 fn seconds_to_end(lists: &Lists, now: i64) -> i64
     requires dated { is_in_years now ≡ true }
     requires ends { list_all has_end lists.now.lists ≡ true }

@@ -1,4 +1,4 @@
-//! Requests that are performed again: what each leaves of the open lists, with no reply made.
+//! Replays requests: what each leaves of the open lists, without a reply.
 ghost use Rattle.std.specs.Prelude.{◌≡◌, ◌<◌, ◌+◌, ◌-◌, length, min, true, false, None, IsTrue, OnOk};
 ghost use Rattle.oai_args.specs.Asks.{asks};
 ghost use Rattle.oai_args.specs.Pairs.{decoded_pairs};
@@ -23,8 +23,8 @@ use oai_names::ListVerb;
 use oai_time::Granularity;
 use std::alloc::Global;
 
-/// Passes a request, by the bytes of its query: what it leaves of the open lists is left, and no reply is made. A
-/// fault leaves everything as it was; any may come.
+/// Replays a request, by the bytes of its query: the open lists are left as the request leaves them, and no reply is
+/// made. A fault leaves everything unchanged; any may come.
 pub(crate) fn pass_query<V: Versions>(
     repo: &RepoView<'_>,
     lists: &mut Lists,
@@ -49,7 +49,7 @@ pub(crate) fn pass_query<V: Versions>(
     }
 }
 
-/// Whether a request, by the bytes of its query, may change the open lists; also where memory to read it is refused.
+/// Whether a request, by the bytes of its query, may change the open lists; also true if memory to parse it runs out.
 pub(crate) fn may_change_lists(alloc: Global, granularity: Granularity, query: &[u8]) -> bool
     ensures { result ≡ false
         → changes_lists (request_of granularity (decoded_pairs query.now)) ≡ false }
@@ -69,7 +69,7 @@ fn is_of_lists(ask: &Ask) -> bool
     matches!(ask, Ask::List { .. } | Ask::Resume { .. })
 }
 
-/// Passes a well-formed request.
+/// Replays a well-formed request.
 fn pass<V: Versions>(
     repo: &RepoView<'_>,
     lists: &mut Lists,
@@ -112,7 +112,7 @@ fn pass<V: Versions>(
     }
 }
 
-/// Passes a list request.
+/// Replays a list request.
 fn pass_list<V: Versions>(
     repo: &RepoView<'_>,
     lists: &mut Lists,
@@ -134,8 +134,8 @@ fn pass_list<V: Versions>(
     }
 }
 
-/// Passes a list request by what is selected: a list begins where that is more than a part of a list may have. No page
-/// is read; it is only counted.
+/// Replays a list request by its selection: a list is opened if that is longer than a part of a list. No page is read;
+/// it is only counted.
 fn pass_selection<V: Versions>(
     repo: &RepoView<'_>,
     lists: &mut Lists,
@@ -154,7 +154,7 @@ fn pass_selection<V: Versions>(
     pass_counted(repo, lists, store, selection, size)
 }
 
-/// Passes a list request that selects so many items.
+/// Replays a list request that selects that many items.
 fn pass_counted<V: Versions>(
     repo: &RepoView<'_>,
     lists: &mut Lists,
@@ -183,9 +183,9 @@ fn pass_counted<V: Versions>(
     }
 }
 
-/// Passes a request for the next part of a list: where its token continues one, the list is kept open and the token of
-/// that part counts as given. The list has no mark then, so its next part is found from its first record on. It takes
-/// no memory, reads nothing and cannot fail.
+/// Replays a request for the next part of a list: if its token continues one, the list is renewed and the token of that
+/// part counts as given. The list then has no mark, so its next part is found by skipping from its first record on. It
+/// allocates nothing, reads nothing and cannot fail.
 fn pass_part(repo: &RepoView<'_>, lists: &mut Lists, verb: ListVerb, token: &str)
     requires dated { is_in_years repo.now.clock ≡ true }
     requires kept { IsKeptTable repo.now.config.now lists.old }
@@ -206,8 +206,8 @@ fn pass_part(repo: &RepoView<'_>, lists: &mut Lists, verb: ListVerb, token: &str
     carry_on(lists, number, repo.end(), next, None);
 }
 
-/// The cursor of the token of the part of the list that begins behind its first `cursor` records, at most `chunk` of
-/// them. None where no more records remain.
+/// The cursor of the token of the part of the list that begins after its first `cursor` records, at most `chunk` of
+/// them. None if no more records remain.
 fn next_cursor(list: &OpenList, chunk: u64, cursor: u64) -> Option<u64>
     requires within { cursor < list.now.size }
     ensures { result

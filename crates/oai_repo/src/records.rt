@@ -16,7 +16,7 @@ use oai_item::{Fault, Item};
 use oai_names::{SetSpec, Text};
 use oai_settings::RepoConfig;
 
-/// Replies to GetRecord of that prefix, or to ListMetadataFormats of the item, where no prefix is given.
+/// Replies to GetRecord with that prefix, or to ListMetadataFormats for the item, if no prefix is given.
 pub(crate) fn reply_about_item<V: Versions>(
     repo: &RepoView<'_>,
     store: &mut V,
@@ -45,8 +45,8 @@ pub(crate) fn sets_answer(sets: &[(SetSpec, Text)]) -> Body<'_>
     }
 }
 
-/// The answer to GetRecord of the item, if there is one, in the format of that prefix, or to
-/// ListMetadataFormats of it, where no prefix is given.
+/// The answer to GetRecord for the item, if there is one, in the format with that prefix, or to ListMetadataFormats for
+/// it, if no prefix is given.
 fn answer_about_item<'a>(
     config: &'a RepoConfig,
     item: Option<&'a Item>,
@@ -62,7 +62,7 @@ fn answer_about_item<'a>(
     }
 }
 
-/// The answer to ListMetadataFormats of the item, if there is one.
+/// The answer to ListMetadataFormats for the item, if there is one.
 fn item_formats_answer<'a>(config: &'a RepoConfig, item: Option<&'a Item>) -> Body<'a>
     ensures answer { body_answer result ≡ spec.item_formats_answer config.now
         (option_copied item.entry) }
@@ -87,7 +87,7 @@ pub(crate) fn formats_of<'a>(config: &'a RepoConfig, item: Option<&'a Item>) -> 
     })
 }
 
-/// The answer to GetRecord of the item, if there is one, in the format of that prefix.
+/// The answer to GetRecord for the item, if there is one, in the format with that prefix.
 fn record_answer<'a>(config: &'a RepoConfig, item: Option<&'a Item>, prefix: &str) -> Body<'a>
     ensures answer { body_answer result ≡ spec.record_answer config.now (option_copied item.entry)
         prefix.now }

@@ -1,4 +1,4 @@
-//! The requests of OAI-PMH: each is read, and replied to by its verb.
+//! The requests of OAI-PMH: each is parsed, and replied to by its verb.
 ghost use Rattle.std.specs.Prelude.{◌≡◌, true, IfOk, IsTrue};
 ghost use Rattle.oai_args.specs.Asks.{asks};
 ghost use Rattle.oai_args.specs.Pairs.{decoded_pairs};
@@ -21,7 +21,7 @@ use oai_catalogue::Versions;
 use oai_item::Fault;
 use oai_lists::Lists;
 
-/// Replies to a request, by the bytes of its query. A fault leaves everything as it was; any may come.
+/// Replies to a request, by the bytes of its query. A fault leaves everything unchanged; any may come.
 pub(crate) fn reply_to_query<V: Versions>(
     repo: &RepoView<'_>,
     lists: &mut Lists,

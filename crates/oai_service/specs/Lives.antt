@@ -12,9 +12,9 @@ use Rattle.oai_durable.specs.Checkpoints.{IsCheckpoint, Saving}
 use Rattle.oai_durable.specs.Journaled.{IsExchange, IsHeld, IsSettled, Parts, Replaying}
 use Rattle.oai_durable.specs.Records.{redone_all}
 
--- a life: the records that it found; the streams that were accepted, and let go, before it and by its end, if they are known; the
--- world in which it began; the messages that were served in each round that settled, and after the last of these; how
--- its service ended, in which world; and the records that the journal had when the next life began
+-- a life: the records that it found; the streams that were accepted, and let go, before it and by its end, if they are
+-- known; the world in which it began; the messages that were served in each round that settled, and after the last of
+-- these; how its service ended, in which world; and the records that the journal had when the next life began
 pub record ServerLife (S H J : Type 0) : Type 0 where
   pub found : List Entry
   pub known : Known S

@@ -31,8 +31,8 @@ abbrev pub all_turns : List Told → List Turn
 all_turns told = flat_map turns_of told
 
 -- of the life: its answered turns are the messages that were served in its rounds that settled, in order; its held ones
--- are a prefix of those that were served after them; and each client that was accepted, whether its connection is open at
--- its end or was let go, received a prefix of the answers to those of the former that it sent, in order
+-- are a prefix of those that were served after them; and each client that was accepted, whether its connection is open
+-- at its end or was let go, received a prefix of the answers to those of the former that it sent, in order
 pub record IsReceivedIn {S H J : Type 0} (contents remaining : S → Option (List ℕ)) (life : ServerLife S H J) (told : Told) : Type 0 where
   pub those : AreThose (map its told.answered) (served_in life.rounds)
   pub lost : List Turn
@@ -77,15 +77,15 @@ eras_left begun before (era ∷ eras) = eras_left begun (redone_all leaving begu
 
 -- ---- the theorem
 
--- the eras are one history, written as turns. `received`: each client that was accepted was sent a prefix of the answers to
--- the messages that it sent. `recorded`: a turn did what the replay of its own record does, after the records before it. `answered`: at
--- each repository each answer without a fault is the machine's after what was performed before it, in whichever life,
--- and one with a fault did what its number of lines says, or nothing. `kept`: in an era each life begins with the
--- records of all turns before it, those of the answers that were sent among them. `ended`: each era begins with all
--- that was kept before it except the open lists, and raises the number of the next list. `followed`: if visits without
--- a fault follow a list by its unexpired tokens within an era, their pages, joined, are the records selected at the
--- first of them; a token of an earlier era is refused, and no number of a list is given twice, in whichever eras.
--- `harvested`: harvests miss nothing, in whichever eras they are made
+-- the eras are one history, written as turns. `received`: each client that was accepted was sent a prefix of the
+-- answers to the messages that it sent. `recorded`: a turn did what the replay of its own record does, after the
+-- records before it. `answered`: at each repository each answer without a fault is the machine's after what was
+-- performed before it, in whichever life, and one with a fault did what its number of lines says, or nothing. `kept`:
+-- in an era each life begins with the records of all turns before it, those of the answers that were sent among them.
+-- `ended`: each era begins with all that was kept before it except the open lists, and raises the number of the next
+-- list. `followed`: if visits without a fault follow a list by its unexpired tokens within an era, their pages, joined,
+-- are the records selected at the first of them; a token of an earlier era is refused, and no number of a list is given
+-- twice, in whichever eras. `harvested`: harvests miss nothing, in whichever eras they are made
 pub record IsServed {S H J : Type 0} (config : HostConfig) (contents remaining : S → Option (List ℕ)) (eras : List (ServerEra S H J)) : Type 0 where
   pub told : List (List Told)
   pub received : AllZip (λ (era : ServerEra S H J) (t : List Told). AllZip (IsReceivedIn contents remaining) era.lives t) eras told

@@ -456,8 +456,8 @@ module _ {S H : Type 0} (step : Steps H) (settled : Settles H) (contents remaini
     streams = s.streams;
     parted = s.parted;
     passes = s.passes;
-    answered = λ accepted gone earlier count k.
-        all_answered contents remaining (accepted ++ s.streams) (gone ++ s.parted) (earlier ++ served_in s.rounds) b.links (s.kept accepted gone earlier count k);
+    answered = λ accepted gone earlier before k.
+        all_answered contents remaining (accepted ++ s.streams) (gone ++ s.parted) (earlier ++ served_in s.rounds) b.links (s.kept accepted gone earlier before k);
   }
 
 -- ---- a link that was put in

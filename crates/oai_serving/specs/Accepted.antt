@@ -23,7 +23,8 @@ IsAcceptance known (Err fault) later = Accepts known later []
 abbrev pub LetsGo : {S : Type 0} → Option (List (ℕ × S)) → Option (List (ℕ × S)) → List (ℕ × S) → Type 0
 LetsGo known later streams = Accepts known later streams
 
--- what is known of sockets: the streams that were accepted, as they were then, and those that were let go, as they were then, each with its number
+-- what is known of sockets: the streams that were accepted, as they were then, and those that were let go, as they were
+-- then, each with its number
 pub record Known (S : Type 0) : Type 0 where
   pub accepted : Option (List S)
   pub gone : Option (List (ℕ × S))

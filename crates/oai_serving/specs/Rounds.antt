@@ -114,7 +114,7 @@ served_in rounds = flat_map (λ (served : List Served). served) rounds
 abbrev pub AreSettled : {H : Type 0} → Steps H → Settles H → List (List Served) → H → H → Type 0
 AreSettled {H} step settled rounds old new = Chain (λ served before after. (mid : H) × Serves step before served mid × settled mid (Ok tt) after) rounds old new
 
--- so many rounds, all of them Ok
+-- that many rounds, all of them Ok
 pub record AreRounds {S H : Type 0} (step : Steps H) (settled : Settles H) (contents remaining : S → Option (List ℕ)) (count : ℕ) (known later : Known S) (old new : World S H) : Type 0 where
   pub rounds : List (List Served)
   pub many : length rounds ≡ count
@@ -138,8 +138,8 @@ EndsService step settled mid (Ok done) new = new ≡ mid
 EndsService step settled mid (Err fault) new = IsEnd step settled mid fault new
 
 -- a service: rounds in which the handler settled, 2^64 - 1 of them, or fewer and one that ended it, in which further
--- messages may have been performed. Each stream that was accepted stands under a link, or was let go, and each client has at most a prefix of
--- the answers to those of its messages that were served in the rounds that settled
+-- messages may have been performed. Each stream that was accepted stands under a link, or was let go, and each client
+-- has at most a prefix of the answers to those of its messages that were served in the rounds that settled
 pub record IsService {S H : Type 0} (step : Steps H) (settled : Settles H) (contents remaining : S → Option (List ℕ)) (known later : Known S) (old : World S H) (result : Result Unit ServeFault) (new : World S H) : Type 0 where
   pub rounds : List (List Served)
   pub many : IfOk result (λ done. 18_446_744_073_709_551_615 ≤ length rounds)

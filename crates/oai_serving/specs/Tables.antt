@@ -40,7 +40,7 @@ abbrev pub AreLinksAnswered : {S : Type 0} → (S → Option (List ℕ)) → (S 
 AreLinksAnswered {S} contents remaining accepted served links =
     (key : ℕ) (link : Link S) → get links key ≡ Some link → IsAnswered contents remaining accepted served link.connection.number link.stream
 
--- so it is of each client whose stream was let go with its number
+-- the same of each client whose stream was let go with its number
 abbrev pub AreGoneAnswered : {S : Type 0} → (S → Option (List ℕ)) → (S → Option (List ℕ)) → List S → List (ℕ × S) → List Served → Type 0
 AreGoneAnswered {S} contents remaining accepted gone served =
     (number : ℕ) (last : S) → Contains gone (number, last) → IsAnswered contents remaining accepted served number last
@@ -57,14 +57,15 @@ abbrev pub AreAllThere : {S : Type 0} → List S → List (ℕ × S) → Slab (L
 AreAllThere {S} accepted gone links =
     (number : ℕ) → 1 ≤ number → number ≤ length accepted → HasLinkOf number links ⊎ ((last : S) × Contains gone (number, last))
 
--- of all streams that were accepted: each stands under a link, or was let go, and its client received no more than the front of the answers to those
--- of its own messages that were served
+-- of all streams that were accepted: each stands under a link, or was let go, and its client received at most a prefix
+-- of the answers to those of its own messages that were served
 pub record AreAllAnswered {S : Type 0} (contents remaining : S → Option (List ℕ)) (accepted : List S) (gone : List (ℕ × S)) (served : List Served) (links : Slab (Link S)) : Type 0 where
   pub linked : AreLinksAnswered contents remaining accepted served links
   pub over : AreGoneAnswered contents remaining accepted gone served
   pub all : AreAllThere accepted gone links
 
--- of all streams that were accepted: each stands under a link, which is what came of it, or was let go, and then no link has its number
+-- of all streams that were accepted: each has a link, which is its result, or was let go, and then no link has its
+-- number
 pub record AreAllKept {S : Type 0} (contents remaining : S → Option (List ℕ)) (accepted : List S) (gone : List (ℕ × S)) (served : List Served) (links : Slab (Link S)) : Type 0 where
   pub kept : AreLinksKept contents remaining accepted served links
   pub over : AreGoneAnswered contents remaining accepted gone served
@@ -102,7 +103,7 @@ pub record AreSent {S : Type 0} (contents remaining : S → Option (List ℕ)) (
   pub stay : (number : ℕ) → HasLinkOf number old → HasLinkOf number new
   pub count : slab_len new ≤ slab_len old
 
--- links were taken away, and the stream of each was let go with its number
+-- links were removed, and the stream of each was let go with its number
 pub record AreEnded {S : Type 0} (contents remaining : S → Option (List ℕ)) (known later : Known S) (old new : Slab (Link S)) : Type 0 where
   pub parted : List (ℕ × S)
   pub passes : Passes known later [] parted

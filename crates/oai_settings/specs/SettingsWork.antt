@@ -1,5 +1,4 @@
--- The calls behind making a configuration: each returns its value, or that the settings are bad, or that memory was
--- refused.
+-- The calls that make a configuration: each returns its value, or that the settings are bad, or out of memory.
 use Rattle.std.specs.Prelude.{◌≡◌, ℕ, true, false, List, ◌∷◌, [], ◌++◌, Option, Some, None, is_none, Result, Ok, Err}
 use Rattle.std.specs.Int.{is_in_range}
 use Rattle.oai_names.specs.Names.{may_be_prefix}
@@ -14,7 +13,7 @@ use Rattle.oai_settings.specs.declared.settings.ConfigFault.TheVariants.{BadForm
 use Rattle.oai_settings.specs.Config.{Config, IsConfig, are_limits}
 use Rattle.oai_settings.specs.Settings.{Configures, IsConfigured, are_formats, are_numbers, format_of, formats_of, passes_number}
 
--- memory was refused, and so much was found good before it; or the format is a bad one
+-- out of memory, and that much was good before it; or the format is a bad one
 abbrev pub IsSettingsRefused : ConfigFault → Type 0 → Type 0 → Type 0
 IsSettingsRefused NoMemory good bad = good
 IsSettingsRefused fault good bad = (fault ≡ BadFormat) × bad
@@ -24,7 +23,7 @@ abbrev pub IsPrefixOf : List ℕ → Result (List ℕ) ConfigFault → Type 0
 IsPrefixOf text (Ok prefix) = (prefix ≡ text) × (may_be_prefix text ≡ true)
 IsPrefixOf text (Err fault) = IsSettingsRefused fault (may_be_prefix text ≡ true) (may_be_prefix text ≡ false)
 
--- the format that is described, where it has a prefix
+-- the format that is described, if it has a valid prefix
 abbrev pub IsFormatOf : FormatSettings → Result Format ConfigFault → Type 0
 IsFormatOf settings (Ok format) = (format ≡ format_of settings) × (may_be_prefix settings.prefix ≡ true)
 IsFormatOf settings (Err fault) = IsSettingsRefused fault (may_be_prefix settings.prefix ≡ true) (may_be_prefix settings.prefix ≡ false)
@@ -39,12 +38,12 @@ abbrev pub AreDeclared : List FormatSettings → Result (List Format) ConfigFaul
 AreDeclared settings (Ok formats) = (are_formats settings ≡ true) × (formats ≡ formats_of settings)
 AreDeclared settings (Err fault) = IsSettingsRefused fault (Unit {0}) (are_formats settings ≡ false)
 
--- the number, where it is one from 1 to the most
+-- the number, if it is one from 1 to the maximum
 abbrev pub IsLimit : ℕ → Option ℕ → Option ℕ → Type 0
 IsLimit most number (Some n) = (number ≡ Some n) × (is_in_range 1 most n ≡ true)
 IsLimit most number None = passes_number (is_in_range 1 most) number ≡ false
 
--- the limits of the settings, where each is a number in its range
+-- the limits of the settings, if each is a number in its range
 abbrev pub AreLimits : Option ℕ → Option ℕ → Option ℕ → Option ℕ → Option Limits → Type 0
 AreLimits chunk lifetime lists items (Some limits) =
     (chunk ≡ Some limits.chunk) × (lifetime ≡ Some limits.lifetime) × (lists ≡ Some limits.lists) × (items ≡ Some limits.items)
@@ -52,7 +51,7 @@ AreLimits chunk lifetime lists items (Some limits) =
     × (are_limits limits.chunk limits.lifetime limits.lists limits.items ≡ true)
 AreLimits chunk lifetime lists items None = are_numbers chunk lifetime lists items ≡ false
 
--- the configuration with what was made of its settings
+-- the configuration with the parts made from its settings
 abbrev pub config_with : Settings → Made → Config
 config_with settings made = record {
   base = made.base;
@@ -68,7 +67,7 @@ config_with settings made = record {
   formats = made.formats;
 }
 
--- with what was made they are configured; or they have the fault
+-- with these parts the settings make the configuration; or they have the fault
 abbrev pub IsMade : Settings → Result Made ConfigFault → Type 0
 IsMade settings (Ok made) = Configures settings (config_with settings made) × IsConfig (config_with settings made)
 IsMade settings (Err fault) = IsConfigured settings (Err fault)

@@ -13,8 +13,8 @@ use parts::{Limits, made_of};
 use std::alloc::Global;
 use std::marker::Model;
 
-/// The configuration of a repository, which keeps the rules of its settings: its name, addresses
-/// and earliest datestamp, its limits, and the characters of its base URL.
+/// The configuration of a repository. It satisfies the rules of its settings: its name, addresses and earliest
+/// datestamp, its limits, and the characters of its base URL.
 #[derive(Debug, Drop)]
 pub struct RepoConfig {
     base: Text,
@@ -40,11 +40,10 @@ impl Model for RepoConfig {
 }
 
 impl RepoConfig {
-    /// The configuration of these settings: the base URL is the base, `/oai/` and the name. The
-    /// errors, in this order: `BadShape`, `BadName`, `BadFormat`, `BadDate`, `BadNumber`; and
-    /// `NoMemory`, which may come in place of any but the first two: their causes are looked for
-    /// before any memory is taken. Of the texts only the prefixes of the formats are copied, and
-    /// the base where the name finds no room behind it.
+    /// The configuration of these settings: the base URL is the base, `/oai/` and the name. The errors, in this order:
+    /// `BadShape`, `BadName`, `BadFormat`, `BadDate`, `BadNumber`; and `NoMemory`, which may come in place of any but
+    /// the first two: these are tested before anything is allocated. Of the texts only the prefixes of the formats are
+    /// copied, and the base if its buffer has no capacity for the name.
     pub fn new(alloc: Global, mut settings: Settings) -> Result<RepoConfig, ConfigFault>
         ensures { IsConfigured settings result }
     {
@@ -69,7 +68,7 @@ impl RepoConfig {
         self.base.as_str()
     }
 
-    /// The name for people: 1 to 512 bytes.
+    /// The repositoryName: 1 to 512 bytes.
     pub fn repository_name(&self) -> &str
         ensures name { result.now ≡ self.now.repository_name }
         ensures valid { IsConfig self.now }
@@ -85,8 +84,8 @@ impl RepoConfig {
         self.addresses.as_slice()
     }
 
-    /// The lower limit of all datestamps, in seconds from 1970 on, of the years 0001 to 9998, and a
-    /// midnight where the granularity is days.
+    /// The earliestDatestamp, in seconds from 1970 on, in the years 0001 to 9998, and a midnight if the granularity is
+    /// days.
     #[tactic(auto, unfolding(crate::specs::Config::is_date))]
     pub fn earliest(&self) -> i64
         ensures earliest { result ≡ self.now.earliest }
@@ -96,14 +95,14 @@ impl RepoConfig {
         self.earliest
     }
 
-    /// What is kept of deleted records.
+    /// The policy on deleted records.
     pub fn deleted(&self) -> DeletedRecord
         ensures { result ≡ self.now.deleted }
     {
         self.deleted
     }
 
-    /// How fine the datestamps are.
+    /// The granularity of the datestamps.
     pub fn granularity(&self) -> Granularity
         ensures { result ≡ self.now.granularity }
     {
@@ -134,7 +133,7 @@ impl RepoConfig {
         self.limits.lists
     }
 
-    /// Items, deleted ones counted: 1 to 1,000,000.
+    /// Items, including deleted ones: 1 to 1,000,000.
     pub fn items(&self) -> u64
         ensures items { result ≡ self.now.items }
         ensures valid { IsConfig self.now }

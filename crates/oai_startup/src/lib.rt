@@ -1,5 +1,5 @@
-//! What both programs do at startup, and why they stop: the configuration is read from its file, the pages get their file, and
-//! a host is made of the configuration over them; numbers of the arguments are read.
+//! What both programs do at startup, and why they stop: the configuration is read from its file, the pages get their
+//! file, and a host is made of the configuration over them; numbers of the arguments are read.
 #![tactic(auto)]
 
 mod configurations;

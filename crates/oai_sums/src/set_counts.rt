@@ -12,13 +12,13 @@ use oai_names::{covers, parent_of};
 use std::alloc::Global;
 use std::marker::Model;
 
-/// How many sets are counted at most.
+/// The maximum number of sets that are counted.
 pub const MAX_COUNTED_SETS: usize = 64;
 
-/// What is kept for a span where it is not known where the items stand.
+/// The span that is stored if it is not known where the items are.
 const UNKNOWN: Span = Span { from: 0, to: 0 };
 
-/// A set, how many items are in it, and within which bytes of the entries of all these stand.
+/// A set, how many items are in it, and within which span of bytes their entries are.
 #[derive(Drop)]
 struct SetCount {
     set: SharedSetSpec,
@@ -35,7 +35,7 @@ impl Model for SetCount {
 }
 
 impl SetCount {
-    /// A set with so many items, which stand there.
+    /// A set with that many items, in that span.
     fn of(set: SharedSetSpec, count: u32, span: Span) -> SetCount
         ensures { result ≡ record { set = set; count = count; span = span } }
     {
@@ -49,7 +49,7 @@ impl SetCount {
         self.set.as_str()
     }
 
-    /// One item more, which stands there, behind the others; or None where they are too many to be counted.
+    /// Counts one more item, whose entry follows the others; None on overflow of the count.
     fn add_one(&mut self, span: Span) -> Option<()>
         ensures { OnSome result (self.new ≡ record { set = self.old.set; count = self.old.count + 1; span = widened (Some self.old.span) span }) }
     {
@@ -58,7 +58,7 @@ impl SetCount {
         Some(())
     }
 
-    /// So many items more, or None where they are too many to be counted.
+    /// Counts that many items more; None on overflow of the count.
     fn add(&mut self, more: u32) -> Option<()>
         ensures { OnSome result (self.new ≡ record { set = self.old.set; count = self.old.count + more; span = self.old.span }) }
     {
@@ -72,9 +72,9 @@ impl SetCount {
     }
 }
 
-/// How many items are in each set, and within which bytes of the entries of all these stand, while they are counted: in
-/// the sets that their setSpecs say, and in those above these. An item counts once in each. Contracts see the sets with
-/// the counts and spans; a set that is not there has no items.
+/// How many items are in each set, and within which span of bytes their entries are, while they are counted: in the
+/// sets of their setSpecs, and in the ancestors of these. An item counts once in each. Contracts see the sets with the
+/// counts and spans; a set that is not there has no items.
 #[derive(Drop)]
 pub struct SetCounts {
     counts: Vec<SetCount>,
@@ -90,7 +90,7 @@ impl Model for SetCounts {
 }
 
 impl SetCounts {
-    /// The counts of no items. It takes no memory.
+    /// The counts of no items. Allocates nothing.
     pub fn new(alloc: Global) -> SetCounts
         ensures { result ≡ [] }
     {
@@ -99,9 +99,8 @@ impl SetCounts {
         }
     }
 
-    /// Counts an item of these setSpecs too, which stands there, behind the others. None where there would be more than
-    /// `MAX_COUNTED_SETS` sets, where one has too many items to be counted, or memory is refused; the counts are then
-    /// those of no items in particular.
+    /// Counts an item with these setSpecs, whose entry has that span and follows the others. None if there would be
+    /// more than `MAX_COUNTED_SETS` sets, if a count overflows, or if memory runs out; the counts are then unspecified.
     pub fn add(&mut self, names: &mut SetNames, sets: SpelledSets<'_>, span: Span) -> Option<()>
         ensures counts { OnSome result (CountsMore (λ set. is_in set sets.entry) self.old self.new) }
         ensures spans { OnSome result (SpansMore (λ set. is_in set sets.entry) span self.old self.new) }
@@ -116,9 +115,8 @@ impl SetCounts {
         Some(())
     }
 
-    /// Counts the items of other counts too. None where there would be more than `MAX_COUNTED_SETS` sets, where one has
-    /// too many items to be counted, or memory is refused; the counts are then those of no items in particular. In any
-    /// case nothing is known of the spans behind it.
+    /// Adds other counts. None if there would be more than `MAX_COUNTED_SETS` sets, if a count overflows, or if memory
+    /// runs out; the counts are then unspecified. In any case the spans are unknown afterwards.
     pub fn add_all(&mut self, others: &PackedCounts) -> Option<()>
         ensures { OnSome result ((set : List ℕ) → counted_in set self.new ≡ counted_in set self.old + counted_in set others.now) }
     {
@@ -132,8 +130,8 @@ impl SetCounts {
         Some(())
     }
 
-    /// Counts so many items more in the set. None where there would be more than `MAX_COUNTED_SETS` sets, where the set
-    /// has too many items to be counted, or memory is refused. Nothing is promised of its span.
+    /// Counts that many items more in the set. None if there would be more than `MAX_COUNTED_SETS` sets, if the count
+    /// overflows, or if memory runs out. Nothing is promised of its span.
     fn add_count(&mut self, set: &SharedSetSpec, more: u32) -> Option<()>
         ensures { OnSome result ((q : List ℕ) → counted_in q self.new
             ≡ counted_in q self.old + (if bytes_eq q set.now then more else 0)) }
@@ -149,7 +147,7 @@ impl SetCounts {
         }
     }
 
-    /// Where the set stands; None where it is not there.
+    /// The position of the set; None if it is not there.
     fn place_of(&self, set: &str) -> Option<usize>
         ensures { MatchOption result (lacks set.now self.now ≡ true) (IsFirstAt set.now self.now) }
     {
@@ -161,15 +159,14 @@ impl SetCounts {
         None
     }
 
-    /// Puts a set with so many items, which stand there, behind the others. None where memory is refused.
+    /// Appends a set with that many items, in that span. None if memory runs out.
     fn push(&mut self, set: SharedSetSpec, count: u32, span: Span) -> Option<()>
         ensures { OnSome result (self.new ≡ self.old ++ record { set = set; count = count; span = span } ∷ []) }
     {
         push(&mut self.counts, SetCount::of(set, count, span))
     }
 
-    /// The same counts, as they are kept: no room is left for more sets, as far as that can be done. None where memory
-    /// is refused.
+    /// The same counts, packed: without spare capacity, as far as possible. None if memory runs out.
     pub fn packed(&self, alloc: Global) -> Option<PackedCounts>
         ensures { IfSome result (λ packed. packed ≡ self.now) }
     {
@@ -186,8 +183,8 @@ impl SetCounts {
         Some(PackedCounts::new(sets, spans, several))
     }
 
-    /// Puts the sets and their spans, in the same order, and how many items the sets have that have not just one into these.
-    /// None where memory is refused.
+    /// Appends to these the sets and their spans, in the same order, and the counts of the sets that do not have
+    /// exactly one item. None if memory runs out.
     fn pack(
         &self,
         sets: &mut Vec<SharedSetSpec>,
@@ -210,8 +207,8 @@ impl SetCounts {
         Some(())
     }
 
-    /// Counts an item, which stands there, in the set and in those above it, but in none in which one of the other
-    /// setSpecs says that it is.
+    /// Counts an item with that span in the set and in its ancestors, except in those that another of the setSpecs
+    /// implies.
     fn add_path(
         &mut self,
         names: &mut SetNames,
@@ -231,7 +228,7 @@ impl SetCounts {
         Some(())
     }
 
-    /// Counts an item, which stands there, in the set, unless one of the other setSpecs says that it is in the set.
+    /// Counts an item with that span in the set, unless another of the setSpecs implies it.
     fn add_unless(
         &mut self,
         names: &mut SetNames,
@@ -248,7 +245,7 @@ impl SetCounts {
         self.add_one(names, set, span)
     }
 
-    /// Counts an item, which stands there, in the set.
+    /// Counts an item with that span in the set.
     fn add_one(&mut self, names: &mut SetNames, set: &str, span: Span) -> Option<()>
         ensures counts { OnSome result (CountsMore (λ q. bytes_eq q set.now) self.old self.new) }
         ensures spans { OnSome result (SpansMore (λ q. bytes_eq q set.now) span self.old self.new) }
@@ -265,7 +262,7 @@ impl SetCounts {
     }
 }
 
-/// Whether an item of these setSpecs is in the set.
+/// Whether an item with these setSpecs is in the set.
 #[tactic(auto, unfolding(oai_item::specs::Membership::is_in))]
 fn is_in(mut sets: SpelledSets<'_>, set: &str) -> bool
     ensures { result ≡ is_in set.now sets.entry }

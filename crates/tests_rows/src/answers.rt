@@ -29,12 +29,12 @@ impl Answer {
         answer
     }
 
-    /// The line; where memory was refused that alone.
-    pub(crate) fn line(&self) -> &str {
+    /// The line. The error is that memory was refused, to what was called or to the answer.
+    pub(crate) fn line(&self) -> Result<&str, AllocError> {
         if self.refused {
-            "out of memory"
+            Err(AllocError)
         } else {
-            self.line.as_str()
+            Ok(self.line.as_str())
         }
     }
 

@@ -1,7 +1,7 @@
 //! Items as bytes: the spelling of an item, and bytes that are none. The bytes are typed from the description of the spelling, and
 //! two bytes `AA` stand behind what is written.
 use crate::answers::Answer;
-use crate::items::{item_in, show_fields, show_item, show_result};
+use crate::items::{find_record, item_in, show_item, show_result};
 use crate::rows::Row;
 use oai_item::{DecodeFault, Item, Spelling};
 use std::alloc::{AllocError, Global};
@@ -47,8 +47,7 @@ fn decoded_answer(alloc: Global, row: &Row<'_>, item: &Item, answer: &mut Answer
         "Item::encode_into" => encode(alloc, item, answer),
         "Item::copy" => encode_result(alloc, item.copy(alloc), answer),
         "Item::tombstone" => encode_result(alloc, item.tombstone(alloc, STAMP + 1), answer),
-        "Item::has_record" => answer.is(item.has_record(row.text(1))),
-        "Item::fields_in" => find_fields(item, row.text(1), answer),
+        "Item::fields_in" => find_record(item, row.text(1), answer),
         "Item::has_each_format" => compare_formats(alloc, item, answer),
         _ => answer.word("no such call"),
     }
@@ -78,17 +77,6 @@ fn encoded(alloc: Global, item: &Item) -> Result<Vec<u8>, AllocError> {
             Ok(bytes)
         }
         Err(_) => Ok(Vec::new(alloc)),
-    }
-}
-
-/// The fields of the item's record of that prefix.
-fn find_fields(item: &Item, prefix: &str, answer: &mut Answer) {
-    match item.fields_in(prefix) {
-        Some(fields) => {
-            answer.value(fields.len());
-            show_fields(fields, answer);
-        }
-        None => answer.word("-"),
     }
 }
 

@@ -38,6 +38,8 @@ fn item_answer(alloc: Global, row: &Row<'_>, item: &Item, answer: &mut Answer) {
         "Item::live" => show_item(item, answer),
         "Item::copy" => show_result(item.copy(alloc), answer),
         "Item::tombstone" => show_result(item.tombstone(alloc, STAMP + 1), answer),
+        "Item::fields_in" => find_record(item, row.text(2), answer),
+        "fields-of-tombstone" => find_left(alloc, item, row.text(2), answer),
         "Item::encoded_len" => length(item, answer),
         "Item::order" => order(alloc, item, answer),
         "Item::order_to" => answer.word(word_of(item.order_to(STAMP, row.text(2)))),
@@ -75,15 +77,41 @@ fn show_records(mut records: ItemRecords<'_>, answer: &mut Answer) {
             show_fields(record.fields, answer);
         }
     }
+    if !records.is_empty() {
+        answer.word("more records");
+    }
 }
 
 /// The name and the text of each field.
-pub(crate) fn show_fields(mut fields: Fields<'_>, answer: &mut Answer) {
+fn show_fields(mut fields: Fields<'_>, answer: &mut Answer) {
     for _ in 0..fields.len() {
         if let Some(field) = fields.next() {
             answer.text(field.name);
             answer.text(field.text);
         }
+    }
+    if !fields.is_empty() {
+        answer.word("more fields");
+    }
+}
+
+/// Whether the item has a record of that prefix, how many fields it has, and these.
+pub(crate) fn find_record(item: &Item, prefix: &str, answer: &mut Answer) {
+    answer.is(item.has_record(prefix));
+    match item.fields_in(prefix) {
+        Some(fields) => {
+            answer.value(fields.len());
+            show_fields(fields, answer);
+        }
+        None => answer.word("-"),
+    }
+}
+
+/// The record of that prefix of what is left of the item a second later.
+fn find_left(alloc: Global, item: &Item, prefix: &str, answer: &mut Answer) {
+    match item.tombstone(alloc, STAMP + 1) {
+        Ok(left) => find_record(&left, prefix, answer),
+        Err(_) => answer.out_of_memory(),
     }
 }
 

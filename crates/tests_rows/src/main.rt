@@ -60,12 +60,12 @@ fn write_answers(rt: &(impl Files + Print + AllocGlobal), subject: &str) -> io::
     out.flush()
 }
 
-/// Writes what the row is answered.
+/// Writes what the row is answered. It stops where memory is refused.
 fn write_answer<W: Write>(alloc: Global, subject: &str, line: &str, out: &mut W) -> io::Result<()> {
     let row = Row::read(alloc, line)?;
     let mut answer = Answer::new(alloc, subject, row.name);
     add_answer(alloc, subject, &row, &mut answer);
-    out.write_all(answer.line().as_bytes())?;
+    out.write_all(answer.line()?.as_bytes())?;
     out.write_all(b"\n")
 }
 

@@ -66,7 +66,7 @@ fn show_records(mut records: SpelledRecords<'_>, answer: &mut Answer) {
             show_fields(record.fields, answer);
         }
     }
-    answer.is(records.next().is_some());
+    answer.is(!records.is_empty() || records.next().is_some());
 }
 
 fn show_fields(mut fields: SpelledFields<'_>, answer: &mut Answer) {

@@ -1,4 +1,4 @@
-//! What a deletion makes of a repository's items, or why it is refused.
+//! Deletions: the change of a repository's items, or why it is refused.
 ghost use Rattle.std.specs.Prelude.{◌≡◌, ◌≤◌, true, length, not, None, Some, IsTrue, OnOk};
 ghost use Rattle.std.specs.List.{list_all};
 ghost use Rattle.oai_item.specs.Item.{IsStamp, tombstone_of};
@@ -19,9 +19,8 @@ use oai_item::{ChangeRefusal, DeletedRecord, Fault, Item, Refusal};
 use oai_names::Identifier;
 use std::alloc::Global;
 
-/// Deletes the item of that identifier: it goes where nothing is kept of deleted records, and stays
-/// as a deleted one of that datestamp elsewhere (OAI-PMH 2.0, section 2.5.1). Or refuses it by the
-/// first cause.
+/// Deletes the item with that identifier: it is removed if the policy is to keep no deleted records, and otherwise
+/// replaced by a tombstone with that datestamp (OAI-PMH 2.0, section 2.5.1). Or refuses it by the first cause.
 pub(crate) fn delete<V: Versions>(
     context: &ChangeContext<'_>,
     store: &mut V,
@@ -49,7 +48,7 @@ pub(crate) fn delete<V: Versions>(
     delete_item(context, store, index, &item)
 }
 
-/// Deletes the item, which stands among the others, or refuses it where it is a deleted one.
+/// Deletes the item, which is one of the repository's, or refuses it if it is already deleted.
 fn delete_item<V: Versions>(
     context: &ChangeContext<'_>,
     store: &mut V,
@@ -75,8 +74,7 @@ fn delete_item<V: Versions>(
     Ok(take_out(context, store, index, item)?)
 }
 
-/// Takes the item out where nothing is kept of deleted records, and puts what is left of it in its
-/// place elsewhere.
+/// Removes the item if the policy is to keep no deleted records, and replaces it by its tombstone otherwise.
 fn take_out<V: Versions>(
     context: &ChangeContext<'_>,
     store: &mut V,
@@ -101,7 +99,7 @@ fn take_out<V: Versions>(
     }
 }
 
-/// Puts what is left of the item in its place.
+/// Replaces the item by its tombstone.
 fn replace_with_tombstone<V: Versions>(
     context: &ChangeContext<'_>,
     store: &mut V,
@@ -123,8 +121,8 @@ fn replace_with_tombstone<V: Versions>(
     put_left(context.alloc, store, index, &left)
 }
 
-/// Puts what is left of an item in its place. A fault leaves everything as it was, and is `Damaged` where
-/// more is left than can be stored.
+/// Replaces an item by its tombstone. A fault leaves everything unchanged, and is `Damaged` if the tombstone is too
+/// large to be stored.
 fn put_left<V: Versions>(
     alloc: Global,
     store: &mut V,

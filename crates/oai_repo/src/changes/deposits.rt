@@ -1,4 +1,4 @@
-//! What is deposited: why it is refused, and the item that it makes.
+//! Deposits: why one is refused, and the item that it makes.
 ghost use Rattle.std.specs.Prelude.{◌≡◌, ◌≤◌, None, Some, false, length, IfOk, IsTrue, OnOk};
 ghost use Rattle.std.specs.List.{list_all};
 ghost use Rattle.std.specs.Option.{option_copied};
@@ -28,7 +28,7 @@ use oai_settings::RepoConfig;
 /// A record of a deposit: the text that names its format, and its fields.
 type Record = (Text, Sequence<Field>);
 
-/// What is deposited: the identifier, the setSpecs as they were given, and the records.
+/// A deposit: the identifier, the setSpecs as they were given, and the records.
 #[derive(Clone, Copy)]
 pub(crate) struct Deposit<'a> {
     pub(crate) identifier: &'a Identifier,
@@ -36,7 +36,7 @@ pub(crate) struct Deposit<'a> {
     pub(crate) records: &'a Records,
 }
 
-/// Puts the item that is deposited among the others, or refuses it by the first cause.
+/// Adds the item of the deposit, or refuses it by the first cause.
 pub(crate) fn put_deposit<V: Versions>(
     context: &ChangeContext<'_>,
     sets: &SetTree,
@@ -81,7 +81,7 @@ pub(crate) fn put_deposit<V: Versions>(
     put_item(context, store, index, &item)
 }
 
-/// Puts the item among the others, or refuses it by the first cause.
+/// Adds the item, or refuses it by the first cause.
 fn put_item<V: Versions>(
     context: &ChangeContext<'_>,
     store: &mut V,
@@ -106,7 +106,7 @@ fn put_item<V: Versions>(
     }
 }
 
-/// Why the item may not stand among the others: the first cause. Any fault but `TooManyPages` may come.
+/// Why the item may not be added to the others: the first cause. Any fault but `TooManyPages` may come.
 fn refusal_among<V: Versions>(
     config: &RepoConfig,
     store: &mut V,
@@ -129,7 +129,7 @@ fn refusal_among<V: Versions>(
     Ok(item_refusal(config, replaced.as_ref(), index.len(), item))
 }
 
-/// Why the deposit may not stand as it is: the first cause.
+/// Why the deposit is refused by itself: the first cause.
 #[tactic(auto, unfolding(crate::specs::Changes::deposit_refusal))]
 fn deposit_refusal(
     config: &RepoConfig,
@@ -154,8 +154,7 @@ fn deposit_refusal(
     None
 }
 
-/// Why the item may not stand in place of that one, if there is one, where there are `count` items: the first
-/// cause.
+/// Why the item may not replace that one, if there is one, among `count` items: the first cause.
 #[tactic(auto, unfolding(crate::specs::Changes::item_refusal))]
 fn item_refusal(
     config: &RepoConfig,
@@ -197,14 +196,14 @@ fn have_formats(formats: &Formats, records: &[Record]) -> bool
         .all(|record| formats.find_named(record.0.as_str()).is_some())
 }
 
-/// Whether there is a record of that prefix.
+/// Whether there is a record with that prefix.
 fn has_record(records: &[Record], prefix: &str) -> bool
     ensures { result ≡ has_record prefix.now records.now }
 {
     record_named(records, prefix).is_some()
 }
 
-/// The record of that prefix.
+/// The record with that prefix.
 #[tactic(auto, unfolding(oai_item::specs::Item::record_named))]
 fn record_named<'a>(records: &'a [Record], prefix: &str) -> Option<&'a Record>
     ensures { option_copied result ≡ record_named prefix.now records.now }
@@ -245,7 +244,7 @@ pub(crate) fn is_among(names: &[Text], name: &str) -> bool
     names.iter().any(|other| other.as_str() == name)
 }
 
-/// Whether the item that is replaced has a format in which the new one has no record.
+/// Whether the replaced item has a format in which the new one has no record.
 fn drops_format(replaced: Option<&Item>, item: &Item) -> bool
     ensures { result ≡ spec.drops_format (option_copied replaced.entry) item.now.formats }
 {

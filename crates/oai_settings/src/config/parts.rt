@@ -18,19 +18,19 @@ use std::mem;
 /// The first second of the year 0001.
 const FIRST_DATE: i64 = -62_135_596_800;
 
-/// The most records a page.
+/// The maximum number of records a page.
 const MAX_CHUNK: u64 = 1_000;
 
-/// The most seconds that a list stays open: a year of 365 days.
+/// The maximum lifetime of a list in seconds: a year of 365 days.
 const MAX_LIFETIME: u64 = 31_536_000;
 
-/// The most lists that are open at once.
+/// The maximum number of open lists.
 const MAX_LISTS: u64 = 10_000;
 
-/// The most items, deleted ones counted.
+/// The maximum number of items, including deleted ones.
 const MAX_ITEMS: u64 = 1_000_000;
 
-/// The most that a repository holds and shows at once.
+/// The limits of a repository.
 #[derive(Clone, Copy, Debug)]
 pub struct Limits {
     /// Records a page.
@@ -39,11 +39,11 @@ pub struct Limits {
     pub lifetime: u64,
     /// Lists that are open at once.
     pub lists: u64,
-    /// Items, deleted ones counted.
+    /// Items, including deleted ones.
     pub items: u64,
 }
 
-/// What a configuration has beside what its settings say as it stands.
+/// The parts of a configuration that are not copied from its settings.
 #[derive(Drop)]
 pub(super) struct Made {
     pub(super) base: Text,
@@ -52,8 +52,8 @@ pub(super) struct Made {
     pub(super) formats: Formats,
 }
 
-/// Makes it of the settings, and takes their base and their formats out of them. The errors are those
-/// of a configuration.
+/// What a configuration of the settings has beside what they say as it stands; their base and their
+/// formats are taken out for it. The errors are those of `RepoConfig::new`.
 #[tactic(auto, unfolding(crate::specs::Settings::config_fault))]
 pub(super) fn made_of(alloc: Global, settings: &mut Settings) -> Result<Made, ConfigFault>
     ensures made { IsMade settings.old result }
@@ -109,7 +109,7 @@ fn declared_formats(
     Ok(formats)
 }
 
-/// Declares one format more.
+/// Declares one more format.
 fn declare(format: Format, formats: &mut Formats) -> Result<(), ConfigFault>
     ensures { IsDeclared formats.old format result formats.new }
 {
@@ -124,7 +124,7 @@ fn declare(format: Format, formats: &mut Formats) -> Result<(), ConfigFault>
     }
 }
 
-/// The format that the settings describe, where they have a prefix.
+/// The format that the settings describe, if they have a valid prefix.
 fn format_of(alloc: Global, settings: FormatSettings) -> Result<Format, ConfigFault>
     ensures { IsFormatOf settings result }
 {
@@ -148,8 +148,7 @@ fn read_prefix(alloc: Global, text: &str) -> Result<Prefix, ConfigFault>
     }
 }
 
-/// The seconds of the text, where it is a bound of just this granularity and of the years 0001 to
-/// 9998.
+/// The seconds of the text, if it is a bound with exactly this granularity and in the years 0001 to 9998.
 #[tactic(auto, unfolding(crate::specs::Settings::earliest_of))]
 fn read_earliest(granularity: Granularity, text: &str) -> Option<i64>
     ensures value { result ≡ spec.earliest_of granularity text.now }
@@ -161,8 +160,7 @@ fn read_earliest(granularity: Granularity, text: &str) -> Option<i64>
     }
 }
 
-/// The seconds of the bound, where it is one of just this granularity and of the years 0001 to
-/// 9998.
+/// The seconds of the bound, if it has exactly this granularity and lies in the years 0001 to 9998.
 #[tactic(auto, unfolding(crate::specs::Config::is_date))]
 fn seconds_of(granularity: Granularity, bound: Bound) -> Option<i64>
     requires { IsWritableBound bound }
@@ -182,7 +180,7 @@ fn is_in_years(seconds: i64) -> bool
     FIRST_DATE <= seconds && seconds <= LAST_TICK
 }
 
-/// The limits, where each is a number and in its range.
+/// The limits, if each is a number in its range.
 #[tactic(auto, unfolding(crate::specs::Settings::are_numbers, crate::specs::Config::are_limits))]
 fn limits_of(
     chunk: Option<u64>,
@@ -200,7 +198,7 @@ fn limits_of(
     })
 }
 
-/// The number, where there is one from 1 to the most.
+/// The number, if there is one from 1 to the maximum.
 fn limit(most: u64, number: Option<u64>) -> Option<u64>
     ensures { IsLimit most number result }
 {

@@ -1,10 +1,10 @@
-use Rattle.std.proofs.Common.{◌≡◌, ◌-◌, ◌<◌, ℕ, Ok, Err, ap, arith, get_or, length}
+use Rattle.std.proofs.Common.{◌-◌, ◌<◌, ℕ, Ok, Err, ap, arith, get_or, length}
 use Rattle.std.proofs.lemmas.Bool.{false_from_ne_true}
 use Rattle.oai_item.specs.declared.decodings.DecodeFault.TheVariants.{Damaged}
 use Rattle.oai_pool.specs.Names.{times}
 use Rattle.oai_places.proofs.HaveReadLemmas.{read_more, read_none}
 use Rattle.oai_places.proofs.JoinedLemmas.{named_in_numbers}
-use Rattle.oai_places.proofs.ReadPlaces.{reads_damaged}
+use Rattle.oai_places.proofs.ReadPlaces.{reads_undecoded}
 use Rattle.oai_places.proofs.SpanPicking.{span_picked}
 use Rattle.oai_places.proofs.picking.pick_in.Goals as goal
 
@@ -21,13 +21,13 @@ returns-in-Ok-clause-taken g c =
     c.args.part.now.items c.pick_entries.new.part.items c.args.skip (Ok c.in-Ok.left) c.pages.ensures c.requires.sound c.requires.pickable
     (c.in_ok-bytes.ensures.bytes honest) c.deref.ensures.value c.in-Ok.ensures
 
-pub returns-in-Err-Damaged-clause-pages : goal.returns-in-Err-Damaged-clause-pages
-returns-in-Err-Damaged-clause-pages g c =
+pub returns-clause-pages : goal.returns-clause-pages
+returns-clause-pages g c =
     let G = g.P.PagePool in
     let p = c.args.pages.now in
     let q = c.read_span.new.pages in
-    reads_damaged G p q (read_more G c.read_span.result p p q (read_none G p) c.read_span.ensures.pages)
-    (false_from_ne_true (G.honest p)
+    reads_undecoded G c.in-Err.fault c.decoding_fault_of.result p q c.decoding_fault_of.ensures (read_more G c.read_span.result p p q (read_none G p) c.read_span.ensures.pages)
+    (λ damage. false_from_ne_true (G.honest p)
     (λ honest. span_picked (G.pages p) c.args.place.now c.pages.result.now c.in_ok-bytes.bytes.items c.deref.result.now c.args.wanted.filter.now c.args.wanted.stamp c.args.wanted.identifier.now c.args.span c.args.most
     c.args.part.now.items c.pick_entries.new.part.items c.args.skip (Err Damaged) c.pages.ensures c.requires.sound c.requires.pickable
-    (c.in_ok-bytes.ensures.bytes honest) c.deref.ensures.value (rw c.in-Err-Damaged.field-0-is at c.in-Err-Damaged.ensures)))
+    (c.in_ok-bytes.ensures.bytes honest) c.deref.ensures.value (rw damage at c.in-Err.ensures)))

@@ -8,19 +8,19 @@ use Rattle.oai_repo.specs.Indexing.{is_one_named}
 use Rattle.oai_repo.proofs.IndexLemmas.{found_at, found_one, name_of_one}
 use Rattle.oai_repo.proofs.item_index.ItemIndex.find_at.Goals as goal
 
-pub returns-then-is_named-clause-found : goal.returns-then-is_named-clause-found
-returns-then-is_named-clause-found g c = λ honest.
+pub returns-then-is_one_named-clause-found : goal.returns-then-is_one_named-clause-found
+returns-then-is_one_named-clause-found g c = λ honest.
     let here : c.self.inside.version ≡ c.args.self.now.version = ap (λ (s : ItemIndex). s.version) c.self.view_is in
     let fits : FitsSigned w64 c.args.stamp = c.ranges.stamp in
     let at = found_at c.args.self.now.entries _ c.args.identifier.now c.args.stamp (c.requires.stands.agrees honest) c.requires.there in
     rw here at (simp to_z-of_z at (c.in_ok-found.ensures.found honest)) ∙ at.0
 
-pub returns-then-is_named-clause-named : goal.returns-then-is_named-clause-named
-returns-then-is_named-clause-named g c =
-    name_of_one c.args.identifier.now c.in_ok-found.found (rw (c.as_ref.ensures.value, c.as_str.ensures.text) at (sym c.is_named.ensures ∙ c.if-is_named.true))
+pub returns-then-is_one_named-clause-named : goal.returns-then-is_one_named-clause-named
+returns-then-is_one_named-clause-named g c =
+    name_of_one c.args.identifier.now c.in_ok-found.found (rw (c.as_ref.ensures.value, c.as_str.ensures.text) at (sym c.is_one_named.ensures ∙ c.if-is_one_named.true))
 
-pub returns-else-is_named-clause-reads : goal.returns-else-is_named-clause-reads
-returns-else-is_named-clause-reads g c = record {
+pub returns-else-is_one_named-clause-reads : goal.returns-else-is_one_named-clause-reads
+returns-else-is_one_named-clause-reads g c = record {
   same = c.find.ensures.same;
   store = record {
     room = search rules;
@@ -33,7 +33,7 @@ returns-else-is_named-clause-reads g c = record {
           let at = found_at c.args.self.now.entries _ c.args.identifier.now c.args.stamp (c.requires.stands.agrees honest) c.requires.there in
           let found : c.in_ok-found.found ≡ item_named c.args.identifier.now _ = rw here at (simp to_z-of_z at (c.in_ok-found.ensures.found honest)) ∙ at.0 in
           let one : is_one_named c.args.identifier.now c.in_ok-found.found ≡ true = found_one c.args.identifier.now _ c.in_ok-found.found found at.1 in
-          let other : is_one_named c.args.identifier.now c.in_ok-found.found ≡ false = rw (c.as_ref.ensures.value, c.as_str.ensures.text) at (sym c.is_named.ensures ∙ c.if-is_named.false) in
+          let other : is_one_named c.args.identifier.now c.in_ok-found.found ≡ false = rw (c.as_ref.ensures.value, c.as_str.ensures.text) at (sym c.is_one_named.ensures ∙ c.if-is_one_named.false) in
           cc);
     };
   };
