@@ -1,6 +1,8 @@
 -- The theorem of a repository from any state on, and over eras.
-use Rattle.std.proofs.Common.{◌≡◌, ◌∙◌, inl, inr, ◌≤◌, ℕ, List, [], ◌∷◌, ◌++◌, map, Option, None, Some, refl, sym, ap, subst, true}
-use Rattle.std.specs.List.{AllByRecursion, flat_map}
+use Rattle.std.proofs.Common.{◌≡◌, ◌∙◌, inl, inr, ◌≤◌, ℕ, Bool, List, [], ◌∷◌, ◌++◌, map, Option, None, Some, refl, sym, ap, subst, true}
+use Rattle.std.specs.Prelude.{nat_lt}
+use Rattle.std.specs.List.{AllByRecursion, flat_map, list_all}
+use Rattle.std.proofs.lemmas.Bool.{and_from, and_parts}
 use Rattle.oai_names.specs.declared.list_verbs.ListVerb.{ListVerb}
 use Rattle.oai_lists.specs.declared.lists.TheConstants.{LAST_NUMBER}
 use Rattle.oai_item.specs.Formats.{AreRepositoryFormats}
@@ -10,8 +12,9 @@ use Rattle.oai_repo.specs.State.{RepoState, empty_state}
 use Rattle.oai_laws.specs.Eras.{AreEnded, AreHarvestsWithin, AreRefused, AreSuccessiveWithin, Era, HaveNumbers, IsHarvestWithin, MissNothingWithin, all_exchanges, left_behind, left_by_era, runs}
 use Rattle.oai_laws.specs.Following.{IsOffered, ListRequest, WasOffered}
 use Rattle.oai_laws.specs.Harvests.{Harvest, datestamp_of, records_since}
-use Rattle.oai_laws.specs.Runs.{Exchange, IsPart, Throughout, run}
+use Rattle.oai_laws.specs.Runs.{Exchange, IsPart, Throughout, given_in, numbers_given, numbers_rise_strictly, run}
 use Rattle.oai_laws.proofs.EndedLemmas.{IsStanding, standing_behind, standing_empty, standing_ended}
+use Rattle.oai_laws.proofs.EraNumberLemmas.{numbers_rise_over}
 use Rattle.oai_laws.proofs.EraTokenLemmas.{era_tokens_refused}
 use Rattle.oai_laws.proofs.HarvestLemmas.{harvests_copied_from, harvests_within}
 use Rattle.oai_http.specs.declared.exchanges.Answer.{Answer}
@@ -135,6 +138,22 @@ parts_joined [] (y ∷ wholes) are = absurd are
 parts_joined (x ∷ parts) [] are = absurd are
 parts_joined (x ∷ parts) (y ∷ wholes) are = part_append x y (all_exchanges parts) (all_exchanges wholes) are.0 (parts_joined parts wholes are.1)
 
+-- what holds of each number holds of each of a part, and a part of numbers that rise rises
+all_fewer : (test : ℕ → Bool) (some whole : List ℕ) → IsPart some whole → list_all test whole ≡ true → list_all test some ≡ true
+all_fewer test some [] part all = ap (list_all test) part
+all_fewer test some (n ∷ whole) (inl part) all = all_fewer test some whole part (and_parts (test n) (list_all test whole) all).1
+all_fewer test some (n ∷ whole) (inr part) all =
+    let parts = and_parts (test n) (list_all test whole) all in
+    ap (list_all test) part.1 ∙ and_from (test n) (list_all test part.0) parts.0 (all_fewer test part.0 whole part.2 parts.1)
+
+rising_fewer : (some whole : List ℕ) → IsPart some whole → numbers_rise_strictly whole ≡ true → numbers_rise_strictly some ≡ true
+rising_fewer some [] part rising = ap numbers_rise_strictly part
+rising_fewer some (n ∷ whole) (inl part) rising = rising_fewer some whole part (and_parts (list_all (nat_lt n) whole) (numbers_rise_strictly whole) rising).1
+rising_fewer some (n ∷ whole) (inr part) rising =
+    let parts = and_parts (list_all (nat_lt n) whole) (numbers_rise_strictly whole) rising in
+    ap numbers_rise_strictly part.1
+    ∙ and_from (list_all (nat_lt n) part.0) (numbers_rise_strictly part.0) (all_fewer (nat_lt n) part.0 whole part.2 parts.0) (rising_fewer part.0 whole part.2 parts.1)
+
 within_more : (config : Config) (parts wholes : List (List Exchange)) (list_request : ListRequest) (harvest : Harvest) → AreParts parts wholes → IsHarvestWithin config parts list_request harvest
     → IsHarvestWithin config wholes list_request harvest
 within_more config [] [] list_request harvest are its = its
@@ -186,10 +205,15 @@ followed_over config eras rules formats numbers met =
     let state : RepoState = empty_state config in
     let standing = standing_empty config rules in
     let machine : List Era = machine_eras config eras in
+    let parts = parts_of_runs config state eras met in
+    let steps : List (List Exchange) = steps_within config state eras in
+    let whole : List (List Exchange) = runs config state machine in
+    let machine_has = machine_numbers config state eras numbers in
     record {
       each = followed_each config state eras rules formats standing numbers met;
-      refused = ended_fewer (steps_within config state eras) (runs config state machine) (parts_of_runs config state eras met)
-          (era_tokens_refused config machine state rules standing.sound (machine_numbers config state eras numbers));
+      refused = ended_fewer steps whole parts (era_tokens_refused config machine state rules standing.sound machine_has);
+      rising = rising_fewer (numbers_given (all_exchanges steps)) (numbers_given (all_exchanges whole))
+          (part_each given_in (all_exchanges steps) (all_exchanges whole) (parts_joined steps whole parts)) (numbers_rise_over config machine machine_has);
     }
 
 pub harvested_over : (config : Config) (eras : List VisitedEra) → IsConfig config → HaveNumbersIn config (empty_state config) eras → AreMetEach config (empty_state config) eras → MissNothingOver config eras

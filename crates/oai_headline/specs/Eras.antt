@@ -1,13 +1,13 @@
 -- The exchanges with a repository all of whose open lists are ended from time to time, as a checkpoint ends them.
 -- OAI-PMH 2.0, sections 2.7.1 and 3.5; that lists are ended before they expire is this repository's own.
-use Rattle.std.specs.Prelude.{◌≡◌, ◌≤◌, ℕ, List, [], ◌∷◌}
+use Rattle.std.specs.Prelude.{◌≡◌, ◌≤◌, ℕ, true, List, [], ◌∷◌}
 use Rattle.std.specs.List.{flat_map}
 use Rattle.oai_lists.specs.declared.lists.TheConstants.{LAST_NUMBER}
 use Rattle.oai_settings.specs.Config.{Config}
 use Rattle.oai_repo.specs.Saved.{ended}
 use Rattle.oai_repo.specs.State.{RepoState, empty_state}
-use Rattle.oai_laws.specs.Eras.{AreEnded, MissNothingWithin}
-use Rattle.oai_laws.specs.Runs.{Exchange}
+use Rattle.oai_laws.specs.Eras.{AreEnded, MissNothingWithin, all_exchanges}
+use Rattle.oai_laws.specs.Runs.{Exchange, numbers_given, numbers_rise_strictly}
 use Rattle.oai_http.specs.declared.exchanges.Answer.{Answer}
 use Rattle.oai_http.specs.declared.exchanges.Call.{Call}
 use Rattle.oai_headline.specs.Throughout.{AreTrueFrom, FollowLists, calls_done, left_by, visits_given, whole_visits}
@@ -66,10 +66,12 @@ FollowListsEach config state [] = Unit {0}
 FollowListsEach config state (era ∷ eras) =
     FollowLists config (visits_given config (era_begins state era) era.calls era.answers) × FollowListsEach config (era_leaves config state era) eras
 
--- and a token that was handed out in one era is refused in all later ones
+-- and a token that was handed out in one era is refused in all later ones; and the numbers of the lists that are opened
+-- rise over all eras, so that none is given twice
 pub record FollowListsOver (config : Config) (eras : List VisitedEra) : Type 0 where
   pub each : FollowListsEach config (empty_state config) eras
   pub refused : AreEnded (steps_within config (empty_state config) eras)
+  pub rising : numbers_rise_strictly (numbers_given (all_exchanges (steps_within config (empty_state config) eras))) ≡ true
 
 -- harvests, each of which is made within an era, miss nothing
 abbrev pub MissNothingOver : Config → List VisitedEra → Type 0

@@ -261,7 +261,7 @@ next_act config state command sound =
 
 -- ---- along a run
 
-sound_left : (config : Config) (commands : List Timed) (state : RepoState) → IsSound config state → IsSound config (left_behind config state commands)
+pub sound_left : (config : Config) (commands : List Timed) (state : RepoState) → IsSound config state → IsSound config (left_behind config state commands)
 sound_left config [] state sound = sound
 sound_left config (timed ∷ commands) state sound =
     sound_left config commands (performed config state timed).left (sound_act config (moved timed.moment state) timed.command (sound_moved config timed.moment state sound))

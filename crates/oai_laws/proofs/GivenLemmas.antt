@@ -1,5 +1,5 @@
 -- The numbers of lists rise in the course of time, each is given once, and the last one of 64 bits never.
-use Rattle.std.proofs.Common.{◌≡◌, ◌∙◌, ◌⊎◌, inl, inr, ℕ, ℤ, ◌+◌, ◌<◌, Bool, true, false, not, ◌||◌, eqb, List, [], ◌∷◌, ◌++◌, map, Option, refl, sym, ap, subst, arith}
+use Rattle.std.proofs.Common.{◌≡◌, ◌∙◌, ◌⊎◌, inl, inr, ℕ, ℤ, ◌+◌, ◌<◌, Bool, true, false, not, ◌||◌, eqb, List, [], ◌∷◌, ◌++◌, append-nil, append_assoc, map, Option, refl, sym, ap, subst, arith}
 use Rattle.std.specs.Prelude.{filter, nat_le, nat_lt}
 use Rattle.std.specs.List.{list_all}
 use Rattle.std.proofs.lemmas.Bool.{and_from, and_parts, cond-true, cond-false, or_left, or_right}
@@ -10,6 +10,7 @@ use Rattle.oai_names.specs.Names.{is_one_of}
 use Rattle.oai_lists.specs.declared.lists.TheConstants.{LAST_NUMBER}
 use Rattle.oai_settings.specs.Config.{Config}
 use Rattle.oai_laws.specs.Effects.{Effect, IsPossible, IsSound, effected, is_given, item_put, item_taken, items_purged, list_carried_on, list_opened, set_added, unchanged}
+use Rattle.oai_laws.specs.Eras.{left_behind}
 use Rattle.oai_repo.specs.Listing.{carried_on_at, with_carried_on}
 use Rattle.oai_laws.specs.Runs.{Exchange, Throughout, Timed, are_never_last, numbers_rise_strictly, given_in, numbers_given, numbers_open, performed, run}
 use Rattle.oai_repo.specs.State.{FrozenList, RepoState, empty_state, moved}
@@ -118,7 +119,7 @@ given_at config state timed sound =
 -- ---- the numbers that a run gives
 
 -- none is below the next, they rise, and the last one of all is not given
-record AreGiven (next : ℕ) (numbers : List ℕ) : Type 0 where
+pub record AreGiven (next : ℕ) (numbers : List ℕ) : Type 0 where
   pub above : list_all (nat_le next) numbers ≡ true
   pub rising : numbers_rise_strictly numbers ≡ true
   pub never_last : are_never_last numbers ≡ true
@@ -159,12 +160,24 @@ joined_given old new given numbers (inl none) later =
 joined_given old new given numbers (inr one) later =
     subst (λ (ns : List ℕ). AreGiven old (ns ++ numbers)) (sym one.0) (with_first old numbers one.2 (subst (λ (n : ℕ). AreGiven n numbers) one.1 later))
 
-given_from : (config : Config) (commands : List Timed) (state : RepoState) → IsSound config state → AreGiven state.open_lists.next (numbers_given (run config state commands))
-given_from config [] state sound = record { above = refl; rising = refl; never_last = refl }
-given_from config (timed ∷ commands) state sound =
+-- those of a run, and others that are given after it
+pub given_then : (config : Config) (commands : List Timed) (state : RepoState) (later : List ℕ) → IsSound config state → AreGiven (left_behind config state commands).open_lists.next later
+    → AreGiven state.open_lists.next (numbers_given (run config state commands) ++ later)
+given_then config [] state later sound given = given
+given_then config (timed ∷ commands) state later sound given =
     let exchange : Exchange = performed config state timed in
     let left = sound_act config (moved timed.moment state) timed.command (sound_moved config timed.moment state sound) in
-    joined_given state.open_lists.next exchange.left.open_lists.next (given_in exchange) (numbers_given (run config exchange.left commands)) (given_at config state timed sound) (given_from config commands exchange.left left)
+    let others : List ℕ = numbers_given (run config exchange.left commands) in
+    subst (AreGiven state.open_lists.next) (sym (append_assoc (given_in exchange) others later))
+    (joined_given state.open_lists.next exchange.left.open_lists.next (given_in exchange) (others ++ later) (given_at config state timed sound) (given_then config commands exchange.left later left given))
+
+pub none_are_given : (next : ℕ) → AreGiven next []
+none_are_given next = record { above = refl; rising = refl; never_last = refl }
+
+given_from : (config : Config) (commands : List Timed) (state : RepoState) → IsSound config state → AreGiven state.open_lists.next (numbers_given (run config state commands))
+given_from config commands state sound =
+    subst (AreGiven state.open_lists.next) (append-nil (numbers_given (run config state commands)))
+    (given_then config commands state [] sound (none_are_given (left_behind config state commands).open_lists.next))
 
 pub numbers_rise : (config : Config) (commands : List Timed) → numbers_rise_strictly (numbers_given (run config (empty_state config) commands)) ≡ true
 numbers_rise config commands = (given_from config commands (empty_state config) (sound_empty config)).rising

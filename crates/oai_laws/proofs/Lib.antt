@@ -18,6 +18,7 @@ pub mod SinceLemmas
 pub mod EndedLemmas
 pub mod ReachedLemmas
 pub mod EraTokenLemmas
+pub mod EraNumberLemmas
 pub mod HarvestedLemmas
 pub mod HeldLemmas
 pub mod HarvestLemmas

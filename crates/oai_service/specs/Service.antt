@@ -84,8 +84,8 @@ eras_left begun before (era ∷ eras) = eras_left begun (redone_all leaving begu
 -- in an era each life begins with the records of all turns before it, those of the answers that were sent among them.
 -- `ended`: each era begins with all that was kept before it except the open lists, and raises the number of the next
 -- list. `followed`: if visits without a fault follow a list by its unexpired tokens within an era, their pages, joined,
--- are the records selected at the first of them; a token of an earlier era is refused. `harvested`: harvests miss
--- nothing, in whichever eras they are made
+-- are the records selected at the first of them; a token of an earlier era is refused, and no number of a list is given
+-- twice, in whichever eras. `harvested`: harvests miss nothing, in whichever eras they are made
 pub record IsServed {S H J : Type 0} (config : HostConfig) (contents remaining : S → Option (List ℕ)) (eras : List (ServerEra S H J)) : Type 0 where
   pub told : List (List Told)
   pub received : AllZip (λ (era : ServerEra S H J) (t : List Told). AllZip (IsReceivedIn contents remaining) era.lives t) eras told

@@ -8,7 +8,12 @@ ghost use Rattle.oai_headline.specs.Visits.{Visit};
 ghost use Rattle.oai_host.specs.Hosts.{HostState, begun};
 ghost use Rattle.oai_laws.specs.Harvests.{Harvest};
 ghost use Rattle.oai_durable.specs.Records.{redone_all};
-ghost use Rattle.oai_service.specs.Hosting.{AreNumbered, leaving};
+ghost use Rattle.oai_journal.specs.Kept.{MayLeaveRecords};
+ghost use Rattle.oai_journal.specs.Records.{Entry};
+ghost use Rattle.oai_journal.specs.declared.file.FileJournal.{FileJournal};
+ghost use Rattle.sqlite_disk.specs.Fuse.{inner_of};
+ghost use Rattle.sqlite_disk.specs.declared.fuse.Fuse.{Fuse};
+ghost use Rattle.oai_service.specs.Hosting.{AreNumbered, hosting, leaving, saving};
 ghost use Rattle.oai_service.specs.Lives.{AreServerEras, ServerEra};
 ghost use Rattle.oai_service.specs.Service.{IsServed};
 ghost use Rattle.oai_service.specs.WorkedLives.{AreWorkedLives, AreWorkedTurns};
@@ -20,7 +25,7 @@ use oai_http::{Handler, Replayed};
 use oai_journal::{FileJournal, Journal};
 use oai_paged::PagedVersions;
 use oai_serving::Stream;
-use sqlite_disk::Disk;
+use sqlite_disk::{Disk, Fuse};
 
 /// **The theorem.** A server lives any number of times, and each life is a service as `Server::serve` promises it:
 /// rounds in which messages come over connections, are performed by a host whose exchanges are logged in a journal, and
@@ -34,7 +39,8 @@ use sqlite_disk::Disk;
 /// - at each repository each answer without a fault is the machine's after what was performed before it, in whichever
 ///   life;
 /// - lists that are followed by their unexpired tokens, by requests without a fault, are what was selected at their
-///   first request; a token of a list that a checkpoint ended is refused;
+///   first request; a token of a list that a checkpoint ended is refused, and no number of a list is given twice, before
+///   a checkpoint or after it;
 /// - harvests miss nothing, where deleted records are kept, even if each of them was made in another life, after
 ///   another checkpoint.
 ///
@@ -85,6 +91,24 @@ pub fn service_on_files_law<S: Stream, P: PageDevice, D: Disk + Drop>()
           ended = ⟦<Host<PagedVersions<P>> as Replayed>⟧.ended;
           emptied = ⟦<Host<PagedVersions<P>> as Replayed>⟧.emptied;
         }) ⟦<FileJournal<D> as Journal>⟧ S.contents S.remaining (map begun config.repositories) None eras
+        → AllByRecursion (λ (era : ServerEra S HostState _). AreNumbered (redone_all leaving (map begun config.repositories) era.found)) eras
+        → IsServed config S.contents S.remaining eras }
+{}
+
+/// A kill within a call of the journal is an instance of the theorem. `Fuse` passes the first calls on to its disk, any
+/// number of them, and fails all others without touching it: so a life whose journal is on a fuse does to that disk what
+/// a life does that is killed between two of these calls, amid a commit too. A call of the disk that is itself cut off is
+/// one that fails there, and may have written a part. All that a crash of the disk may then leave is what the next life
+/// may find (`left`); and lives like that, each with a fuse of its own, are one history (`served`). The function is
+/// empty.
+pub fn killed_law<S: Stream, D: Disk + Drop>()
+    ensures left { (journal : FileJournal (Fuse D)) (found : List Entry)
+        → MayLeaveRecords D.may_leave (inner_of journal.disk) found
+        → ⟦<FileJournal<Fuse<D>> as Journal>⟧.may_leave journal found }
+    ensures served { (config : HostConfig) (eras : List (ServerEra S HostState (FileJournal (Fuse D))))
+        → HaveRules config
+        → AreServerEras (hosting (λ (host : HostState). host)) saving ⟦<FileJournal<Fuse<D>> as Journal>⟧
+        S.contents S.remaining (map begun config.repositories) None eras
         → AllByRecursion (λ (era : ServerEra S HostState _). AreNumbered (redone_all leaving (map begun config.repositories) era.found)) eras
         → IsServed config S.contents S.remaining eras }
 {}
