@@ -1,12 +1,11 @@
 -- What names an element, read from its first tag.
 use Rattle.std.proofs.Common.{◌≡◌, ◌∙◌, ℕ, List, [], ◌∷◌, ◌++◌, Ok, refl, sym, ap, append-nil}
 use Rattle.std.specs.Prelude.{codes}
-use Rattle.std.specs.List.{flat_map}
 use Rattle.oai_xml.specs.Readings.{past}
 use Rattle.oai_xml.specs.QNames.{local_of}
 use Rattle.oai_xml.specs.Namespaces.{Scope, space_of}
 use Rattle.oai_xml.specs.Tags.{Start}
-use Rattle.oai_xml.specs.Trees.{Attribute, Tree, spelled, spelled_attribute, spelled_content}
+use Rattle.oai_xml.specs.Trees.{Attribute, Tree, spelled, spelled_content}
 use Rattle.oai_xml.specs.Whole.{Spells, within}
 use Rattle.oai_xml.specs.Contents.{whole_start_in}
 use Rattle.oai_xml.specs.Roots.{RootName, named_so, root_of, IsRootOf}

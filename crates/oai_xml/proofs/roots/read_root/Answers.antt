@@ -1,5 +1,4 @@
-use Rattle.std.proofs.Common.{◌≡◌, ◌∙◌, Ok, [], sym, ap, subst}
-use Rattle.oai_xml.specs.Namespaces.{space_of}
+use Rattle.std.proofs.Common.{◌≡◌, ◌∙◌, Ok, ap, subst}
 use Rattle.oai_xml.specs.Contents.{whole_start_in}
 use Rattle.oai_xml.specs.Whole.{within}
 use Rattle.oai_xml.proofs.RootLemmas.{root_named}

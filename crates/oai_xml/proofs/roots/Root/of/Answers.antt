@@ -1,4 +1,4 @@
-use Rattle.std.proofs.Common.{◌∙◌, sym, subst}
+use Rattle.std.proofs.Common.{◌∙◌, subst}
 use Rattle.oai_xml.specs.Roots.{IsRootOf}
 use Rattle.oai_xml.proofs.RootLemmas.{only_root}
 use Rattle.oai_xml.proofs.roots.Root.of.Goals as goal
