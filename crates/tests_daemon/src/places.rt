@@ -35,10 +35,9 @@ pub(crate) fn served<C: Clock>(
     clock: &C,
     text: &[u8],
 ) -> Result<Result<(), Stop>, Stop> {
-    match serve(place.alloc(), place, clock, text) {
-        Ok(ended) => Ok(ended.outcome()),
-        Err(stop) => Err(stop),
-    }
+    let alloc = place.alloc();
+    let ended = serve(alloc, place, clock, text)?;
+    Ok(ended.outcome())
 }
 
 /// A place that takes note of the calls that are made, and fails at one of them.
