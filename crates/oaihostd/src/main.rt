@@ -6,7 +6,7 @@ ghost use Rattle.std.specs.Process.{exit_status};
 ghost use Rattle.oai_archive.specs.Stops as spec;
 
 use oai_archive::{ReadFile, Stop, dump_repository, verify_journal};
-use oai_daemon::{HostPlace, checkpoint_folder, serve};
+use oai_daemon::{Ended, HostPlace, checkpoint_folder, serve};
 use oai_startup::{Stop as Other, read_file, read_number};
 use std::env;
 use std::fs::File;
@@ -100,8 +100,15 @@ fn read_port(text: &[u8]) -> Option<u16> {
 fn run_serve<'a>(rt: &'a HostRuntime, path: &str, port: u16, folder: &'a str) -> Result<(), Stop> {
     let text = read_file(rt, path)?;
     let mut place = HostPlace::new(rt, folder, port);
-    let ended = serve(rt.alloc(), &mut place, rt, &text)?;
-    ended.outcome()
+    outcome_of(serve(rt.alloc(), &mut place, rt, &text))
+}
+
+/// Why the program stops, where its service ended, or did not begin.
+fn outcome_of<S: Drop, K: Drop, H: Drop>(ended: Result<Ended<S, K, H>, Stop>) -> Result<(), Stop> {
+    match ended {
+        Ok(ended) => ended.outcome(),
+        Err(stop) => Err(stop),
+    }
 }
 
 /// Reads the journal in the folder, and writes how many records and bytes it has.

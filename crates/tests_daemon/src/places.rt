@@ -4,7 +4,7 @@ ghost use Rattle.oai_journal.specs.Recovered.{disk_of};
 ghost use Rattle.std.specs.Prelude.{IsTrue};
 
 use oai_archive::Stop;
-use oai_daemon::{Note, Place, serve};
+use oai_daemon::{Ended, Note, Place, serve};
 use oai_device::MemoryDevice;
 use oai_journal::{FileJournal, Journal, Kind, Record, Recovery};
 use oai_serving::{Readiness, Sockets, Stream};
@@ -36,8 +36,17 @@ pub(crate) fn served<C: Clock>(
     text: &[u8],
 ) -> Result<Result<(), Stop>, Stop> {
     let alloc = place.alloc();
-    let ended = serve(alloc, place, clock, text)?;
-    Ok(ended.outcome())
+    outcome_of(serve(alloc, place, clock, text))
+}
+
+/// How the service ended, or why it did not begin.
+fn outcome_of<S: Drop, K: Drop, H: Drop>(
+    ended: Result<Ended<S, K, H>, Stop>,
+) -> Result<Result<(), Stop>, Stop> {
+    match ended {
+        Ok(ended) => Ok(ended.outcome()),
+        Err(stop) => Err(stop),
+    }
 }
 
 /// A place that takes note of the calls that are made, and fails at one of them.
