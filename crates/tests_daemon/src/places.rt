@@ -62,7 +62,7 @@ pub(crate) struct MemoryPlace {
     /// The name and the body of the first record of the journal.
     pub(crate) name: &'static [u8],
     pub(crate) body: &'static [u8],
-    /// Another body in its place, if there is one.
+    /// Another body in its place, if there is one, until a journal of the configuration that is served is kept.
     pub(crate) other: Option<String>,
     /// The moment of a tick of the repository behind the first record, if there is one.
     pub(crate) tick: Option<i64>,
@@ -200,7 +200,9 @@ impl Place for MemoryPlace {
             → IsReadBack ⟦<Memory as Disk>⟧.seen ⟦<Memory as Disk>⟧.may_leave begun }
     {
         drop(begun);
-        self.call("keep")
+        self.call("keep")?;
+        self.other = None;
+        Ok(())
     }
 
     fn open_journal(&mut self) -> Result<Memory, Stop> {
