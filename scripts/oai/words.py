@@ -15,7 +15,7 @@ PHRASES = {
     "(?:what was |be |is |are |was |were )?performed again": "replayed",
     "performs? [a-z ]{0,30}again": "replays",
     "performing [a-z ]{0,30}again": "replaying",
-    "(?:at|of|behind|before|after) a start": "at startup, crash recovery",
+    "(?:at|of|behind|before|after) a start(?! tag)": "at startup, crash recovery",
     "any end is an ordinary one": "crash-only",
     "(?:closed|open|changed|first|last) gates?|behind (?:a|the) gate": "commit byte",
     "gates and groups|gates": "commit bytes, commit groups",

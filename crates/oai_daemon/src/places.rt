@@ -29,7 +29,7 @@ pub trait Place {
     /// Opens the folder, or creates it, and locks it until the end. The errors are `CannotOpen` and `InUse`.
     fn lock(&mut self) -> Result<(), Stop>;
 
-    /// Listens at the port; connections wait until they are accepted, and none was yet, or let go. The errors are
+    /// Listens at the port; connections wait until they are accepted, and none has been accepted or closed yet. The errors are
     /// `SocketFault` and `NoMemory`.
     fn listen(&mut self) -> Result<Self::Port, Stop>
         ensures { IfOk result (λ port. PassesNone (known_of (Self.Port.Sockets.accepted port) (Self.Port.Sockets.gone port))) };

@@ -304,7 +304,7 @@ fn add_numbers<P: PagePool>(
     Ok(numbers)
 }
 
-/// The kind of the pages of entries with that many overflow pages.
+/// The kind of leaf pages with that many overflow pages.
 fn kind_for(overflow: usize) -> PageKind
     ensures { result ≡ kind_for overflow }
 {

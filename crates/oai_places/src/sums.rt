@@ -13,7 +13,7 @@ use std::alloc::{AllocError, Global};
 use std::marker::Model;
 use std::rc::Rc;
 
-/// What is known of the items of leaves.
+/// The statistics of the items of several leaves (zone maps).
 #[derive(Drop)]
 struct Sum {
     items: usize,

@@ -260,7 +260,7 @@ impl<S: Stream + Drop, H: Settled> Server<S, H> {
         self.keep(sockets, link);
     }
 
-    /// Stores a link; its stream is let go if memory runs out.
+    /// Stores a link, or closes its stream if memory runs out.
     fn keep<K: Sockets<S>>(&mut self, sockets: &mut K, link: Link<S>)
         requires { slab_len self.old.links < MAX_LINKS }
         ensures handler { self.new.handler ≡ self.old.handler }

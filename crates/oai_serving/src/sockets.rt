@@ -53,12 +53,12 @@ pub enum Readiness {
 }
 
 /// A listener, and the readiness of the streams that were accepted. A report may be spurious, or of a stream that was
-/// let go; and a change is reported once.
+/// closed; and a change is reported once.
 pub trait Sockets<S: Stream> {
     /// The streams that were accepted, in order, in their state then, if they are known.
     ghost accepted: { Self → Option (List S) } = { λ _. None };
 
-    /// The streams that were let go, in order, as they were then, each with its number, if they are known.
+    /// The closed streams, in order, in their state then, each with its number, if they are known.
     ghost gone: { Self → Option (List (ℕ × S)) } = { λ _. None };
 
     /// Waits until something becomes ready, at most that long, and returns how many readinesses there are.

@@ -102,7 +102,7 @@ fn end_at<S: Stream + Drop, K: Sockets<S>>(sockets: &mut K, links: &mut Slab<Lin
     }
 }
 
-/// Removes the link with the key, if there is one, and lets its stream go.
+/// Removes the link with the key, if there is one, and closes its stream.
 fn take_away<S: Stream + Drop, K: Sockets<S>>(
     sockets: &mut K,
     links: &mut Slab<Link<S>>,

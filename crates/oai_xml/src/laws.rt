@@ -3,7 +3,7 @@ ghost use Rattle.oai_xml.specs.Documents.{canonical, tree_in};
 ghost use Rattle.oai_xml.specs.Trees.{Tree, spelled};
 ghost use Rattle.oai_xml.specs.Whole.{IsElement, Spells, is_whole};
 
-/// The bytes determine the tree. A tree stands in a longer text in one way: what it is spelled in is told from whatever
+/// The bytes determine the tree. A tree stands in a longer text in one way: its spelling is separable from whatever
 /// follows; so bytes spell one tree at most, and of two elements with something behind them that are the same bytes, both are
 /// one, and so is what stands behind them. A theorem, proved by an empty function.
 pub fn spelling_law()

@@ -119,7 +119,7 @@ fn past_utf_8(bytes: &[u8]) -> Result<&[u8], Fault>
     Ok(&bytes[5..])
 }
 
-/// Passes what is said of standing alone, if it is said (production [32]).
+/// Skips the standalone declaration, if there is one (production [32]).
 #[tactic(auto, unfolding(crate::specs::Documents::standalone_in))]
 fn past_standalone(bytes: &[u8]) -> Result<&[u8], Fault>
     ensures gives { Gives (λ rest. rest.now) (spec.standalone_in bytes.now) result }

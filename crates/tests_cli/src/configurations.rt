@@ -7,7 +7,7 @@ use std::panic::Expect;
 use std::process::Abort;
 use tests_fixtures::worked_configuration;
 
-/// The file of the test, which lies where it runs.
+/// The test's file, in the folder that it runs in.
 const PATH: &str = "configuration-of-many-reads.json";
 
 /// The worked configuration behind so many spaces that it takes nineteen reads of 65,536 bytes.

@@ -311,7 +311,7 @@ impl Write for CountingWriter {
     }
 }
 
-/// What is written before a write that fails is the front of the answers; nothing is after it.
+/// What is written before a write that fails is a prefix of the responses; nothing is written after it.
 #[test]
 fn each_write_fails(rt: HostRuntime) {
     let alloc = rt.alloc();

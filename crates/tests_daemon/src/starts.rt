@@ -1,4 +1,4 @@
-//! The order of a start, and where it stops.
+//! The order of the steps at startup, and where startup stops.
 use crate::clocks::Standing;
 use crate::places::{MemoryPlace, configuration, served};
 use oai_archive::{Aspect, Difference, Stop};
@@ -7,7 +7,7 @@ use std::alloc::Global;
 use std::panic::Expect;
 use std::process::Abort;
 
-/// The calls of a start with a journal, and of one without.
+/// The calls at startup with a journal, and without one.
 const FOUND: &str = "lock listen find open pages recovered announce ";
 
 const BEGUN: &str = "lock listen find begin begun keep open pages recovered announce ";

@@ -1,5 +1,5 @@
 //! Tests of one repository (`oai_repo`): what it answers requests and deposits, without the edge of the program, also in a store
-//! that is not its alone, that lies, or that finds no room; of a harvester's copy (`oai_copy`); of XML documents by their whole
+//! that is not its alone, that returns false reads, or that finds no room; of a harvester's copy (`oai_copy`); of XML documents by their whole
 //! bytes (`oai_answers`); and of what no row of `tests_rows` can call: places among items in order, and the laws of items and of
 //! configurations. It holds nothing else.
 #![tactic(auto)]

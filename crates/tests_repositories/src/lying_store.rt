@@ -1,4 +1,4 @@
-//! A repository over a store that lies, and says that there is nothing: each call returns, and one
+//! A repository over a faulty store that returns nothing: each call returns, and one
 //! that finds an item missing changes nothing.
 use crate::assertions::assert_same;
 use crate::outcomes::{archive, assert_outcomes, outcome, page_of};
@@ -15,7 +15,7 @@ use tests_stores::{HookedVersions, LyingHook, lying};
 /// More lies than are asked for.
 const ALWAYS: u64 = 1_000;
 
-/// Archive A over a store that lies after so many answers, so often.
+/// Archive A over a store that returns false reads after so many answers, so often.
 fn lying_archive(
     rt: &impl Abort,
     alloc: Global,
@@ -126,7 +126,7 @@ fn assert_each_returns<V: Versions + Drop>(rt: &impl Abort, alloc: Global, repo:
     }
 }
 
-/// The same over a store that lies after so many answers.
+/// The same over a store that returns false reads after so many answers.
 fn assert_returns(rt: &impl Abort, alloc: Global, truths: u64) {
     let mut repo = lying_archive(rt, alloc, truths, ALWAYS);
     assert_each_returns(rt, alloc, &mut repo);

@@ -1,4 +1,4 @@
-//! What a repository answers over a store that lies, or finds no room, in a word.
+//! What a repository answers over a store that returns false reads, or finds no room, in a word.
 use crate::assertions::assert_same_at;
 use crate::samples::{Asked, change_in};
 use oai_catalogue::Versions;

@@ -89,7 +89,7 @@ pub(crate) fn begun(rt: &impl Abort, alloc: Global, setting: Setting) -> Archive
     begun_on(rt, alloc, MemoryDevice::new(alloc), setting)
 }
 
-/// Performs all records again.
+/// Replays all log records.
 fn redo_all(
     rt: &impl Abort,
     alloc: Global,

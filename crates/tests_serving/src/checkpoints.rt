@@ -105,7 +105,7 @@ impl Progress for Quiet {
     fn note(&mut self, _position: usize, _len: usize, _records: u64) {}
 }
 
-/// Performs the journal again that is found after a crash, by the handler.
+/// The handler replays the journal that a crash left.
 fn recovered(
     rt: &impl Abort,
     alloc: Global,

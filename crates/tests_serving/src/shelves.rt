@@ -32,7 +32,7 @@ impl<'a> Shelf<'a> {
         self.raise
     }
 
-    /// What was restored and performed again: of a part a letter, its moment in eight bytes, its name, a space, and its bytes with an LF.
+    /// What was restored and replayed: of a part a letter, its moment in eight bytes, its name, a space, and its bytes with an LF.
     pub(crate) fn notes(&self) -> &[u8] {
         self.notes.as_slice()
     }
@@ -47,7 +47,7 @@ impl<'a> Shelf<'a> {
         Ok(())
     }
 
-    /// Notes what was restored or performed again.
+    /// Notes what was restored or replayed.
     fn note(&mut self, letter: &[u8], moment: i64, name: &[u8], bytes: &[u8]) -> Result<(), Fault> {
         self.put(letter)?;
         self.put(&moment.to_be_bytes())?;

@@ -1,5 +1,5 @@
 //! Stores over other stores, for tests of what stands on stores: one that fails a call, one that is refused memory, one without
-//! room, one that lies, and one that counts its calls. It holds no tests.
+//! room, one that returns false reads, and one that counts its calls. It holds no tests.
 #![tactic(auto)]
 
 mod countdown;

@@ -1,4 +1,4 @@
-//! A store that lies.
+//! A store that returns false reads.
 ghost use Rattle.std.specs.Prelude.{◌≡◌, ◌==◌, ◌-◌, ◌&&◌, if◌then◌else◌, not, false};
 
 use crate::hooked::{CallKind, Hook, HookedVersions};

@@ -233,7 +233,7 @@ fn assert_given(rt: &impl Abort, lists: &mut Lists) {
     assert_kept(rt, lists, 1, (4, None));
 }
 
-/// A mark is one list's, until another takes its place or it is let go.
+/// A mark is one list's, until another takes its place or the list is released.
 fn assert_marked(rt: &impl Abort, alloc: Global, lists: &mut Lists) {
     mark(rt, alloc, lists, 2, 4);
     assert_kept(rt, lists, 1, (4, None));

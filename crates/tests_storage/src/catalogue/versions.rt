@@ -270,7 +270,7 @@ fn exchange<V: Versions>(rt: &impl Abort, alloc: Global, store: &mut V, v: u64, 
     put(rt, alloc, store, v, w, 3);
 }
 
-/// The two lists have numbers of their own, and that of `w` stands once that of `v` is let go.
+/// The two lists have numbers of their own, and that of `w` stands once that of `v` is released.
 fn release<V: Versions>(rt: &impl Abort, store: &mut V, v: u64, w: u64)
     requires own { IsSome (V.lists store.old v) }
     requires other { IsSome (V.lists store.old w) }
@@ -281,7 +281,7 @@ fn release<V: Versions>(rt: &impl Abort, store: &mut V, v: u64, w: u64)
 }
 
 /// A list of two items is frozen and then changed: each version holds its own items, and the frozen
-/// one still does once the other is let go.
+/// one still does once the other is released.
 fn assert_frozen<V: Versions>(rt: &impl Abort, alloc: Global, store: &mut V, v: u64)
     requires { IsSome (V.lists store.old v) }
 {

@@ -1,4 +1,4 @@
-//! Devices in memory, one that fails and one that lies.
+//! Devices in memory, one that fails and one that returns false reads.
 use crate::assertions::{assert_same, assert_shown};
 use crate::devices::numbered_pages::page_of;
 use crate::devices::saturated::WornDevice;

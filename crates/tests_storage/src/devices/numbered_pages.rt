@@ -1,4 +1,4 @@
-//! Pages that are told apart by their numbers.
+//! Pages that differ in their numbers.
 use crate::assertions::assert_same;
 use oai_device::{PAGE_BYTES, Page};
 use std::process::Abort;

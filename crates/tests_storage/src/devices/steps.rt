@@ -73,7 +73,7 @@ pub(crate) fn assert_both<P: PagePool>(
     assert_named(rt, pool, second.0, second.1);
 }
 
-/// Names a page once more and once less.
+/// Increments and drops a page's reference count.
 pub(crate) fn share_and_drop<P: PagePool>(rt: &impl Abort, pool: &mut P, no: PageNo)
     requires { 0 < count_of (P.counts pool.old) no }
     ensures { StaysNamed (P.counts pool.old) (P.counts pool.new) }
@@ -82,7 +82,7 @@ pub(crate) fn share_and_drop<P: PagePool>(rt: &impl Abort, pool: &mut P, no: Pag
     pool.drop_ref(no);
 }
 
-/// Names a page once less; of the others each is named as before.
+/// Drops a page's reference count; the others' stay.
 pub(crate) fn drop_name<P: PagePool>(pool: &mut P, no: PageNo)
     requires { 0 < count_of (P.counts pool.old) no }
     ensures { (n : ℕ) → n ≢ no

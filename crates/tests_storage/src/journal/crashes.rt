@@ -55,7 +55,7 @@ fn half_read(rt: HostRuntime) {
     assert!(&rt; recovery.into_journal().is_none());
 }
 
-/// The last group of the example, torn a thousand times behind its closed gate: the record before it is found.
+/// The last group of the example, torn a thousand times behind its commit byte: the record before it is found.
 #[test]
 fn torn_group(rt: HostRuntime) {
     let disk = example(&rt, rt.alloc()).into_disk();

@@ -72,7 +72,7 @@ fn assert_changed(rt: &impl Abort, alloc: Global, at: usize, bits: u8) {
     assert!(rt; found == found_of_change(at));
 }
 
-/// What is found where that byte was changed. No change here makes an open gate of a closed one.
+/// What is found where that byte was changed. No change here opens a committed group.
 fn found_of_change(at: usize) -> Found {
     match at {
         0..=52 => Found::Damaged(0, 0),

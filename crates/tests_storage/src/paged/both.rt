@@ -113,7 +113,7 @@ impl<V: Versions + Drop + UsesPages> Both<V> {
         assert!(rt; self.used() <= own.saturating_add(other).saturating_mul(most));
     }
 
-    /// Both lists are let go, and no page is then used.
+    /// Both lists are released, and no page is then used.
     pub(crate) fn assert_released(&mut self, rt: &impl Abort) {
         self.call(rt, Call::Renew);
         self.call(rt, Call::Turn);

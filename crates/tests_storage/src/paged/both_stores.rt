@@ -72,7 +72,7 @@ fn frozen_and_changed<V: Versions + Drop>(
     lists
 }
 
-/// The second item is left, and the frozen list has both; it has them still where the first list is let go.
+/// The second item is left, and the frozen list has both; it still has them after the first list is released.
 fn assert_row<V: Versions + Drop>(
     rt: &impl Abort,
     alloc: Global,

@@ -39,9 +39,9 @@ pub(crate) enum Call {
     Part(Asked, usize, usize),
     /// Those of the items behind the key, at most so many of them.
     PartAfter(Asked, Sample, usize),
-    /// Lets the other list go, and freezes the one at hand in its place.
+    /// Releases the other list, and freezes the current one in its place.
     Freeze,
-    /// Lets the list at hand go, and begins an empty one in its place.
+    /// Releases the current list, and begins an empty one in its place.
     Renew,
     /// The other list is at hand from now on.
     Turn,

@@ -125,7 +125,7 @@ fn assert_replacement(rt: &impl Abort, both: &mut Both<CountedVersions>) {
     assert_cost(rt, both, Call::Replace(large(202), large(203)), 2, 4);
 }
 
-/// Lists that are frozen or let go read and write nothing.
+/// To freeze or release a list reads and writes nothing.
 fn assert_frozen_lists(rt: &impl Abort, both: &mut Both<CountedVersions>) {
     assert_cost(rt, both, Call::Freeze, 0, 0);
     assert_cost(rt, both, Call::Renew, 0, 0);

@@ -1,4 +1,4 @@
-//! How many pages are used while each of many items is changed once, in an order by chance.
+//! How many pages are used while each of many items is changed once, in random order.
 use crate::paged::both::paged;
 use crate::paged::calls::{Call, answer};
 use crate::paged::random::Random;
@@ -17,7 +17,7 @@ const ITEMS: u32 = 1_000;
 /// How many bytes each has.
 const BYTES: usize = 600;
 
-/// The numbers of the items, in an order by chance.
+/// The numbers of the items, in random order.
 fn shuffled(rt: &impl Abort, alloc: Global) -> Vec<u32> {
     let mut random = Random::new(20_000);
     let mut numbers = Vec::new(alloc);

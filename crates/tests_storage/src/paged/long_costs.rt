@@ -76,7 +76,7 @@ fn assert_put(rt: &impl Abort, both: &mut Both<CountedVersions>) {
     assert_cost(rt, both, Call::Remove(small(42)), 0, 0);
 }
 
-/// Lists that are frozen or let go read and write nothing. An item of overflow pages that is taken out is not read; the small ones before and behind it
+/// To freeze or release a list reads and writes nothing. An item of overflow pages that is taken out is not read; the small ones before and behind it
 /// then go on one page.
 fn assert_nothing(rt: &impl Abort, both: &mut Both<CountedVersions>) {
     assert_cost(rt, both, Call::Freeze, 0, 0);

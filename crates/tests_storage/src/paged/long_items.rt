@@ -89,7 +89,7 @@ fn long(number: u32) -> Sample {
     sized(number, number, 40_000)
 }
 
-/// Two lists share an item; it gets another state in the one, which is then let go, and the other one has it still.
+/// Two lists share an item; it gets another state in the one, which is then released, and the other one still has it.
 fn assert_shared_and_changed<V: Versions + Drop + UsesPages>(rt: &impl Abort, both: &mut Both<V>) {
     assert_used(rt, both, Call::Put(long(1)), 4);
     assert_used(rt, both, Call::Freeze, 4);

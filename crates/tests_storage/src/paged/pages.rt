@@ -18,7 +18,7 @@ pub(crate) fn assert_used<V: Versions + Drop + UsesPages>(
     assert_same(rt, both.used(), used);
 }
 
-/// A frozen list names the page of the list, a changed one has a page of its own, and a list that is let go has none.
+/// A frozen list shares the list's page, a changed one has a page of its own, and a released list has none.
 fn assert_frozen_list<V: Versions + Drop + UsesPages>(rt: &impl Abort, both: &mut Both<V>) {
     assert_used(rt, both, Call::Put(tiny(1, 0)), 1);
     assert_used(rt, both, Call::Freeze, 1);

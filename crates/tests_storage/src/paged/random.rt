@@ -60,7 +60,7 @@ impl Random {
         }
     }
 
-    /// About the last byte that stands whole on a page of entries, or on an overflow page; or of some more pages.
+    /// About the last byte that fits on a leaf page, or on an overflow page; or on some more pages.
     fn long_size(&mut self) -> usize {
         match self.number() % 4 {
             0 => 15_999 + self.number() as usize % 4,

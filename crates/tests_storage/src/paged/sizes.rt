@@ -33,7 +33,7 @@ fn put_small<V: Versions + Drop + UsesPages>(rt: &impl Abort, both: &mut Both<V>
     }
 }
 
-/// Puts an item of so many bytes into a frozen list of small ones, and then lets that list go.
+/// Puts an item of so many bytes into a frozen list of small ones, and then releases that list.
 fn put_among<V: Versions + Drop + UsesPages>(
     rt: &impl Abort,
     both: &mut Both<V>,

@@ -37,7 +37,7 @@ impl<V: Versions + Drop> TwoLists<V> {
         mem::swap(&mut self.own, &mut self.other);
     }
 
-    /// The other list is let go, and what the one at hand holds now stands in its place.
+    /// The other list is released, and the current one takes its place.
     pub(crate) fn freeze(&mut self, rt: &impl Abort) -> Result<(), Fault> {
         match self.store.freeze(self.own) {
             Ok(frozen) => {
@@ -50,7 +50,7 @@ impl<V: Versions + Drop> TwoLists<V> {
         }
     }
 
-    /// The list at hand is let go, and an empty one stands in its place.
+    /// The current list is released, and an empty one takes its place.
     pub(crate) fn renew(&mut self, rt: &impl Abort) -> Result<(), Fault> {
         match self.store.fresh() {
             Ok(fresh) => {
