@@ -49,7 +49,7 @@ elements_cut e f x y a b same =
 
 -- ---- a document that is a spelled tree
 
-plain_misc : (steps : ℕ) (bytes : List ℕ) → past_spaces bytes ≡ bytes → begins (codes "<!") bytes ≡ false → begins (codes "<?") bytes ≡ false → misc_in (suc steps) bytes ≡ Ok bytes
+pub plain_misc : (steps : ℕ) (bytes : List ℕ) → past_spaces bytes ≡ bytes → begins (codes "<!") bytes ≡ false → begins (codes "<?") bytes ≡ false → misc_in (suc steps) bytes ≡ Ok bytes
 unfolding misc_in
 plain_misc steps bytes same none other =
     cond-false (begins (codes "<!") (past_spaces bytes)) _ _ (ap (begins (codes "<!")) same ∙ none)
@@ -59,12 +59,12 @@ nothing_left : (misc_in 1 [] ≡ Ok []) × (past (codes "<") [] ≡ past (codes 
 unfolding misc_in past_spaces begins
 nothing_left = (refl, refl)
 
-marked : (x : ℕ) (others : List ℕ) → eqb x 33 ≡ false → eqb x 63 ≡ false
+pub marked : (x : ℕ) (others : List ℕ) → eqb x 33 ≡ false → eqb x 63 ≡ false
     → (begins (codes "<!") (60 ∷ x ∷ others) ≡ false) × (begins (codes "<?") (60 ∷ x ∷ others) ≡ false) × (begins (codes "<?xml") (60 ∷ x ∷ others) ≡ false)
 unfolding begins
 marked x others first second = (ap (λ t. t && true) first, ap (λ t. t && true) second, ap (λ t. t && begins (codes "xml") others) second)
 
-past_tag : (rest : List ℕ) → (past (codes "<") (60 ∷ rest) ≡ Ok rest) × (past_spaces (60 ∷ rest) ≡ 60 ∷ rest)
+pub past_tag : (rest : List ℕ) → (past (codes "<") (60 ∷ rest) ≡ Ok rest) × (past_spaces (60 ∷ rest) ≡ 60 ∷ rest)
 unfolding past past_spaces
 past_tag rest = (refl, refl)
 
@@ -103,10 +103,10 @@ document_back t whole =
 
 -- ---- no CR in what is spelled
 
-abbrev no_cr : ℕ → Bool
+abbrev pub no_cr : ℕ → Bool
 no_cr b = not (eqb b 13)
 
-all_cat : (xs ys : List ℕ) → list_all no_cr xs ≡ true → list_all no_cr ys ≡ true → list_all no_cr (xs ++ ys) ≡ true
+pub all_cat : (xs ys : List ℕ) → list_all no_cr xs ≡ true → list_all no_cr ys ≡ true → list_all no_cr (xs ++ ys) ≡ true
 all_cat [] ys first second = second
 all_cat (x ∷ xs) ys first second = let parts = and_parts (no_cr x) (list_all no_cr xs) first in and_from (no_cr x) (list_all no_cr (xs ++ ys)) parts.0 (all_cat xs ys parts.1 second)
 
@@ -168,7 +168,7 @@ content_free (element n a i rest) levels scope is =
     (all_cat (spelled_content i) (end_tag n ++ spelled_content rest) (content_free i (levels - 1) (within scope a) parts.2)
     (all_cat (end_tag n) (spelled_content rest) (end_free n w.named) (content_free rest levels scope parts.3)))
 
-tree_free : (t : Tree) → is_whole t ≡ true → list_all no_cr (spelled t) ≡ true
+pub tree_free : (t : Tree) → is_whole t ≡ true → list_all no_cr (spelled t) ≡ true
 tree_free t whole =
     let parts = tree_parts MAX_DEPTH [] t whole in
     let w = tag_parts [] t.name t.attributes parts.1 in
@@ -176,7 +176,7 @@ tree_free t whole =
     ∙ all_cat (start_tag t.name t.attributes) (spelled_content t.content ++ end_tag t.name) (start_free [] t.name t.attributes w)
     (all_cat (spelled_content t.content) (end_tag t.name) (content_free t.content (MAX_DEPTH - 1) (within [] t.attributes) parts.2) (end_free t.name w.named))
 
-lines_same : (bytes : List ℕ) → list_all no_cr bytes ≡ true → lines false bytes ≡ bytes
+pub lines_same : (bytes : List ℕ) → list_all no_cr bytes ≡ true → lines false bytes ≡ bytes
 unfolding lines
 lines_same [] free = refl
 lines_same (b ∷ bytes) free =
@@ -185,12 +185,12 @@ lines_same (b ∷ bytes) free =
 
 -- ---- an element is read as itself
 
-accepted_so : (text : List ℕ) (t : Tree) → eqb (legal_len (chars text)) (length text) ≡ true → is_spelled_text t ≡ true → accepted text t ≡ Ok t
+pub accepted_so : (text : List ℕ) (t : Tree) → eqb (legal_len (chars text)) (length text) ≡ true → is_spelled_text t ≡ true → accepted text t ≡ Ok t
 unfolding accepted
 accepted_so text t whole spelled_so =
     cond-true (eqb (legal_len (chars text)) (length text) && is_spelled_text t) _ _ (and_from (eqb (legal_len (chars text)) (length text)) (is_spelled_text t) whole spelled_so)
 
-read_so : (text : List ℕ) (t : Tree) → document_in (normalized (legal_front text)) ≡ Ok t → accepted text t ≡ Ok t → element_of text ≡ Ok t
+pub read_so : (text : List ℕ) (t : Tree) → document_in (normalized (legal_front text)) ≡ Ok t → accepted text t ≡ Ok t → element_of text ≡ Ok t
 unfolding element_of
 read_so text t is taken = ap (λ r. placed (legal_front text) r >>= λ tree. accepted text tree) is ∙ taken
 
@@ -204,7 +204,7 @@ element_read_back bytes t s =
     read_so bytes t (ap (λ w. document_in (normalized w)) front ∙ ap document_in (same ∙ s.bytes_are) ∙ document_back t s.whole)
     (accepted_so bytes t (eq-eqb (legal_len (chars bytes)) (length bytes) len) (and_from (is_utf8 (spelled t)) (is_xml_text (spelled t)) utf8 characters))
 
-canonical_of : (text : List ℕ) (t : Tree) → element_of text ≡ Ok t → canonical text ≡ Ok (spelled t)
+pub canonical_of : (text : List ℕ) (t : Tree) → element_of text ≡ Ok t → canonical text ≡ Ok (spelled t)
 unfolding canonical
 canonical_of text t is = ap (λ r. r >>= λ tree. Ok (spelled tree)) is
 

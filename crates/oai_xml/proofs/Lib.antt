@@ -18,3 +18,4 @@ pub mod CanonicalLemmas
 pub mod LegalLemmas
 pub mod DocumentLemmas
 pub mod RootLemmas
+pub mod LegalSpellings

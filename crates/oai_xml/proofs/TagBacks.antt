@@ -86,7 +86,7 @@ spaces_len (x ∷ rest) = by_test (is_space x) (past_spaces rest) (spaces_len re
     by_test true passed others = omega (arith, others)
     by_test false passed others = omega arith
 
-space_read : (rest : List ℕ) → past_space (32 ∷ rest) ≡ Ok (past_spaces (32 ∷ rest))
+pub space_read : (rest : List ℕ) → past_space (32 ∷ rest) ≡ Ok (past_spaces (32 ∷ rest))
 unfolding past_space
 space_read rest =
     cond-false (eqb (length (past_spaces (32 ∷ rest))) (length (32 ∷ rest))) _ _

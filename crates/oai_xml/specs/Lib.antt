@@ -11,3 +11,4 @@ pub mod Answers
 pub mod Ascii
 pub mod Reads
 pub mod Roots
+pub mod LegalTexts

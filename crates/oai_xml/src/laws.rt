@@ -1,5 +1,6 @@
 ghost use Rattle.std.specs.Prelude.{◌≡◌, ◌++◌, ℕ, List, true, Ok, Err, Some};
 ghost use Rattle.oai_xml.specs.Documents.{canonical, tree_in};
+ghost use Rattle.oai_xml.specs.LegalTexts.{is_legal_text, is_legal_tree};
 ghost use Rattle.oai_xml.specs.Trees.{Tree, spelled};
 ghost use Rattle.oai_xml.specs.Whole.{IsElement, Spells, is_whole};
 
@@ -21,4 +22,10 @@ pub fn canonical_law()
         → (t : Tree) × (tree_in text ≡ Some t) × Spells e t × (tree_in e ≡ Some t) }
     ensures again { (e : List ℕ) → IsElement e → canonical e ≡ Ok e }
     ensures faulty { (text : List ℕ) (offset : ℕ) → canonical text ≡ Err offset → ¬ (IsElement text) }
+{}
+
+/// A tree whose names, values and texts are UTF-8 of characters that XML allows is spelled in such a text. A theorem, proved by
+/// an empty function.
+pub fn legal_law()
+    ensures { (t : Tree) → is_legal_tree t ≡ true → is_legal_text (spelled t) ≡ true }
 {}

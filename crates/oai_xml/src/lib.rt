@@ -26,6 +26,6 @@ mod values;
 
 pub use element_texts::ElementText;
 pub use faults::{XmlCause, XmlFault};
-pub use laws::{canonical_law, spelling_law};
+pub use laws::{canonical_law, legal_law, spelling_law};
 pub use limits::{MAX_ATTRIBUTES, MAX_DECLARATIONS, MAX_DEPTH, limit_law};
 pub use roots::Root;

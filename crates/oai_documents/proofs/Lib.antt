@@ -1,0 +1,11 @@
+pub mod Written
+pub mod Unescaped
+pub mod Parts
+pub mod Records
+pub mod Names
+pub mod Tags
+pub mod Scopes
+pub mod Arguments
+pub mod WholeTrees
+pub mod SchemaLemmas
+pub mod ReadBack

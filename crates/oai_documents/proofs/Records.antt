@@ -1,0 +1,210 @@
+-- Records, lists, tokens and documents are the spellings of their trees.
+use Rattle.std.proofs.Common.{◌≡◌, ◌∙◌, ℕ, ℤ, Bool, true, false, cond, List, [], ◌∷◌, ◌++◌, map, codes, refl, sym, ap, append_assoc, append-nil}
+use Rattle.std.specs.Fmt.{decimal}
+use Rattle.std.specs.List.{flat_map}
+use Rattle.std.specs.Str.{bytes_eq}
+use Rattle.std.proofs.lemmas.Grind.{flat_map-append}
+use Rattle.oai_names.specs.Escapes.{attribute_spelling, escaped, escaped_attribute, escaped_text}
+use Rattle.oai_time.specs.TimeTexts.{datestamp_text, second_text}
+use Rattle.oai_time.specs.declared.granularity.Granularity.{Granularity}
+use Rattle.oai_item.specs.Item.{ItemState, fields_in}
+use Rattle.oai_item.specs.declared.fields.Field.{Field}
+use Rattle.oai_item.specs.declared.formats.Format.{Format}
+use Rattle.oai_xml.specs.Trees.{Attribute, Tree, spelled, spelled_attribute, start_tag}
+use Rattle.oai_answers.specs.Answers.{Answer, Continuation, Document, Page, completes, fails, gives_record, identifies, lists_formats, lists_headers, lists_records, lists_sets, remains, whole}
+use Rattle.oai_answers.specs.Documents.{answer_element, declared_metadata, declared_start, document, dublin_core_metadata, dublin_core_start, extent_attributes, field_element, get_record_element, head, header_element, header_start, identifiers_element, metadata, metadata_part, record_element, records_element, request_element, schema_location, token_element}
+use Rattle.oai_answers.specs.Markup.{attribute as text_attribute, element, end_tag, plain, spelled_attribute as marked_attribute, text_element}
+use Rattle.oai_answers.specs.declared.tokens.Extent.{Extent}
+use Rattle.oai_documents.specs.Elements.{attribute, bare_leaf, bare_parent, leaf, parent}
+use Rattle.oai_documents.specs.DocumentTrees.{answer_tree, declared_attributes, declared_tree, document_tree, dublin_core_attributes, dublin_core_tree, extent, field_tree, header_tree, headers_tree, instance_namespace, line_end, metadata_parts, metadata_tree, record_tree, records_tree, request_tree, root_attributes, status, token_trees, xml_declaration}
+use Rattle.oai_documents.proofs.Parts.{error_written, formats_written, identify_written, request_written, sets_written}
+use Rattle.oai_documents.proofs.Unescaped.{datestamp_free, decimal_free, free_text, free_value, second_free}
+use Rattle.oai_documents.proofs.Written.{attribute_as, attribute_written, bare_leaf_written, bare_parent_written, each_written, leaf_written, one_attribute, only, parent_written, plain_leaf_written, start_written, then_attributes, then_more, then_one}
+
+-- ---- metadata
+
+field_written : (qualifier : List ℕ) (field : Field) → field_element qualifier field ≡ spelled (field_tree qualifier field)
+unfolding field_element field_tree
+field_written qualifier field = bare_leaf_written (qualifier ++ field.name) field.text
+
+dublin_core_begun : dublin_core_start ≡ start_tag (codes "oai_dc:dc") dublin_core_attributes
+unfolding dublin_core_start dublin_core_attributes instance_namespace start_tag spelled_attribute escaped
+dublin_core_begun = refl
+
+dublin_core_written : (fields : List Field) → dublin_core_metadata fields ≡ spelled (dublin_core_tree fields)
+unfolding dublin_core_metadata dublin_core_tree
+dublin_core_written fields =
+    parent_written dublin_core_start _ (codes "oai_dc:dc") dublin_core_attributes (map (field_tree (codes "dc:")) fields) dublin_core_begun
+    (each_written (field_element (codes "dc:")) (field_tree (codes "dc:")) (field_written (codes "dc:")) fields)
+
+location_same : (namespace schema : List ℕ) → escaped_attribute namespace ++ codes " " ++ escaped_attribute schema ≡ escaped_attribute (namespace ++ codes " " ++ schema)
+unfolding escaped
+location_same namespace schema =
+    sym (flat_map-append attribute_spelling (namespace ++ codes " ") schema ∙ ap (λ (w : List ℕ). w ++ flat_map attribute_spelling schema) (flat_map-append attribute_spelling namespace (codes " ")))
+
+-- three attributes behind a name
+start_shape : (name a b c end : List ℕ) → name ++ a ++ b ++ c ++ end ≡ name ++ (a ++ b ++ c) ++ end
+start_shape name a b c end = simp append_assoc refl
+
+declared_begun : (format : Format) → declared_start format ≡ start_tag format.root (declared_attributes format)
+unfolding declared_start declared_attributes schema_location instance_namespace plain
+declared_begun format =
+    let own : List ℕ = text_attribute (codes "xmlns") format.namespace in
+    let xsi : List ℕ = text_attribute (codes "xmlns:xsi") (codes "http://www.w3.org/2001/XMLSchema-instance") in
+    let location : List ℕ = marked_attribute (codes "xsi:schemaLocation") (escaped_attribute format.namespace ++ codes " " ++ escaped_attribute format.schema) in
+    let first : Attribute = attribute (codes "xmlns") format.namespace in
+    let second : Attribute = attribute (codes "xmlns:xsi") (codes "http://www.w3.org/2001/XMLSchema-instance") in
+    let third : Attribute = attribute (codes "xsi:schemaLocation") (format.namespace ++ codes " " ++ format.schema) in
+    let one = one_attribute own first (attribute_written (codes "xmlns") format.namespace) in
+    let two = then_attributes own xsi (first ∷ []) (second ∷ []) one
+    (one_attribute xsi second (attribute_written (codes "xmlns:xsi") (codes "http://www.w3.org/2001/XMLSchema-instance"))) in
+    let three = then_attributes (own ++ xsi) location (first ∷ second ∷ []) (third ∷ []) two
+    (one_attribute location third (attribute_as (codes "xsi:schemaLocation") (format.namespace ++ codes " " ++ format.schema) _ (location_same format.namespace format.schema))) in
+    start_shape (60 ∷ format.root) own xsi location (codes ">") ∙ start_written format.root (own ++ xsi ++ location) (first ∷ second ∷ third ∷ []) three
+
+declared_written : (format : Format) (fields : List Field) → declared_metadata format fields ≡ spelled (declared_tree format fields)
+unfolding declared_metadata declared_tree
+declared_written format fields =
+    parent_written (declared_start format) _ format.root (declared_attributes format) (map (field_tree []) fields) (declared_begun format)
+    (each_written (field_element []) (field_tree []) (field_written []) fields)
+
+metadata_written : (format : Format) (fields : List Field) → metadata format fields ≡ spelled (metadata_tree format fields)
+unfolding metadata metadata_tree
+metadata_written format fields = by_test (bytes_eq format.prefix (codes "oai_dc"))
+  where
+    by_test : (b : Bool) → cond b (dublin_core_metadata fields) (declared_metadata format fields) ≡ spelled (cond b (dublin_core_tree fields) (declared_tree format fields))
+    by_test true = dublin_core_written fields
+    by_test false = declared_written format fields
+
+-- ---- headers and records
+
+header_begun : (live : Bool) → header_start live ≡ start_tag (codes "header") (status live)
+unfolding start_tag spelled_attribute escaped plain
+header_begun true = refl
+header_begun false = refl
+
+header_shape : (start a b c end : List ℕ) → start ++ a ++ b ++ c ++ end ≡ start ++ (a ++ b ++ c) ++ end
+header_shape start a b c end = simp append_assoc refl
+
+header_written : (granularity : Granularity) (item : ItemState) → header_element granularity item ≡ spelled (header_tree granularity item)
+unfolding header_element header_tree
+header_written granularity item =
+    let identifier : Tree = bare_leaf (codes "identifier") item.identifier in
+    let datestamp : Tree = bare_leaf (codes "datestamp") (datestamp_text granularity item.stamp) in
+    let sets : List Tree = map (bare_leaf (codes "setSpec")) item.sets in
+    let one = only _ identifier (bare_leaf_written (codes "identifier") item.identifier) in
+    let two = then_one _ _ (identifier ∷ []) datestamp one (plain_leaf_written (codes "datestamp") (datestamp_text granularity item.stamp) (free_text _ (datestamp_free granularity item.stamp))) in
+    let three = then_more _ _ (identifier ∷ datestamp ∷ []) sets two (each_written (text_element (codes "setSpec")) (bare_leaf (codes "setSpec")) (bare_leaf_written (codes "setSpec")) item.sets) in
+    header_shape (header_start item.live) (text_element (codes "identifier") item.identifier) (element (codes "datestamp") (datestamp_text granularity item.stamp))
+    (flat_map (text_element (codes "setSpec")) item.sets) (end_tag (codes "header"))
+    ∙ parent_written (header_start item.live) _ (codes "header") (status item.live) (identifier ∷ datestamp ∷ sets) (header_begun item.live) three
+
+part_written : (format : Format) (item : ItemState) → metadata_part format item ≡ flat_map spelled (metadata_parts format item)
+unfolding metadata_part metadata_parts
+part_written format item = by_test item.live
+  where
+    fields : List Field
+    fields = fields_in format.prefix item.formats
+
+    by_test : (b : Bool) → cond b (element (codes "metadata") (metadata format fields)) [] ≡ flat_map spelled (cond b (bare_parent (codes "metadata") (metadata_tree format fields ∷ []) ∷ []) [])
+    by_test true = only _ (bare_parent (codes "metadata") (metadata_tree format fields ∷ []))
+        (bare_parent_written (codes "metadata") (metadata format fields) (metadata_tree format fields ∷ []) (only _ (metadata_tree format fields) (metadata_written format fields)))
+    by_test false = refl
+
+record_written : (granularity : Granularity) (format : Format) (item : ItemState) → record_element granularity format item ≡ spelled (record_tree granularity format item)
+unfolding record_element record_tree
+record_written granularity format item =
+    let header = only _ (header_tree granularity item) (header_written granularity item) in
+    bare_parent_written (codes "record") _ (header_tree granularity item ∷ metadata_parts format item)
+    (then_more _ _ (header_tree granularity item ∷ []) (metadata_parts format item) header (part_written format item))
+
+-- ---- tokens
+
+extent_written : (e : Extent) → extent_attributes e ≡ flat_map spelled_attribute (extent e)
+unfolding extent_attributes extent
+extent_written e =
+    let size : Attribute = attribute (codes "completeListSize") (decimal e.size) in
+    let cursor : Attribute = attribute (codes "cursor") (decimal e.cursor) in
+    then_attributes _ _ (size ∷ []) (cursor ∷ [])
+    (one_attribute _ size (attribute_as (codes "completeListSize") (decimal e.size) (decimal e.size) (sym (free_value (decimal e.size) (decimal_free e.size)))))
+    (one_attribute _ cursor (attribute_as (codes "cursor") (decimal e.cursor) (decimal e.cursor) (sym (free_value (decimal e.cursor) (decimal_free e.cursor)))))
+
+no_text : [] ≡ escaped_text []
+unfolding escaped
+no_text = refl
+
+token_written : (c : Continuation) → token_element c ≡ flat_map spelled (token_trees c)
+unfolding token_element token_trees plain
+token_written whole = refl
+token_written (remains expires part token) =
+    let it : Attribute = attribute (codes "expirationDate") (second_text expires) in
+    let expires_text : List ℕ = marked_attribute (codes "expirationDate") (second_text expires) in
+    let one = one_attribute expires_text it (attribute_as (codes "expirationDate") (second_text expires) (second_text expires) (sym (free_value (second_text expires) (second_free expires)))) in
+    let both = then_attributes expires_text (extent_attributes part) (it ∷ []) (extent part) one (extent_written part) in
+    let begun = start_written (codes "resumptionToken") (expires_text ++ extent_attributes part) (it ∷ extent part) both in
+    let shape : codes "<resumptionToken" ++ expires_text ++ extent_attributes part ++ codes ">" ≡ codes "<resumptionToken" ++ (expires_text ++ extent_attributes part) ++ codes ">"
+    = ap (λ (w : List ℕ). w ++ codes ">") (append_assoc (codes "<resumptionToken") expires_text (extent_attributes part)) in
+    only _ (leaf (codes "resumptionToken") (it ∷ extent part) token) (leaf_written _ token (codes "resumptionToken") (it ∷ extent part) (shape ∙ begun))
+token_written (completes part) =
+    let begun = start_written (codes "resumptionToken") (extent_attributes part) (extent part) (extent_written part) in
+    let start : List ℕ = codes "<resumptionToken" ++ extent_attributes part ++ codes ">" in
+    only _ (leaf (codes "resumptionToken") (extent part) [])
+    (ap (λ (w : List ℕ). w ++ end_tag (codes "resumptionToken")) (sym (append-nil start) ∙ ap (λ (w : List ℕ). start ++ w) no_text)
+    ∙ leaf_written start [] (codes "resumptionToken") (extent part) begun)
+
+-- ---- lists
+
+headers_written : (page : Page) → identifiers_element page ≡ spelled (headers_tree page)
+unfolding identifiers_element headers_tree
+headers_written page =
+    let headers : List Tree = map (header_tree page.granularity) page.items in
+    bare_parent_written (codes "ListIdentifiers") _ (headers ++ token_trees page.continuation)
+    (then_more _ _ headers (token_trees page.continuation) (each_written (header_element page.granularity) (header_tree page.granularity) (header_written page.granularity) page.items) (token_written page.continuation))
+
+records_written : (format : Format) (page : Page) → records_element format page ≡ spelled (records_tree format page)
+unfolding records_element records_tree
+records_written format page =
+    let records : List Tree = map (record_tree page.granularity format) page.items in
+    bare_parent_written (codes "ListRecords") _ (records ++ token_trees page.continuation)
+    (then_more _ _ records (token_trees page.continuation)
+    (each_written (record_element page.granularity format) (record_tree page.granularity format) (record_written page.granularity format) page.items) (token_written page.continuation))
+
+-- ---- the document
+
+answer_written : (base : List ℕ) (answer : Answer) → answer_element base answer ≡ spelled (answer_tree base answer)
+unfolding answer_tree get_record_element
+answer_written base (fails code) = error_written code
+answer_written base (identifies d) = identify_written base d
+answer_written base (lists_formats formats) = formats_written formats
+answer_written base (lists_sets sets) = sets_written sets
+answer_written base (gives_record d) =
+    bare_parent_written (codes "GetRecord") _ (record_tree d.granularity d.format d.item ∷ []) (only _ (record_tree d.granularity d.format d.item) (record_written d.granularity d.format d.item))
+answer_written base (lists_headers page) = headers_written page
+answer_written base (lists_records format page) = records_written format page
+
+head_is : head ≡ xml_declaration ++ start_tag (codes "OAI-PMH") root_attributes
+unfolding head xml_declaration root_attributes instance_namespace start_tag spelled_attribute escaped
+head_is = refl
+
+tail_is : plain (codes "</OAI-PMH>\n") ≡ end_tag (codes "OAI-PMH") ++ line_end
+unfolding end_tag plain line_end
+tail_is = refl
+
+document_shape : (front start a b c end behind : List ℕ) → front ++ start ++ a ++ b ++ c ++ (end ++ behind) ≡ front ++ (start ++ (a ++ b ++ c) ++ end ++ behind)
+document_shape front start a b c end behind = simp append_assoc refl
+
+pub document_written : (d : Document) → document d ≡ xml_declaration ++ (spelled (document_tree d) ++ line_end)
+unfolding document document_tree
+document_written d =
+    let date : Tree = bare_leaf (codes "responseDate") (second_text d.date) in
+    let dated : List ℕ = element (codes "responseDate") (second_text d.date) in
+    let start : List ℕ = start_tag (codes "OAI-PMH") root_attributes in
+    let end : List ℕ = end_tag (codes "OAI-PMH") in
+    let one = only dated date (plain_leaf_written (codes "responseDate") (second_text d.date) (free_text (second_text d.date) (second_free d.date))) in
+    let two = then_one dated (request_element d) (date ∷ []) (request_tree d) one (request_written d) in
+    let three = then_one (dated ++ request_element d) (answer_element d.base d.answer) (date ∷ request_tree d ∷ []) (answer_tree d.base d.answer) two (answer_written d.base d.answer) in
+    let filled = parent_written start (dated ++ request_element d ++ answer_element d.base d.answer) (codes "OAI-PMH") root_attributes (date ∷ request_tree d ∷ answer_tree d.base d.answer ∷ []) refl three in
+    ap (λ (w : List ℕ). w ++ dated ++ request_element d ++ answer_element d.base d.answer ++ plain (codes "</OAI-PMH>\n")) head_is
+    ∙ ap (λ (w : List ℕ). xml_declaration ++ start ++ dated ++ request_element d ++ answer_element d.base d.answer ++ w) tail_is
+    ∙ document_shape xml_declaration start dated (request_element d) (answer_element d.base d.answer) end line_end
+    ∙ ap (λ (w : List ℕ). xml_declaration ++ (w ++ line_end)) filled

@@ -1,0 +1,337 @@
+-- The tree of each document is as the schema asks.
+use Rattle.std.proofs.Common.{◌≡◌, ◌∙◌, inl, inr, ◌⊎◌, ℕ, Bool, true, false, ◌&&◌, ◌||◌, not, cond, List, [], ◌∷◌, ◌++◌, map, codes, Option, Some, refl, sym, ap, append-nil}
+use Rattle.std.specs.List.{list_all, list_any}
+use Rattle.std.specs.Option.{unwrap_or}
+use Rattle.std.specs.Str.{bytes_eq}
+use Rattle.std.proofs.lemmas.Bool.{and_parts, not-true, true≢false}
+use Rattle.oai_names.specs.Names.{is_among}
+use Rattle.oai_time.specs.TimeTexts.{datestamp_text, second_text}
+use Rattle.oai_time.specs.declared.granularity.Granularity.{Granularity}
+use Rattle.oai_time.specs.declared.granularity.Granularity.TheVariants.{Day, Second}
+use Rattle.oai_item.specs.Item.{ItemState, fields_in}
+use Rattle.oai_item.specs.Rules.{are_names, are_uris, has_fields, has_repeat, is_allowed, is_space, is_uri}
+use Rattle.oai_item.specs.ShortTexts.{is_short_text}
+use Rattle.oai_item.specs.declared.deleted_record.DeletedRecord.{DeletedRecord}
+use Rattle.oai_item.specs.declared.deleted_record.DeletedRecord.TheVariants.{No, Transient, Persistent}
+use Rattle.oai_item.specs.declared.fields.Field.{Field}
+use Rattle.oai_item.specs.declared.formats.Format.{Format}
+use Rattle.oai_xml.specs.Ascii.{is_ascii_ncname}
+use Rattle.oai_xml.specs.QNames.{local_of, prefix_of}
+use Rattle.oai_xml.specs.Roots.{named_so, root_of}
+use Rattle.oai_xml.specs.Trees.{Attribute, Tree}
+use Rattle.oai_xml.specs.Namespaces.{declared, is_declaring, namespace_of, xml_namespace, xmlns_namespace}
+use Rattle.oai_xml.specs.Whole.{names_of, within}
+use Rattle.oai_answers.specs.Answers.{Answer, Attributes, Continuation, Description, Document, Page, arguments_told, completes, fails, gives_record, identifies, lists_formats, lists_headers, lists_records, lists_sets, remains, whole}
+use Rattle.oai_answers.specs.Documents.{code_of, deleted_text, granularity_text, message_of}
+use Rattle.oai_answers.specs.Seen.{IsGoodFormat, IsRegular}
+use Rattle.oai_answers.specs.declared.errors.ErrorCode.{ErrorCode}
+use Rattle.oai_answers.specs.declared.errors.ErrorCode.TheVariants.{BadVerb, BadArgument, BadResumptionToken, CannotDisseminateFormat, IdDoesNotExist, NoRecordsMatch, NoMetadataFormats, NoSetHierarchy}
+use Rattle.oai_documents.specs.Elements.{attribute, bare_leaf, bare_parent}
+use Rattle.oai_documents.specs.DocumentTrees.{answer_tree, arguments, declared_attributes, declared_tree, document_tree, dublin_core_attributes, dublin_core_tree, error_tree, extent, format_tree, formats_tree, header_tree, headers_tree, identify_tree, instance_namespace, metadata_parts, metadata_tree, record_tree, records_tree, request_tree, root_attributes, set_tree, sets_tree, status, token_trees}
+use Rattle.oai_documents.specs.Schema.{Any, IsAnswered, IsContainer, IsError, IsForeign, IsFormat, IsFormats, IsGetRecord, IsHeader, IsHeaders, IsIdentify, IsOfSchema, IsOneOf, IsRecord, IsRecords, IsRequest, IsSet, IsSets, IsText, IsToken, One, Optional, Several, ◌⨾◌, any_text, error_codes, oai_namespace}
+use Rattle.oai_documents.specs.WellFormed.{HasMembers, HasNamespace, IsFilled, is_foreign}
+use Rattle.oai_documents.proofs.Arguments.{all_chosen, are_given, argument_names, names_given}
+use Rattle.oai_documents.proofs.Names.{no_prefix, rule_name}
+use Rattle.oai_documents.proofs.Scopes.{instance_scope}
+use Rattle.oai_documents.proofs.WholeTrees.{allowed_names, dublin_core_known}
+
+-- ---- particles
+
+-- one, and then others
+first_one : (is : Tree → Type 0) (next : List Tree → Type 0) (t : Tree) (trees : List Tree) → is t → next trees → (One is ⨾ next) (t ∷ trees)
+first_one is next t trees h others = (t ∷ [], trees, refl, (t, refl, h), others)
+
+any_of : {A : Type 0} (is : Tree → Type 0) (tree : A → Tree) → ((a : A) → is (tree a)) → (xs : List A) → Any is (map tree xs)
+any_of is tree each [] = tt
+any_of is tree each (x ∷ xs) = (each x, any_of is tree each xs)
+
+several_of : {A : Type 0} (is : Tree → Type 0) (tree : A → Tree) → ((a : A) → is (tree a)) → (xs : List A) → HasMembers xs → Several is (map tree xs)
+several_of is tree each [] none = absurd none
+several_of is tree each (x ∷ xs) some = (each x, any_of is tree each xs)
+
+is_text : (name text : List ℕ) → IsText name (bare_leaf name text)
+is_text name text = record { name_is = refl; attributes = refl; value = (text, refl, refl) }
+
+one_of : (name : List ℕ) (values : List (List ℕ)) (text : List ℕ) → is_among values text ≡ true → IsOneOf name values (bare_leaf name text)
+one_of name values text is = record { name_is = refl; attributes = refl; value = (text, refl, is) }
+
+-- ---- the request and errors
+
+known_arguments : list_all (is_among argument_names) argument_names ≡ true
+known_arguments = refl
+
+request_is : (d : Document) → IsRequest (request_tree d)
+unfolding request_tree
+request_is d =
+    let asked : Attributes = arguments_told d.answer d.asked in record {
+      name_is = refl;
+      attributes = ap (list_all (is_among argument_names)) (names_given asked) ∙ all_chosen (is_among argument_names) (are_given asked) argument_names known_arguments;
+      value = (d.base, refl, refl);
+    }
+
+code_known : (code : ErrorCode) → is_among error_codes (code_of code) ≡ true
+code_known BadVerb = refl
+code_known BadArgument = refl
+code_known BadResumptionToken = refl
+code_known CannotDisseminateFormat = refl
+code_known IdDoesNotExist = refl
+code_known NoRecordsMatch = refl
+code_known NoMetadataFormats = refl
+code_known NoSetHierarchy = refl
+
+error_is : (code : ErrorCode) → IsError (error_tree code)
+unfolding error_tree
+error_is code = record { simple = record { name_is = refl; attributes = refl; value = (message_of code, refl, refl) }; code = (code_of code, refl, code_known code) }
+
+-- ---- Identify, formats and sets
+
+deleted_known : (deleted : DeletedRecord) → is_among (codes "no" ∷ codes "persistent" ∷ codes "transient" ∷ []) (deleted_text deleted) ≡ true
+deleted_known No = refl
+deleted_known Transient = refl
+deleted_known Persistent = refl
+
+granularity_known : (granularity : Granularity) → is_among (codes "YYYY-MM-DD" ∷ codes "YYYY-MM-DDThh:mm:ssZ" ∷ []) (granularity_text granularity) ≡ true
+granularity_known Day = refl
+granularity_known Second = refl
+
+identify_is : (base : List ℕ) (d : Description) → HasMembers d.addresses → IsIdentify (identify_tree base d)
+unfolding identify_tree
+identify_is base d some =
+    let addresses : List Tree = map (bare_leaf (codes "adminEmail")) d.addresses in
+    let earliest : Tree = bare_leaf (codes "earliestDatestamp") (datestamp_text d.granularity d.earliest) in
+    let deleted : Tree = bare_leaf (codes "deletedRecord") (deleted_text d.deleted) in
+    let granularity : Tree = bare_leaf (codes "granularity") (granularity_text d.granularity) in
+    record {
+      name_is = refl;
+      attributes = refl;
+      children = (
+        _,
+        refl,
+        first_one _ _ _ _ (is_text (codes "repositoryName") d.name)
+            (first_one _ _ _ _ (is_text (codes "baseURL") base)
+            (first_one _ _ _ _ (one_of (codes "protocolVersion") (codes "2.0" ∷ []) (codes "2.0") refl) (
+              addresses,
+              earliest ∷ deleted ∷ granularity ∷ [],
+              refl,
+              several_of (IsText (codes "adminEmail")) (bare_leaf (codes "adminEmail")) (is_text (codes "adminEmail")) d.addresses some,
+              first_one _ _ _ _ (is_text (codes "earliestDatestamp") (datestamp_text d.granularity d.earliest))
+                  (first_one _ _ _ _ (one_of (codes "deletedRecord") (codes "no" ∷ codes "persistent" ∷ codes "transient" ∷ []) (deleted_text d.deleted) (deleted_known d.deleted))
+                  (first_one _ _ _ _ (one_of (codes "granularity") (codes "YYYY-MM-DD" ∷ codes "YYYY-MM-DDThh:mm:ssZ" ∷ []) (granularity_text d.granularity) (granularity_known d.granularity)) ([], [], refl, tt, tt))),
+            ))),
+      );
+    }
+
+format_is : (format : Format) → IsFormat (format_tree format)
+unfolding format_tree
+format_is format = record {
+  name_is = refl;
+  attributes = refl;
+  children = (
+    _,
+    refl,
+    first_one _ _ _ _ (is_text (codes "metadataPrefix") format.prefix)
+        (first_one _ _ _ _ (is_text (codes "schema") format.schema) (bare_leaf (codes "metadataNamespace") format.namespace, refl, is_text (codes "metadataNamespace") format.namespace)),
+  );
+}
+
+formats_are : (formats : List Format) → HasMembers formats → IsFormats (formats_tree formats)
+unfolding formats_tree
+formats_are formats some = record { name_is = refl; attributes = refl; children = (map format_tree formats, refl, several_of IsFormat format_tree format_is formats some) }
+
+set_is : (set : List ℕ × List ℕ) → IsSet (set_tree set)
+unfolding set_tree
+set_is set = record {
+  name_is = refl;
+  attributes = refl;
+  children = (_, refl, first_one _ _ _ _ (is_text (codes "setSpec") set.0) (first_one _ _ _ _ (is_text (codes "setName") set.1) tt));
+}
+
+sets_are : (sets : List (List ℕ × List ℕ)) → HasMembers sets → IsSets (sets_tree sets)
+unfolding sets_tree
+sets_are sets some = record {
+  name_is = refl;
+  attributes = refl;
+  children = (map set_tree sets, refl, (map set_tree sets, [], sym (append-nil (map set_tree sets)), several_of IsSet set_tree set_is sets some, inl refl));
+}
+
+-- ---- metadata
+
+dublin_core_foreign : (fields : List Field) → IsForeign (dublin_core_tree fields)
+unfolding dublin_core_tree named_so dublin_core_attributes instance_namespace declared is_declaring prefix_of local_of namespace_of xml_namespace xmlns_namespace oai_namespace
+dublin_core_foreign fields = refl
+
+-- the namespace of a name without a prefix is the default one
+default_found : (namespace : List ℕ) → namespace_of (instance_scope namespace) [] ≡ Some namespace
+unfolding namespace_of instance_namespace
+default_found namespace = refl
+
+declared_within : (format : Format) → within [] (declared_attributes format) ≡ instance_scope format.namespace
+unfolding declared_attributes declared is_declaring prefix_of local_of
+declared_within format = refl
+
+declared_root : (format : Format) (fields : List Field) → is_ascii_ncname format.root ≡ true → (root_of (declared_tree format fields)).namespace ≡ format.namespace
+unfolding declared_tree named_so
+declared_root format fields named =
+    ap (λ s. unwrap_or (namespace_of s (prefix_of format.root)) []) (declared_within format)
+    ∙ ap (λ p. unwrap_or (namespace_of (instance_scope format.namespace) p) []) (no_prefix format.root named)
+    ∙ ap (λ found. unwrap_or found []) (default_found format.namespace)
+
+-- a URI is not empty
+no_uri : is_uri [] ≡ false
+unfolding is_uri is_short_text
+no_uri = refl
+
+uri_some : (text : List ℕ) → is_uri text ≡ true → bytes_eq text [] ≡ false
+uri_some [] is = absurd (true≢false (sym is ∙ no_uri))
+uri_some (b ∷ text) is = refl
+
+allowed_namespace : (format : Format) → is_allowed format ≡ true → is_uri format.namespace ≡ true
+unfolding is_allowed
+allowed_namespace format h =
+    let repeats = and_parts (are_names format && are_uris format && has_fields format) (not (has_repeat format.fields)) h in
+    let fields = and_parts (are_names format && are_uris format) (has_fields format) repeats.0 in
+    let uris = and_parts (are_names format) (are_uris format) fields.0 in
+    (and_parts (is_uri format.schema) (is_uri format.namespace) uris.1).1
+
+neither : (a b : Bool) → a ≡ false → b ≡ false → (a || b) ≡ false
+neither true b first second = first
+neither false b first second = second
+
+declared_foreign : (format : Format) (fields : List Field) → is_allowed format ≡ true → bytes_eq format.namespace oai_namespace ≡ false → IsForeign (declared_tree format fields)
+declared_foreign format fields allowed other =
+    let space = declared_root format fields (rule_name format.root (allowed_names format allowed).0) in
+    ap (λ w. bytes_eq w oai_namespace || bytes_eq w []) space
+    ∙ neither (bytes_eq format.namespace oai_namespace) (bytes_eq format.namespace []) other (uri_some format.namespace (allowed_namespace format allowed))
+
+metadata_foreign : (format : Format) (fields : List Field) → IsGoodFormat format → bytes_eq format.namespace oai_namespace ≡ false → IsForeign (metadata_tree format fields)
+unfolding metadata_tree
+metadata_foreign format fields (inl same) other =
+    ap (λ b. is_own (cond b (dublin_core_tree fields) (declared_tree format fields))) (ap (λ (f : Format). bytes_eq f.prefix (codes "oai_dc")) same ∙ dublin_core_known)
+    ∙ dublin_core_foreign fields
+  where
+    is_own : Tree → Bool
+    is_own t = bytes_eq (root_of t).namespace oai_namespace || bytes_eq (root_of t).namespace []
+metadata_foreign format fields (inr allowed) other = by_test (bytes_eq format.prefix (codes "oai_dc"))
+  where
+    by_test : (b : Bool) → IsForeign (cond b (dublin_core_tree fields) (declared_tree format fields))
+    by_test true = dublin_core_foreign fields
+    by_test false = declared_foreign format fields allowed other
+
+-- ---- headers and records
+
+status_known : (live : Bool) → list_all (is_among (codes "status" ∷ [])) (names_of (status live)) ≡ true
+status_known true = refl
+status_known false = refl
+
+header_is : (granularity : Granularity) (item : ItemState) → IsHeader (header_tree granularity item)
+unfolding header_tree
+header_is granularity item = record {
+  name_is = refl;
+  attributes = status_known item.live;
+  children = (
+    _,
+    refl,
+    first_one _ _ _ _ (is_text (codes "identifier") item.identifier)
+        (first_one _ _ _ _ (is_text (codes "datestamp") (datestamp_text granularity item.stamp)) (any_of (IsText (codes "setSpec")) (bare_leaf (codes "setSpec")) (is_text (codes "setSpec")) item.sets)),
+  );
+}
+
+part_is : (format : Format) (item : ItemState) → IsGoodFormat format → bytes_eq format.namespace oai_namespace ≡ false
+    → (Optional (IsContainer (codes "metadata")) ⨾ Any (IsContainer (codes "about"))) (metadata_parts format item)
+unfolding metadata_parts
+part_is format item good other = by_test item.live
+  where
+    it : Tree
+    it = bare_parent (codes "metadata") (metadata_tree format (fields_in format.prefix item.formats) ∷ [])
+
+    contained : IsContainer (codes "metadata") it
+    contained = record {
+      name_is = refl;
+      attributes = refl;
+      children = (_, refl, (metadata_tree format (fields_in format.prefix item.formats), refl, metadata_foreign format (fields_in format.prefix item.formats) good other));
+    }
+
+    by_test : (b : Bool) → (Optional (IsContainer (codes "metadata")) ⨾ Any (IsContainer (codes "about"))) (cond b (it ∷ []) [])
+    by_test true = (it ∷ [], [], refl, inr (it, refl, contained), tt)
+    by_test false = ([], [], refl, inl refl, tt)
+
+record_is : (granularity : Granularity) (format : Format) (item : ItemState) → IsGoodFormat format → bytes_eq format.namespace oai_namespace ≡ false → IsRecord (record_tree granularity format item)
+unfolding record_tree
+record_is granularity format item good other = record {
+  name_is = refl;
+  attributes = refl;
+  children = (header_tree granularity item ∷ metadata_parts format item, refl, first_one _ _ _ _ (header_is granularity item) (part_is format item good other));
+}
+
+-- ---- lists
+
+token_is : (c : Continuation) → Optional IsToken (token_trees c)
+unfolding token_trees extent
+token_is whole = inl refl
+token_is (remains expires part token) = inr (_, refl, record { name_is = refl; attributes = refl; value = (token, refl, refl) })
+token_is (completes part) = inr (_, refl, record { name_is = refl; attributes = refl; value = ([], refl, refl) })
+
+headers_are : (page : Page) → HasMembers page.items → IsHeaders (headers_tree page)
+unfolding headers_tree
+headers_are page some =
+    let headers : List Tree = map (header_tree page.granularity) page.items in record {
+      name_is = refl;
+      attributes = refl;
+      children = (
+        headers ++ token_trees page.continuation,
+        refl,
+        (headers, token_trees page.continuation, refl, several_of IsHeader (header_tree page.granularity) (header_is page.granularity) page.items some, token_is page.continuation),
+      );
+    }
+
+records_are : (format : Format) (page : Page) → IsGoodFormat format → bytes_eq format.namespace oai_namespace ≡ false → HasMembers page.items → IsRecords (records_tree format page)
+unfolding records_tree
+records_are format page good other some =
+    let records : List Tree = map (record_tree page.granularity format) page.items in record {
+      name_is = refl;
+      attributes = refl;
+      children = (
+        records ++ token_trees page.continuation,
+        refl,
+        (
+          records,
+          token_trees page.continuation,
+          refl,
+          several_of IsRecord (record_tree page.granularity format) (λ item. record_is page.granularity format item good other) page.items some,
+          token_is page.continuation,
+        ),
+      );
+    }
+
+-- ---- documents
+
+answer_is : (base : List ℕ) (answer : Answer) → IsRegular answer → IsFilled answer → HasNamespace is_foreign answer → IsAnswered (answer_tree base answer ∷ [])
+unfolding answer_tree
+answer_is base (fails code) regular filled other = inl (error_is code, tt)
+answer_is base (identifies d) regular filled other = inr (inl (identify_tree base d, refl, identify_is base d filled))
+answer_is base (lists_formats formats) regular filled other = inr (inr (inl (formats_tree formats, refl, formats_are formats filled)))
+answer_is base (lists_sets sets) regular filled other = inr (inr (inr (inl (sets_tree sets, refl, sets_are sets filled))))
+answer_is base (gives_record d) regular filled other =
+    inr (inr (inr (inr (inl (
+      _,
+      refl,
+      record {
+        name_is = refl;
+        attributes = refl;
+        children = (_, refl, (record_tree d.granularity d.format d.item, refl, record_is d.granularity d.format d.item regular.0 (not-true (bytes_eq d.format.namespace oai_namespace) other)));
+      },
+    )))))
+answer_is base (lists_headers page) regular filled other = inr (inr (inr (inr (inr (inl (headers_tree page, refl, headers_are page filled))))))
+answer_is base (lists_records format page) regular filled other = inr (inr (inr (inr (inr (inr (records_tree format page, refl, records_are format page regular.0 (not-true (bytes_eq format.namespace oai_namespace) other) filled))))))
+
+pub document_is : (d : Document) → IsRegular d.answer → IsFilled d.answer → HasNamespace is_foreign d.answer → IsOfSchema (document_tree d)
+unfolding document_tree root_attributes
+document_is d regular filled other = record {
+  name_is = refl;
+  attributes = refl;
+  children = (
+    bare_leaf (codes "responseDate") (second_text d.date) ∷ request_tree d ∷ answer_tree d.base d.answer ∷ [],
+    refl,
+    first_one _ _ _ _ (is_text (codes "responseDate") (second_text d.date)) (first_one _ _ _ _ (request_is d) (answer_is d.base d.answer regular filled other)),
+  );
+}

@@ -1,0 +1,247 @@
+-- The tree of each document is whole.
+use Rattle.std.proofs.Common.{◌≡◌, ◌∙◌, ◌-◌, inl, inr, ℕ, ℤ, Bool, true, false, ◌&&◌, ◌||◌, not, eqb, cond, List, [], ◌∷◌, ◌++◌, map, codes, refl, sym, ap, subst}
+use Rattle.std.specs.List.{list_all}
+use Rattle.std.specs.Str.{bytes_eq}
+use Rattle.std.proofs.lemmas.Bool.{and_parts, not-true}
+use Rattle.std.proofs.lemmas.Slice.Eq.{bytes_eq-Decides}
+use Rattle.oai_names.specs.Names.{is_among}
+use Rattle.oai_names.proofs.Lists.{all-weaker}
+use Rattle.oai_time.specs.TimeTexts.{datestamp_text, second_text}
+use Rattle.oai_time.specs.declared.granularity.Granularity.{Granularity}
+use Rattle.oai_item.specs.Formats.{dublin_core}
+use Rattle.oai_item.specs.Item.{ItemState, fields_in}
+use Rattle.oai_item.specs.Rules.{are_names, are_uris, has_fields, has_repeat, is_allowed, is_name}
+use Rattle.oai_item.specs.declared.fields.Field.{Field}
+use Rattle.oai_item.specs.declared.formats.Format.{Format}
+use Rattle.oai_xml.specs.Ascii.{is_ascii_ncname}
+use Rattle.oai_xml.specs.QNames.{local_of, prefix_of}
+use Rattle.oai_xml.specs.Trees.{Attribute, Tree}
+use Rattle.oai_xml.specs.Namespaces.{Scope, are_alike, are_unlike, is_declaring}
+use Rattle.oai_xml.specs.Whole.{is_whole, is_whole_in, within}
+use Rattle.oai_xml.specs.declared.limits.TheConstants.{MAX_DEPTH}
+use Rattle.oai_answers.specs.Answers.{Answer, Continuation, Description, Document, Page, arguments_told, completes, fails, gives_record, identifies, lists_formats, lists_headers, lists_records, lists_sets, remains, whole}
+use Rattle.oai_answers.specs.Documents.{code_of, deleted_text, granularity_text, message_of}
+use Rattle.oai_answers.specs.Seen.{IsGoodFormat, IsRegular, has_own_fields}
+use Rattle.oai_answers.specs.declared.errors.ErrorCode.{ErrorCode}
+use Rattle.oai_answers.specs.declared.tokens.Extent.{Extent}
+use Rattle.oai_documents.specs.Elements.{attribute, bare_leaf, bare_parent, leaf}
+use Rattle.oai_documents.specs.DocumentTrees.{answer_tree, arguments, declared_attributes, declared_tree, document_tree, dublin_core_attributes, dublin_core_tree, error_tree, extent, field_tree, format_tree, formats_tree, header_tree, headers_tree, identify_tree, metadata_parts, metadata_tree, record_tree, records_tree, request_tree, root_attributes, set_tree, sets_tree, status, token_trees}
+use Rattle.oai_documents.specs.WellFormed.{HasNamespace, may_be_default}
+use Rattle.oai_documents.proofs.Names.{rule_name}
+use Rattle.oai_documents.proofs.Tags.{IsPlainTag, all_whole, and_others, bare_leaf_whole, bare_parent_whole, both, each_whole, leaf_by_tag, leaf_whole, parent_by_tag, parent_whole}
+use Rattle.oai_documents.proofs.Scopes.{declared_ready, declared_scope, declared_tag, dublin_core_scope, dublin_core_tag, field_tag, is_reserved, oai_ready, oai_scope, root_scope, root_tag}
+use Rattle.oai_documents.proofs.Arguments.{request_tag}
+
+-- ---- elements of OAI-PMH, at a level
+
+abbrev IsSome : ℕ → Type 0
+IsSome levels = not (eqb levels 0) ≡ true
+
+abbrev IsFine : ℕ → Tree → Type 0
+IsFine levels t = is_whole_in levels oai_scope t ≡ true
+
+fine_leaf : (levels : ℕ) (name text : List ℕ) → IsSome levels → is_ascii_ncname name ≡ true → IsFine levels (bare_leaf name text)
+fine_leaf levels name text some is = bare_leaf_whole levels oai_scope name text some oai_ready is
+
+fine_parent : (levels : ℕ) (name : List ℕ) (trees : List Tree) → IsSome levels → is_ascii_ncname name ≡ true → list_all (is_whole_in (levels - 1) oai_scope) trees ≡ true
+    → IsFine levels (bare_parent name trees)
+fine_parent levels name trees some is all = bare_parent_whole levels oai_scope name trees some oai_ready is all
+
+-- ---- the request, errors, Identify, formats and sets
+
+request_whole : (d : Document) → IsFine 127 (request_tree d)
+unfolding request_tree
+request_whole d = leaf_whole 127 oai_scope (codes "request") (arguments (arguments_told d.answer d.asked)) d.base refl oai_ready (request_tag (arguments_told d.answer d.asked))
+
+error_tag : (code : List ℕ) → IsPlainTag oai_scope (codes "error") (attribute (codes "code") code ∷ [])
+unfolding is_declaring prefix_of are_unlike
+error_tag code = record { named = refl; plain = refl; unlike = refl; few = refl }
+
+error_whole : (code : ErrorCode) → IsFine 127 (error_tree code)
+unfolding error_tree
+error_whole code = leaf_whole 127 oai_scope (codes "error") (attribute (codes "code") (code_of code) ∷ []) (message_of code) refl oai_ready (error_tag (code_of code))
+
+identify_whole : (base : List ℕ) (d : Description) → IsFine 127 (identify_tree base d)
+unfolding identify_tree
+identify_whole base d =
+    let addresses = all_whole 126 oai_scope (bare_leaf (codes "adminEmail")) (λ a. fine_leaf 126 (codes "adminEmail") a refl refl) d.addresses in
+    let last = both (fine_leaf 126 (codes "earliestDatestamp") (datestamp_text d.granularity d.earliest) refl refl)
+    (both (fine_leaf 126 (codes "deletedRecord") (deleted_text d.deleted) refl refl) (both (fine_leaf 126 (codes "granularity") (granularity_text d.granularity) refl refl) refl)) in
+    fine_parent 127 (codes "Identify") _ refl refl
+    (both (fine_leaf 126 (codes "repositoryName") d.name refl refl)
+    (both (fine_leaf 126 (codes "baseURL") base refl refl)
+    (both (fine_leaf 126 (codes "protocolVersion") (codes "2.0") refl refl) (and_others 126 oai_scope (map (bare_leaf (codes "adminEmail")) d.addresses) _ addresses last))))
+
+format_whole : (format : Format) → IsFine 126 (format_tree format)
+unfolding format_tree
+format_whole format =
+    fine_parent 126 (codes "metadataFormat") _ refl refl
+    (both (fine_leaf 125 (codes "metadataPrefix") format.prefix refl refl)
+    (both (fine_leaf 125 (codes "schema") format.schema refl refl) (both (fine_leaf 125 (codes "metadataNamespace") format.namespace refl refl) refl)))
+
+formats_whole : (formats : List Format) → IsFine 127 (formats_tree formats)
+unfolding formats_tree
+formats_whole formats = fine_parent 127 (codes "ListMetadataFormats") _ refl refl (all_whole 126 oai_scope format_tree format_whole formats)
+
+set_whole : (set : List ℕ × List ℕ) → IsFine 126 (set_tree set)
+unfolding set_tree
+set_whole set =
+    fine_parent 126 (codes "set") _ refl refl (both (fine_leaf 125 (codes "setSpec") set.0 refl refl) (both (fine_leaf 125 (codes "setName") set.1 refl refl) refl))
+
+sets_whole : (sets : List (List ℕ × List ℕ)) → IsFine 127 (sets_tree sets)
+unfolding sets_tree
+sets_whole sets = fine_parent 127 (codes "ListSets") _ refl refl (all_whole 126 oai_scope set_tree set_whole sets)
+
+-- ---- names of formats and fields
+
+of_these : (p : List ℕ → Bool) (names : List (List ℕ)) (name : List ℕ) → list_all p names ≡ true → is_among names name ≡ true → p name ≡ true
+of_these p [] name all there = cc
+of_these p (x ∷ names) name all there =
+    let parts = and_parts (p x) (list_all p names) all in
+    by_test (bytes_eq name x) ((bytes_eq-Decides name x).0) there (of_these p names name parts.1) parts.0
+  where
+    by_test : (b : Bool) → (b ≡ true → name ≡ x) → (b || is_among names name) ≡ true → (is_among names name ≡ true → p name ≡ true) → p x ≡ true → p name ≡ true
+    by_test true same h later first = ap p (same refl) ∙ first
+    by_test false same h later first = later h
+
+-- the names of the fields of a format are names of ASCII
+dublin_core_names : list_all is_ascii_ncname dublin_core.fields ≡ true
+unfolding dublin_core
+dublin_core_names = refl
+
+pub allowed_names : (format : Format) → is_allowed format ≡ true → (is_name format.root ≡ true) × (list_all is_name format.fields ≡ true)
+unfolding is_allowed
+allowed_names format h =
+    let repeats = and_parts (are_names format && are_uris format && has_fields format) (not (has_repeat format.fields)) h in
+    let fields = and_parts (are_names format && are_uris format) (has_fields format) repeats.0 in
+    let uris = and_parts (are_names format) (are_uris format) fields.0 in
+    and_parts (is_name format.root) (list_all is_name format.fields) uris.0
+
+field_names : (format : Format) → IsGoodFormat format → list_all is_ascii_ncname format.fields ≡ true
+field_names format (inl same) = ap (λ (f : Format). list_all is_ascii_ncname f.fields) same ∙ dublin_core_names
+field_names format (inr allowed) = all-weaker is_name is_ascii_ncname rule_name format.fields (allowed_names format allowed).1
+
+abbrev is_named_field : Field → Bool
+is_named_field field = is_ascii_ncname field.name
+
+fields_named : (format : Format) (fields : List Field) → IsGoodFormat format → list_all (λ (field : Field). is_among format.fields field.name) fields ≡ true → list_all is_named_field fields ≡ true
+fields_named format fields good known =
+    all-weaker (λ (field : Field). is_among format.fields field.name) is_named_field
+    (λ field there. of_these is_ascii_ncname format.fields field.name (field_names format good) there) fields known
+
+-- ---- metadata
+
+pub dublin_core_known : bytes_eq dublin_core.prefix (codes "oai_dc") ≡ true
+unfolding dublin_core
+dublin_core_known = refl
+
+dublin_core_whole : (fields : List Field) → list_all is_named_field fields ≡ true → IsFine 124 (dublin_core_tree fields)
+unfolding dublin_core_tree field_tree
+dublin_core_whole fields named =
+    parent_by_tag 124 oai_scope (codes "oai_dc:dc") dublin_core_attributes (map (field_tree (codes "dc:")) fields) refl dublin_core_tag
+    (each_whole 123 dublin_core_scope (field_tree (codes "dc:")) is_named_field
+    (λ field is. leaf_by_tag 123 dublin_core_scope (codes "dc:" ++ field.name) [] field.text refl (field_tag field.name is)) fields named)
+
+declared_whole : (format : Format) (fields : List Field) → is_ascii_ncname format.root ≡ true → is_reserved format.namespace ≡ false → list_all is_named_field fields ≡ true
+    → IsFine 124 (declared_tree format fields)
+unfolding declared_tree field_tree
+declared_whole format fields root none named =
+    parent_by_tag 124 oai_scope format.root (declared_attributes format) (map (field_tree []) fields) refl (declared_tag format root none)
+    (each_whole 123 (declared_scope format) (field_tree []) is_named_field
+    (λ field is. bare_leaf_whole 123 (declared_scope format) field.name field.text refl (declared_ready format) is) fields named)
+
+metadata_whole : (format : Format) (fields : List Field) → IsGoodFormat format → is_reserved format.namespace ≡ false → list_all is_named_field fields ≡ true
+    → IsFine 124 (metadata_tree format fields)
+unfolding metadata_tree
+metadata_whole format fields (inl same) none named =
+    ap (λ b. is_whole_in 124 oai_scope (cond b (dublin_core_tree fields) (declared_tree format fields))) (ap (λ (f : Format). bytes_eq f.prefix (codes "oai_dc")) same ∙ dublin_core_known)
+    ∙ dublin_core_whole fields named
+metadata_whole format fields (inr allowed) none named = by_test (bytes_eq format.prefix (codes "oai_dc"))
+  where
+    by_test : (b : Bool) → is_whole_in 124 oai_scope (cond b (dublin_core_tree fields) (declared_tree format fields)) ≡ true
+    by_test true = dublin_core_whole fields named
+    by_test false = declared_whole format fields (rule_name format.root (allowed_names format allowed).0) none named
+
+-- ---- headers and records
+
+header_tag : (live : Bool) → IsPlainTag oai_scope (codes "header") (status live)
+unfolding is_declaring prefix_of are_unlike
+header_tag true = record { named = refl; plain = refl; unlike = refl; few = refl }
+header_tag false = record { named = refl; plain = refl; unlike = refl; few = refl }
+
+header_whole : (levels : ℕ) → IsSome levels → IsSome (levels - 1) → (granularity : Granularity) (item : ItemState) → IsFine levels (header_tree granularity item)
+unfolding header_tree
+header_whole levels some more granularity item =
+    parent_whole levels oai_scope (codes "header") (status item.live) _ some oai_ready (header_tag item.live)
+    (both (fine_leaf (levels - 1) (codes "identifier") item.identifier more refl)
+    (both (fine_leaf (levels - 1) (codes "datestamp") (datestamp_text granularity item.stamp) more refl)
+    (all_whole (levels - 1) oai_scope (bare_leaf (codes "setSpec")) (λ spec. fine_leaf (levels - 1) (codes "setSpec") spec more refl) item.sets)))
+
+part_whole : (format : Format) (item : ItemState) → IsGoodFormat format → is_reserved format.namespace ≡ false → has_own_fields format item ≡ true
+    → list_all (is_whole_in 125 oai_scope) (metadata_parts format item) ≡ true
+unfolding metadata_parts
+part_whole format item good none own = by_test item.live
+  where
+    by_test : (b : Bool) → list_all (is_whole_in 125 oai_scope) (cond b (bare_parent (codes "metadata") (metadata_tree format (fields_in format.prefix item.formats) ∷ []) ∷ []) []) ≡ true
+    by_test true =
+        both (fine_parent 125 (codes "metadata") (metadata_tree format (fields_in format.prefix item.formats) ∷ []) refl refl
+        (both (metadata_whole format (fields_in format.prefix item.formats) good none (fields_named format (fields_in format.prefix item.formats) good own)) refl)) refl
+    by_test false = refl
+
+record_whole : (granularity : Granularity) (format : Format) (item : ItemState) → IsGoodFormat format → is_reserved format.namespace ≡ false → has_own_fields format item ≡ true
+    → IsFine 126 (record_tree granularity format item)
+unfolding record_tree
+record_whole granularity format item good none own =
+    fine_parent 126 (codes "record") (header_tree granularity item ∷ metadata_parts format item) refl refl (both (header_whole 125 refl refl granularity item) (part_whole format item good none own))
+
+-- ---- lists
+
+extent_tag : (e : Extent) → IsPlainTag oai_scope (codes "resumptionToken") (extent e)
+unfolding extent is_declaring prefix_of are_unlike are_alike
+extent_tag e = record { named = refl; plain = refl; unlike = refl; few = refl }
+
+remaining_tag : (expires : List ℕ) (e : Extent) → IsPlainTag oai_scope (codes "resumptionToken") (attribute (codes "expirationDate") expires ∷ extent e)
+unfolding extent is_declaring prefix_of are_unlike are_alike
+remaining_tag expires e = record { named = refl; plain = refl; unlike = refl; few = refl }
+
+token_whole : (c : Continuation) → list_all (is_whole_in 126 oai_scope) (token_trees c) ≡ true
+unfolding token_trees
+token_whole whole = refl
+token_whole (remains expires part token) = both (leaf_whole 126 oai_scope (codes "resumptionToken") _ token refl oai_ready (remaining_tag (second_text expires) part)) refl
+token_whole (completes part) = both (leaf_whole 126 oai_scope (codes "resumptionToken") (extent part) [] refl oai_ready (extent_tag part)) refl
+
+headers_whole : (page : Page) → IsFine 127 (headers_tree page)
+unfolding headers_tree
+headers_whole page =
+    let headers = all_whole 126 oai_scope (header_tree page.granularity) (header_whole 126 refl refl page.granularity) page.items in
+    fine_parent 127 (codes "ListIdentifiers") _ refl refl
+    (and_others 126 oai_scope (map (header_tree page.granularity) page.items) (token_trees page.continuation) headers (token_whole page.continuation))
+
+records_whole : (format : Format) (page : Page) → IsGoodFormat format → is_reserved format.namespace ≡ false → list_all (has_own_fields format) page.items ≡ true → IsFine 127 (records_tree format page)
+unfolding records_tree
+records_whole format page good none own =
+    let records = each_whole 126 oai_scope (record_tree page.granularity format) (has_own_fields format)
+    (λ item known. record_whole page.granularity format item good none known) page.items own in
+    fine_parent 127 (codes "ListRecords") _ refl refl
+    (and_others 126 oai_scope (map (record_tree page.granularity format) page.items) (token_trees page.continuation) records (token_whole page.continuation))
+
+-- ---- documents
+
+answer_whole : (base : List ℕ) (answer : Answer) → IsRegular answer → HasNamespace may_be_default answer → IsFine 127 (answer_tree base answer)
+unfolding answer_tree
+answer_whole base (fails code) regular own = error_whole code
+answer_whole base (identifies d) regular own = identify_whole base d
+answer_whole base (lists_formats formats) regular own = formats_whole formats
+answer_whole base (lists_sets sets) regular own = sets_whole sets
+answer_whole base (gives_record d) regular own =
+    fine_parent 127 (codes "GetRecord") (record_tree d.granularity d.format d.item ∷ []) refl refl (both (record_whole d.granularity d.format d.item regular.0 (not-true (is_reserved d.format.namespace) own) regular.1) refl)
+answer_whole base (lists_headers page) regular own = headers_whole page
+answer_whole base (lists_records format page) regular own = records_whole format page regular.0 (not-true (is_reserved format.namespace) own) regular.1
+
+pub document_whole : (d : Document) → IsRegular d.answer → HasNamespace may_be_default d.answer → is_whole (document_tree d) ≡ true
+unfolding document_tree
+document_whole d regular own =
+    let children : List Tree = bare_leaf (codes "responseDate") (second_text d.date) ∷ request_tree d ∷ answer_tree d.base d.answer ∷ [] in
+    let all : list_all (is_whole_in 127 oai_scope) children ≡ true
+    = both (fine_leaf 127 (codes "responseDate") (second_text d.date) refl refl) (both (request_whole d) (both (answer_whole d.base d.answer regular own) refl)) in
+    parent_by_tag MAX_DEPTH [] (codes "OAI-PMH") root_attributes children refl root_tag (ap (λ (s : Scope). list_all (is_whole_in 127 s) children) root_scope ∙ all)

@@ -1,0 +1,201 @@
+-- The XML document of an answer, as a tree: OAI-PMH 2.0, sections 3.2, 3.3, 3.5, 3.6 and 4. Each part is defined before
+-- the one that contains it.
+use Rattle.std.specs.Prelude.{ℕ, Bool, true, false, if◌then◌else◌, List, [], ◌∷◌, ◌++◌, map, codes, Option, Some, None}
+use Rattle.std.specs.Fmt.{decimal}
+use Rattle.std.specs.Str.{bytes_eq}
+use Rattle.oai_time.specs.TimeTexts.{datestamp_text, second_text}
+use Rattle.oai_time.specs.declared.granularity.Granularity.{Granularity}
+use Rattle.oai_item.specs.Item.{ItemState, fields_in}
+use Rattle.oai_item.specs.declared.fields.Field.{Field}
+use Rattle.oai_item.specs.declared.formats.Format.{Format}
+use Rattle.oai_xml.specs.Trees.{Attribute, Tree}
+use Rattle.oai_answers.specs.Answers.{Answer, Attributes, Continuation, Description, Dissemination, Document, Page, arguments_told, completes, fails, gives_record, identifies, lists_formats, lists_headers, lists_records, lists_sets, remains, whole}
+use Rattle.oai_answers.specs.Documents.{code_of, deleted_text, granularity_text, message_of}
+use Rattle.oai_answers.specs.declared.errors.ErrorCode.{ErrorCode}
+use Rattle.oai_answers.specs.declared.tokens.Extent.{Extent}
+use Rattle.oai_documents.specs.Elements.{attribute, bare_leaf, bare_parent, leaf, parent}
+
+-- ---- the request. Section 3.2
+
+-- an argument, if it was given
+abbrev pub given : List ℕ → Option (List ℕ) → List Attribute
+given name None = []
+given name (Some value) = attribute name value ∷ []
+
+-- the arguments in their order
+unfoldable pub arguments : Attributes → List Attribute
+arguments asked =
+    given (codes "verb") asked.verb
+    ++ (given (codes "identifier") asked.identifier
+    ++ (given (codes "metadataPrefix") asked.prefix
+    ++ (given (codes "from") asked.from
+    ++ (given (codes "until") asked.until
+    ++ (given (codes "set") asked.set
+    ++ given (codes "resumptionToken") asked.token)))))
+
+-- the request: its arguments as attributes, and the base URL
+unfoldable pub request_tree : Document → Tree
+request_tree d = leaf (codes "request") (arguments (arguments_told d.answer d.asked)) d.base
+
+-- ---- errors. Section 3.6
+
+unfoldable pub error_tree : ErrorCode → Tree
+error_tree code =
+    leaf (codes "error") (attribute (codes "code") (code_of code) ∷ []) (message_of code)
+
+-- ---- Identify. Section 4.2
+
+unfoldable pub identify_tree : List ℕ → Description → Tree
+identify_tree base d = bare_parent (codes "Identify")
+    (bare_leaf (codes "repositoryName") d.name
+    ∷ bare_leaf (codes "baseURL") base
+    ∷ bare_leaf (codes "protocolVersion") (codes "2.0")
+    ∷ (map (bare_leaf (codes "adminEmail")) d.addresses
+    ++ bare_leaf (codes "earliestDatestamp") (datestamp_text d.granularity d.earliest)
+    ∷ bare_leaf (codes "deletedRecord") (deleted_text d.deleted)
+    ∷ bare_leaf (codes "granularity") (granularity_text d.granularity)
+    ∷ []))
+
+-- ---- formats and sets. Sections 4.4 and 4.6
+
+unfoldable pub format_tree : Format → Tree
+format_tree format = bare_parent (codes "metadataFormat")
+    (bare_leaf (codes "metadataPrefix") format.prefix
+    ∷ bare_leaf (codes "schema") format.schema
+    ∷ bare_leaf (codes "metadataNamespace") format.namespace
+    ∷ [])
+
+unfoldable pub formats_tree : List Format → Tree
+formats_tree formats = bare_parent (codes "ListMetadataFormats") (map format_tree formats)
+
+unfoldable pub set_tree : List ℕ × List ℕ → Tree
+set_tree set = bare_parent (codes "set")
+    (bare_leaf (codes "setSpec") set.0 ∷ bare_leaf (codes "setName") set.1 ∷ [])
+
+unfoldable pub sets_tree : List (List ℕ × List ℕ) → Tree
+sets_tree sets = bare_parent (codes "ListSets") (map set_tree sets)
+
+-- ---- metadata. Section 2.5
+
+-- the namespace of XML Schema's attributes in documents (XML Schema Part 1, section 2.6)
+unfoldable pub instance_namespace : List ℕ
+instance_namespace = codes "http://www.w3.org/2001/XMLSchema-instance"
+
+-- a field; what precedes its name is the prefix of a namespace and a colon, or nothing
+unfoldable pub field_tree : List ℕ → Field → Tree
+field_tree qualifier field = bare_leaf (qualifier ++ field.name) field.text
+
+unfoldable pub dublin_core_attributes : List Attribute
+dublin_core_attributes =
+    attribute (codes "xmlns:oai_dc") (codes "http://www.openarchives.org/OAI/2.0/oai_dc/")
+    ∷ attribute (codes "xmlns:dc") (codes "http://purl.org/dc/elements/1.1/")
+    ∷ attribute (codes "xmlns:xsi") instance_namespace
+    ∷ attribute (codes "xsi:schemaLocation") (codes "http://www.openarchives.org/OAI/2.0/oai_dc/ http://www.openarchives.org/OAI/2.0/oai_dc.xsd")
+    ∷ []
+
+-- unqualified Dublin Core (the OAI's guidelines for repository implementers, oai_dc)
+unfoldable pub dublin_core_tree : List Field → Tree
+dublin_core_tree fields =
+    parent (codes "oai_dc:dc") dublin_core_attributes (map (field_tree (codes "dc:")) fields)
+
+-- the namespaces of a declared format, of which its own is the default one, and its schema
+unfoldable pub declared_attributes : Format → List Attribute
+declared_attributes format =
+    attribute (codes "xmlns") format.namespace
+    ∷ attribute (codes "xmlns:xsi") instance_namespace
+    ∷ attribute (codes "xsi:schemaLocation") (format.namespace ++ codes " " ++ format.schema)
+    ∷ []
+
+unfoldable pub declared_tree : Format → List Field → Tree
+declared_tree format fields =
+    parent format.root (declared_attributes format) (map (field_tree []) fields)
+
+-- the metadata of a record: oai_dc is known by its prefix
+unfoldable pub metadata_tree : Format → List Field → Tree
+metadata_tree format fields =
+    if bytes_eq format.prefix (codes "oai_dc") then dublin_core_tree fields
+    else declared_tree format fields
+
+-- ---- headers and records. Sections 2.5, 2.5.1 and 4.1
+
+-- the status of a deleted record
+abbrev pub status : Bool → List Attribute
+status true = []
+status false = attribute (codes "status") (codes "deleted") ∷ []
+
+unfoldable pub header_tree : Granularity → ItemState → Tree
+header_tree granularity item = parent (codes "header") (status item.live)
+    (bare_leaf (codes "identifier") item.identifier
+    ∷ bare_leaf (codes "datestamp") (datestamp_text granularity item.stamp)
+    ∷ map (bare_leaf (codes "setSpec")) item.sets)
+
+-- what stands in a record behind its header: the metadata of a live record
+unfoldable pub metadata_parts : Format → ItemState → List Tree
+metadata_parts format item =
+    if item.live
+    then bare_parent (codes "metadata")
+    (metadata_tree format (fields_in format.prefix item.formats) ∷ []) ∷ []
+    else []
+
+unfoldable pub record_tree : Granularity → Format → ItemState → Tree
+record_tree granularity format item =
+    bare_parent (codes "record") (header_tree granularity item ∷ metadata_parts format item)
+
+-- ---- lists of headers and of records. Sections 3.5, 4.3 and 4.5
+
+unfoldable pub extent : Extent → List Attribute
+extent e =
+    attribute (codes "completeListSize") (decimal e.size)
+    ∷ attribute (codes "cursor") (decimal e.cursor)
+    ∷ []
+
+-- the resumption token: none where the list is whole, the empty one where it ends here
+unfoldable pub token_trees : Continuation → List Tree
+token_trees whole = []
+token_trees (remains expires part token) = leaf (codes "resumptionToken")
+    (attribute (codes "expirationDate") (second_text expires) ∷ extent part) token ∷ []
+token_trees (completes part) = leaf (codes "resumptionToken") (extent part) [] ∷ []
+
+unfoldable pub headers_tree : Page → Tree
+headers_tree page = bare_parent (codes "ListIdentifiers")
+    (map (header_tree page.granularity) page.items ++ token_trees page.continuation)
+
+unfoldable pub records_tree : Format → Page → Tree
+records_tree format page = bare_parent (codes "ListRecords")
+    (map (record_tree page.granularity format) page.items ++ token_trees page.continuation)
+
+-- ---- the document. Section 3.2
+
+unfoldable pub answer_tree : List ℕ → Answer → Tree
+answer_tree base (fails code) = error_tree code
+answer_tree base (identifies d) = identify_tree base d
+answer_tree base (lists_formats formats) = formats_tree formats
+answer_tree base (lists_sets sets) = sets_tree sets
+answer_tree base (gives_record d) =
+    bare_parent (codes "GetRecord") (record_tree d.granularity d.format d.item ∷ [])
+answer_tree base (lists_headers page) = headers_tree page
+answer_tree base (lists_records format page) = records_tree format page
+
+-- the namespace of OAI-PMH, and the location of its schema
+unfoldable pub root_attributes : List Attribute
+root_attributes =
+    attribute (codes "xmlns") (codes "http://www.openarchives.org/OAI/2.0/")
+    ∷ attribute (codes "xmlns:xsi") instance_namespace
+    ∷ attribute (codes "xsi:schemaLocation") (codes "http://www.openarchives.org/OAI/2.0/ http://www.openarchives.org/OAI/2.0/OAI-PMH.xsd")
+    ∷ []
+
+unfoldable pub document_tree : Document → Tree
+document_tree d = parent (codes "OAI-PMH") root_attributes
+    (bare_leaf (codes "responseDate") (second_text d.date)
+    ∷ request_tree d
+    ∷ answer_tree d.base d.answer
+    ∷ [])
+
+-- ---- the file
+
+-- the XML declaration, and a line end (XML 1.0, section 2.8)
+unfoldable pub xml_declaration : List ℕ
+xml_declaration = codes "<?xml version=\"1.0\" encoding=\"UTF-8\"?>\n"
+
+unfoldable pub line_end : List ℕ
+line_end = codes "\n"

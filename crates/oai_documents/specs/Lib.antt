@@ -1,0 +1,4 @@
+pub mod Elements
+pub mod DocumentTrees
+pub mod Schema
+pub mod WellFormed

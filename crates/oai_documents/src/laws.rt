@@ -1,0 +1,44 @@
+ghost use Rattle.std.specs.Prelude.{◌≡◌, ◌++◌, true, Some};
+ghost use Rattle.oai_answers.specs.Answers.{Document};
+ghost use Rattle.oai_answers.specs.Documents.{document};
+ghost use Rattle.oai_answers.specs.Seen.{IsRegular};
+ghost use Rattle.oai_xml.specs.Documents.{tree_in};
+ghost use Rattle.oai_xml.specs.LegalTexts.{is_legal_text, is_legal_tree};
+ghost use Rattle.oai_xml.specs.Trees.{spelled};
+ghost use Rattle.oai_xml.specs.Whole.{is_whole};
+ghost use Rattle.oai_documents.specs.DocumentTrees.{document_tree, line_end, xml_declaration};
+ghost use Rattle.oai_documents.specs.Schema.{IsOfSchema};
+ghost use Rattle.oai_documents.specs.WellFormed.{HasNamespace, IsFilled, is_foreign, may_be_default};
+
+/// Each document is the XML declaration, a line end, the spelling of its tree, and a line end, whatever stands in it. A
+/// theorem, proved by an empty function.
+pub fn spelled_law()
+    ensures { (d : Document) → document d ≡ xml_declaration ++ (spelled (document_tree d) ++ line_end) }
+{}
+
+/// The tree of a document is whole (XML 1.0, fifth edition; Namespaces in XML 1.0, third edition): names are QNames,
+/// each prefix is declared, no attribute stands twice, declarations are legal. The premises: formats satisfy the rules
+/// of formats, the fields of each record are those of its format, and the format's namespace is not one of the two that
+/// Namespaces in XML reserves. A theorem, proved by an empty function.
+pub fn well_formed_law()
+    ensures { (d : Document) → IsRegular d.answer → HasNamespace may_be_default d.answer → is_whole (document_tree d) ≡ true }
+{}
+
+/// The tree of a document has the elements that the schema of OAI-PMH asks for, in its order, as often as it allows,
+/// and with its attributes (`OAI-PMH.xsd`). The premises: formats satisfy the rules of formats, and the fields of each
+/// record are those of its format; no list of the answer is empty; and the format of its records has another namespace
+/// than OAI-PMH. A theorem, proved by an empty function.
+pub fn schema_law()
+    ensures { (d : Document) → IsRegular d.answer → IsFilled d.answer → HasNamespace is_foreign d.answer
+        → IsOfSchema (document_tree d) }
+{}
+
+/// An XML parser that follows the productions of XML 1.0 and Namespaces in XML 1.0 accepts the bytes of a document, and
+/// reads its tree (`tree_in` of `oai_xml`); the bytes are UTF-8, of characters that XML allows. The premises: those of
+/// [`well_formed_law`], and that each text in the document is UTF-8 of such characters. A theorem, proved by an empty
+/// function.
+pub fn read_law()
+    ensures text { (d : Document) → is_legal_tree (document_tree d) ≡ true → is_legal_text (document d) ≡ true }
+    ensures tree { (d : Document) → IsRegular d.answer → HasNamespace may_be_default d.answer
+        → is_legal_tree (document_tree d) ≡ true → tree_in (document d) ≡ Some (document_tree d) }
+{}

@@ -1,0 +1,7 @@
+//! The documents that answer the requests of OAI-PMH 2.0 are well-formed XML: each is the spelling of a tree. Laws
+//! alone; no code calls this crate.
+#![tactic(auto)]
+
+mod laws;
+
+pub use laws::{read_law, schema_law, spelled_law, well_formed_law};
