@@ -32,8 +32,8 @@ use Rattle.oai_laws.specs.Following.{AreNext, ArePagesAt, IsChain, IsNextRequest
 use Rattle.oai_laws.specs.Harvests.{AreHarvests, Harvest, IsHarvest, IsWholeCopy, datestamp_of, harvested, items_told, last_harvest, records_since}
 use Rattle.oai_laws.specs.Runs.{Exchange, IsPart, Timed, run}
 use Rattle.oai_laws.specs.Shown.{is_followed_to_its_end, is_last_page}
-use Rattle.oai_laws.proofs.ChainLemmas.{following}
-use Rattle.oai_laws.proofs.HarvestLemmas.{harvests_copied}
+use Rattle.oai_laws.proofs.ChainLemmas.{chain_followed}
+use Rattle.oai_laws.proofs.HarvestLemmas.{harvests_copied, part_first}
 use Rattle.oai_laws.proofs.WholeLemmas.{none_told, whole_told}
 use Rattle.oai_copy.specs.Copies.{caught_up_with}
 use Rattle.oai_config.specs.Configs.{NamedConfig}
@@ -64,7 +64,7 @@ pub taken_acted : (config : Config) (visit : Visit) (step : Exchange) → IsTake
 taken_acted config visit step h = subst (λ (e : Exchange). e.outcome ≡ (act config e.found e.command).0) (sym h.is) refl
 
 -- a visit has one step
-taken_once : (config : Config) (visit : Visit) (a b : Exchange) → IsTaken config visit a → IsTaken config visit b → a ≡ b
+pub taken_once : (config : Config) (visit : Visit) (a b : Exchange) → IsTaken config visit a → IsTaken config visit b → a ≡ b
 taken_once config visit a b this that =
     let asks : asking this.arguments ≡ asking that.arguments = sym this.asked ∙ that.asked in
     let same : this.arguments ≡ that.arguments = cc in
@@ -262,15 +262,16 @@ end_is (seen_records records token) h = inr (records, token, refl)
 -- ---- a harvest
 
 -- what the client sees of it is what the steps of the machine's harvest told
-record IsToldAs (config : Config) (prefix : List ℕ) (harvest : ClientHarvest) (machine : Harvest) : Type 0 where
+pub record IsToldAs (config : Config) (prefix : List ℕ) (harvest : ClientHarvest) (machine : Harvest) : Type 0 where
   pub taken : IsTaken config harvest.first.visit machine.first
   pub date : datestamp_of config machine ≡ datestamp_in config.granularity harvest.first.seen.date
   pub format : Format
   pub known : format_named prefix config.formats ≡ Some format
   pub records : records_of harvest ≡ map (record_seen config.granularity format) (harvested machine)
 
-record IsMet (config : Config) (exchanges : List Exchange) (prefix : List ℕ) (from : Option (List ℕ)) (harvest : ClientHarvest) : Type 0 where
+pub record IsMet (config : Config) (exchanges : List Exchange) (prefix : List ℕ) (from : Option (List ℕ)) (harvest : ClientHarvest) : Type 0 where
   pub machine : Harvest
+  pub among : IsPart (machine.first ∷ []) exchanges
   pub made : IsHarvest config exchanges (records_since prefix from) machine
   pub told : IsToldAs config prefix harvest machine
 
@@ -285,23 +286,24 @@ first_date config visited step steps is =
     (seen_date config step visited.seen is.sees)
 
 -- of its visits and their steps
-record AreMatched (config : Config) (commands : List Timed) (prefix : List ℕ) (from : Option (List ℕ)) (first : SeenVisit) (others : List SeenVisit) (step : Exchange) (steps : List Exchange) : Type 0 where
+record AreMatched (config : Config) (begun : RepoState) (commands : List Timed) (prefix : List ℕ) (from : Option (List ℕ)) (first : SeenVisit) (others : List SeenVisit) (step : Exchange) (steps : List Exchange) : Type 0 where
   pub rules : IsConfig config
+  pub sound : IsSound config begun
   pub here : IsMatched config first step
   pub behind : AllZip (IsMatched config) others steps
-  pub among : IsPart (step ∷ steps) (run config (empty_state config) commands)
+  pub among : IsPart (step ∷ steps) (run config begun commands)
   pub asked : step.command ≡ first_request (records_since prefix from)
   pub next : AreNextSeen config first others
   pub ended : is_harvest_end (last_visit first others).seen.answer ≡ true
 
-abbrev MetAt : Config → List Timed → List ℕ → Option (List ℕ) → SeenVisit → List SeenVisit → Type 0
-MetAt config commands prefix from first others = IsMet config (run config (empty_state config) commands) prefix from (record { first = first; others = others })
+abbrev MetAt : Config → RepoState → List Timed → List ℕ → Option (List ℕ) → SeenVisit → List SeenVisit → Type 0
+MetAt config begun commands prefix from first others = IsMet config (run config begun commands) prefix from (record { first = first; others = others })
 
-long_met : (config : Config) (commands : List Timed) (prefix : List ℕ) (from : Option (List ℕ)) (first : SeenVisit) (others : List SeenVisit) (step : Exchange) (steps : List Exchange)
-    → AreMatched config commands prefix from first others step steps → config.chunk < length (selection_in step.found (records_since prefix from)) → MetAt config commands prefix from first others
-long_met config commands prefix from first others step steps h long =
+long_met : (config : Config) (begun : RepoState) (commands : List Timed) (prefix : List ℕ) (from : Option (List ℕ)) (first : SeenVisit) (others : List SeenVisit) (step : Exchange) (steps : List Exchange)
+    → AreMatched config begun commands prefix from first others step steps → config.chunk < length (selection_in step.found (records_since prefix from)) → MetAt config begun commands prefix from first others
+long_met config begun commands prefix from first others step steps h long =
     let request : ListRequest = records_since prefix from in
-    let exchanges : List Exchange = run config (empty_state config) commands in
+    let exchanges : List Exchange = run config begun commands in
     let chain : IsChain config exchanges request step steps = record {
       among = h.among;
       verb = refl;
@@ -310,10 +312,11 @@ long_met config commands prefix from first others step steps h long =
       answered = ap is_later h.here.sees.told;
       next = links config first others step steps h.rules h.here h.behind h.next;
     } in
-    let followed = following config commands request step steps h.rules chain in
+    let followed = chain_followed config commands begun request step steps h.rules h.sound chain in
     let paged = all_paged config followed.1.format (length (selection_in step.found request)) 0 (step ∷ steps) followed.0 followed.1.told followed.1.placed in
     record {
       machine = record { first = step; others = steps };
+      among = part_first step steps exchanges h.among;
       made = record {
         asked = h.asked;
         answered = inr (inr (record {
@@ -331,10 +334,11 @@ long_met config commands prefix from first others step steps h long =
     }
 
 -- in one answer
-whole_met : (config : Config) (commands : List Timed) (prefix : List ℕ) (from : Option (List ℕ)) (first : SeenVisit) (step : Exchange)
-    → AreMatched config commands prefix from first [] step [] → IsWholeAnswer config prefix step → MetAt config commands prefix from first []
-whole_met config commands prefix from first step h answer = record {
+whole_met : (config : Config) (begun : RepoState) (commands : List Timed) (prefix : List ℕ) (from : Option (List ℕ)) (first : SeenVisit) (step : Exchange)
+    → AreMatched config begun commands prefix from first [] step [] → IsWholeAnswer config prefix step → MetAt config begun commands prefix from first []
+whole_met config begun commands prefix from first step h answer = record {
   machine = record { first = step; others = [] };
+  among = h.among;
   made = record {
     asked = h.asked;
     answered = inr (inl (record {
@@ -354,14 +358,15 @@ whole_met config commands prefix from first step h answer = record {
 }
 
 -- with nothing to harvest
-none_met : (config : Config) (commands : List Timed) (prefix : List ℕ) (from : Option (List ℕ)) (first : SeenVisit) (step : Exchange)
-    → AreMatched config commands prefix from first [] step [] → step.outcome ≡ (act config step.found (first_request (records_since prefix from))).0
-    → first.seen.answer ≡ seen_error NoRecordsMatch → MetAt config commands prefix from first []
-none_met config commands prefix from first step h acted is =
+none_met : (config : Config) (begun : RepoState) (commands : List Timed) (prefix : List ℕ) (from : Option (List ℕ)) (first : SeenVisit) (step : Exchange)
+    → AreMatched config begun commands prefix from first [] step [] → step.outcome ≡ (act config step.found (first_request (records_since prefix from))).0
+    → first.seen.answer ≡ seen_error NoRecordsMatch → MetAt config begun commands prefix from first []
+none_met config begun commands prefix from first step h acted is =
     let told : answer_in step.outcome ≡ Some (fails NoRecordsMatch) = error_seen config step first.seen NoRecordsMatch h.here.sees is in
     let known = none_known config step.found prefix from (sym (ap answer_in acted) ∙ told) in
     record {
       machine = record { first = step; others = [] };
+      among = h.among;
       made = record { asked = h.asked; answered = inl (record { told = told; only = refl }) };
       told = record {
         taken = h.here.taken;
@@ -387,28 +392,28 @@ never_next config prefix first step records token expires size cursor is answer 
     in
     cc
 
-met_at : (config : Config) (commands : List Timed) (prefix : List ℕ) (from : Option (List ℕ)) (first : SeenVisit) (others : List SeenVisit) (step : Exchange) (steps : List Exchange)
-    → AreMatched config commands prefix from first others step steps → MetAt config commands prefix from first others
-met_at config commands prefix from first others step steps h = by others steps h
+met_at : (config : Config) (begun : RepoState) (commands : List Timed) (prefix : List ℕ) (from : Option (List ℕ)) (first : SeenVisit) (others : List SeenVisit) (step : Exchange) (steps : List Exchange)
+    → AreMatched config begun commands prefix from first others step steps → MetAt config begun commands prefix from first others
+met_at config begun commands prefix from first others step steps h = by others steps h
   where
-    acted : (others : List SeenVisit) (steps : List Exchange) → AreMatched config commands prefix from first others step steps
+    acted : (others : List SeenVisit) (steps : List Exchange) → AreMatched config begun commands prefix from first others step steps
         → step.outcome ≡ (act config step.found (first_request (records_since prefix from))).0
     acted others steps h = taken_acted config first.visit step h.here.taken ∙ ap (λ c. (act config step.found c).0) h.asked
 
-    either : (others : List SeenVisit) (steps : List Exchange) (h : AreMatched config commands prefix from first others step steps) → IsListed first.seen.answer
+    either : (others : List SeenVisit) (steps : List Exchange) (h : AreMatched config begun commands prefix from first others step steps) → IsListed first.seen.answer
         → (config.chunk < length (selection_in step.found (records_since prefix from))) ⊎ IsWholeAnswer config prefix step
     either others steps h listed =
         let page = list_seen config step first.seen listed.0 listed.1 h.here.sees listed.2 in
         long_or_whole config prefix from step page.format page.page (taken_reachable config first.visit step h.here.taken).sound (acted others steps h) page.told
 
-    by : (others : List SeenVisit) (steps : List Exchange) → AreMatched config commands prefix from first others step steps → MetAt config commands prefix from first others
+    by : (others : List SeenVisit) (steps : List Exchange) → AreMatched config begun commands prefix from first others step steps → MetAt config begun commands prefix from first others
     by [] [] h =
         elim (end_is first.seen.answer h.ended) [
-          | inl none ↦ none_met config commands prefix from first step h (acted [] [] h) none
+          | inl none ↦ none_met config begun commands prefix from first step h (acted [] [] h) none
           | inr listed ↦
               elim (either [] [] h listed) [
-                | inl long ↦ long_met config commands prefix from first [] step [] h long
-                | inr answer ↦ whole_met config commands prefix from first step h answer
+                | inl long ↦ long_met config begun commands prefix from first [] step [] h long
+                | inr answer ↦ whole_met config begun commands prefix from first step h answer
               ]
         ]
     by [] (a ∷ steps) h = absurd h.behind
@@ -417,29 +422,30 @@ met_at config commands prefix from first others step steps h = by others steps h
         let next = h.next.0 in
         let token : SeenToken = seen_token next.token (second_text next.expires) next.size next.cursor in
         elim (either (visited ∷ others) (a ∷ steps) h (next.records, token, next.offered)) [
-          | inl long ↦ long_met config commands prefix from first (visited ∷ others) step (a ∷ steps) h long
+          | inl long ↦ long_met config begun commands prefix from first (visited ∷ others) step (a ∷ steps) h long
           | inr answer ↦ absurd (never_next config prefix first step next.records next.token (second_text next.expires) next.size next.cursor h.here answer next.offered)
         ]
 
-harvest_met : (config : Config) (calls : List Call) (all : List Visit) (prefix : List ℕ) (from : Option (List ℕ)) (harvest : ClientHarvest) → IsConfig config → AreRepositoryFormats config.formats
-    → IsPart all (visits config (empty_state config) calls) → IsClientHarvest config all prefix from harvest
-    → IsMet config (run config (empty_state config) (commands_in config.granularity calls)) prefix from harvest
-harvest_met config calls all prefix from harvest rules formats part own =
+pub harvest_met : (config : Config) (begun : RepoState) (calls : List Call) (all : List Visit) (prefix : List ℕ) (from : Option (List ℕ)) (harvest : ClientHarvest) → IsConfig config → AreRepositoryFormats config.formats
+    → IsReachable config begun → IsPart all (visits config begun calls) → IsClientHarvest config all prefix from harvest
+    → IsMet config (run config begun (commands_in config.granularity calls)) prefix from harvest
+harvest_met config begun calls all prefix from harvest rules formats reachable part own =
     let some : List Visit = map visit_in (visits_of harvest) in
     let asks : AllByRecursion IsAsking some =
     (record { arguments = own.asked.arguments; asked = own.asked.asked }, next_asking config harvest.first harvest.others own.next)
     in
-    let steps = taken config (empty_state config) calls some (reachable_empty config rules) asks (part_twice some all (visits config (empty_state config) calls) own.among part) in
+    let steps = taken config begun calls some reachable asks (part_twice some all (visits config begun calls) own.among part) in
     by steps.steps (matched config (visits_of harvest) steps.steps formats steps.each own.seen)
-    (subst (IsPart steps.steps) (steps_run config (empty_state config) calls) steps.among)
+    (subst (IsPart steps.steps) (steps_run config begun calls) steps.among)
   where
-    by : (steps : List Exchange) → AllZip (IsMatched config) (visits_of harvest) steps → IsPart steps (run config (empty_state config) (commands_in config.granularity calls))
-        → IsMet config (run config (empty_state config) (commands_in config.granularity calls)) prefix from harvest
+    by : (steps : List Exchange) → AllZip (IsMatched config) (visits_of harvest) steps → IsPart steps (run config begun (commands_in config.granularity calls))
+        → IsMet config (run config begun (commands_in config.granularity calls)) prefix from harvest
     by [] each among = absurd each
     by (step ∷ steps) each among =
-        met_at config (commands_in config.granularity calls) prefix from harvest.first harvest.others step steps
+        met_at config begun (commands_in config.granularity calls) prefix from harvest.first harvest.others step steps
         (record {
           rules = rules;
+          sound = reachable.sound;
           here = each.0;
           behind = each.1;
           among = among;
@@ -450,7 +456,7 @@ harvest_met config calls all prefix from harvest rules formats part own =
 
 -- ---- all of them
 
-abbrev first_in : ClientHarvest → Visit
+abbrev pub first_in : ClientHarvest → Visit
 first_in harvest = harvest.first.visit
 
 record AreMet (config : Config) (exchanges : List Exchange) (prefix : List ℕ) (from : Option (List ℕ)) (harvests : List ClientHarvest) (steps : List Exchange) : Type 0 where
@@ -467,7 +473,7 @@ all_met config calls all prefix from [] (step ∷ steps) rules formats part each
 all_met config calls all prefix from (harvest ∷ harvests) [] rules formats part each own = absurd each
 all_met config calls all prefix from (harvest ∷ harvests) (step ∷ steps) rules formats part each own =
     let exchanges : List Exchange = run config (empty_state config) (commands_in config.granularity calls) in
-    let one = harvest_met config calls all prefix from harvest rules formats part own.0 in
+    let one = harvest_met config (empty_state config) calls all prefix from harvest rules formats (reachable_empty config rules) part own.0 in
     let later = all_met config calls all prefix (Some (datestamp_in config.granularity harvest.first.seen.date)) harvests steps rules formats part each.1 own.1 in
     record {
       machines = one.machine ∷ later.machines;
@@ -512,6 +518,27 @@ last_found config prefix harvest [] machine (next ∷ machines) is told = absurd
 last_found config prefix harvest (later ∷ harvests) machine [] is told = absurd told
 last_found config prefix harvest (later ∷ harvests) machine (next ∷ machines) is told = last_found config prefix later harvests next machines told.0 told.1
 
+-- if the copy of the machine's harvests is whole, so is the client's
+pub copied_told : (config : Config) (prefix : List ℕ) (first : ClientHarvest) (others : List ClientHarvest) (machine : Harvest) (machines : List Harvest) → IsToldAs config prefix first machine
+    → AllZip (IsToldAs config prefix) others machines
+    → IsWholeCopy prefix (last_harvest machine machines).first.found (caught_up_with [] (map harvested (machine ∷ machines)))
+    → IsWholeClientCopy config prefix (found_by (last_client_harvest first others).first.visit) (client_copy (first ∷ others))
+copied_told config prefix first others machine machines told later copied =
+    let state : RepoState = found_by (last_client_harvest first others).first.visit in
+    let format : Format = told.format in
+    let items : List (List ItemState) = map harvested (machine ∷ machines) in
+    let copy : IsWholeCopy prefix state (caught_up_with [] items) =
+    subst (λ (s : RepoState). IsWholeCopy prefix s (caught_up_with [] items)) (last_found config prefix first others machine machines told later) copied
+    in
+    let records = records_told config prefix format (first ∷ others) (machine ∷ machines) told.known (told, later) in
+    record {
+      format = format;
+      known = told.known;
+      members =
+          subst (λ (all : List SeenRecord). (seen : SeenRecord) → Contains (last_of_each all) seen ↔ IsRecordIn config.granularity format prefix state seen) (sym records)
+          (client_copied config.granularity format prefix state items copy);
+    }
+
 pub client_harvests_copied : (config : Config) (calls : List Call) (all : List Visit) (prefix : List ℕ) (first : ClientHarvest) (others : List ClientHarvest) → IsConfig config
     → AreRepositoryFormats config.formats → config.deleted ≡ Persistent → IsPart all (visits config (empty_state config) calls) → AreSuccessiveByClient config all prefix first others
     → IsWholeClientCopy config prefix (found_by (last_client_harvest first others).first.visit) (client_copy (first ∷ others))
@@ -531,29 +558,13 @@ client_harvests_copied config calls all prefix first others rules formats keeps 
     exchanges : List Exchange
     exchanges = run config (empty_state config) commands
 
-    state : RepoState
-    state = found_by (last_client_harvest first others).first.visit
-
     by : (machines : List Harvest) → IsPart (map (λ (machine : Harvest). machine.first) machines) exchanges → AreHarvests config exchanges prefix None machines
-        → AllZip (IsToldAs config prefix) (first ∷ others) machines → IsWholeClientCopy config prefix state (client_copy (first ∷ others))
+        → AllZip (IsToldAs config prefix) (first ∷ others) machines
+        → IsWholeClientCopy config prefix (found_by (last_client_harvest first others).first.visit) (client_copy (first ∷ others))
     by [] among made told = absurd told
     by (machine ∷ machines) among made told =
-        let format : Format = told.0.format in
-        let items : List (List ItemState) = map harvested (machine ∷ machines) in
-        let copied : IsWholeCopy prefix (last_harvest machine machines).first.found (caught_up_with [] items) =
-        harvests_copied config commands prefix machine machines rules keeps (record { begun = among; harvests = made })
-        in
-        let copy : IsWholeCopy prefix state (caught_up_with [] items) =
-        subst (λ (s : RepoState). IsWholeCopy prefix s (caught_up_with [] items)) (last_found config prefix first others machine machines told.0 told.1) copied
-        in
-        let records = records_told config prefix format (first ∷ others) (machine ∷ machines) told.0.known told in
-        record {
-          format = format;
-          known = told.0.known;
-          members =
-              subst (λ (all : List SeenRecord). (seen : SeenRecord) → Contains (last_of_each all) seen ↔ IsRecordIn config.granularity format prefix state seen) (sym records)
-              (client_copied config.granularity format prefix state items copy);
-        }
+        copied_told config prefix first others machine machines told.0 told.1
+        (harvests_copied config commands prefix machine machines rules keeps (record { begun = among; harvests = made }))
 
 -- at a repository of a host
 pub client_harvests_given : (calls : List Call) (answers : List HttpAnswer) (entry : NamedConfig) (left : RepoState) (prefix : List ℕ) (first : ClientHarvest) (others : List ClientHarvest) → HasRules entry

@@ -21,7 +21,7 @@ use Rattle.oai_http.specs.declared.exchanges.Answer.{Answer}
 use Rattle.oai_http.specs.declared.exchanges.Call.{Call}
 use Rattle.oai_host.specs.Alone.{answers_alone}
 use Rattle.oai_host.specs.Hosts.{none_failed}
-use Rattle.oai_headline.specs.Eras.{AreTrueEach, FollowListsEach, FollowListsOver, HaveNumbersIn, MissNothingOver, VisitedEra, era_begins, era_leaves, era_steps, eras_leave, steps_within}
+use Rattle.oai_headline.specs.Eras.{AreTrueEach, FollowListsEach, HaveNumbersIn, VisitedEra, era_begins, era_leaves, era_steps, eras_leave, steps_within}
 use Rattle.oai_headline.specs.Throughout.{AreTrueFrom, FollowLists, IsThroughoutFrom, IsTrueVisit, calls_done, left_by, visits_given, whole_visits}
 use Rattle.oai_headline.specs.Visits.{Visit, commands_in, steps_of, visits}
 use Rattle.oai_headline.proofs.CarriedLemmas.{calls_behind, steps_run}
@@ -72,16 +72,16 @@ throughout_from config begun calls answers left rules formats standing met = rec
 -- ---- the eras of the machine
 
 -- the commands that were performed in an era
-abbrev machine_era : Config → VisitedEra → Era
+abbrev pub machine_era : Config → VisitedEra → Era
 machine_era config era = record { raise = era.raise; commands = commands_in config.granularity (calls_done era.calls era.answers) }
 
-abbrev machine_eras : Config → List VisitedEra → List Era
+abbrev pub machine_eras : Config → List VisitedEra → List Era
 machine_eras config eras = map (machine_era config) eras
 
-leaves_same : (config : Config) (state : RepoState) (era : VisitedEra) → left_by_era config state (machine_era config era) ≡ era_leaves config state era
+pub leaves_same : (config : Config) (state : RepoState) (era : VisitedEra) → left_by_era config state (machine_era config era) ≡ era_leaves config state era
 leaves_same config state era = calls_behind config (ended era.raise state) (calls_done era.calls era.answers)
 
-machine_numbers : (config : Config) (state : RepoState) (eras : List VisitedEra) → HaveNumbersIn config state eras → HaveNumbers config state (machine_eras config eras)
+pub machine_numbers : (config : Config) (state : RepoState) (eras : List VisitedEra) → HaveNumbersIn config state eras → HaveNumbers config state (machine_eras config eras)
 machine_numbers config state [] numbers = tt
 machine_numbers config state (era ∷ eras) numbers = (
   numbers.0,
@@ -183,7 +183,7 @@ pub true_each : (config : Config) (state : RepoState) (eras : List VisitedEra) �
 true_each config state [] met = tt
 true_each config state (era ∷ eras) met = (true_from config (era_begins state era) era.calls era.answers (era_leaves config state era) met.0, true_each config (era_leaves config state era) eras met.1)
 
-followed_each : (config : Config) (state : RepoState) (eras : List VisitedEra) → IsConfig config → AreRepositoryFormats config.formats → IsStanding config state → HaveNumbersIn config state eras
+pub followed_each : (config : Config) (state : RepoState) (eras : List VisitedEra) → IsConfig config → AreRepositoryFormats config.formats → IsStanding config state → HaveNumbersIn config state eras
     → AreMetEach config state eras → FollowListsEach config state eras
 followed_each config state [] rules formats standing numbers met = tt
 followed_each config state (era ∷ eras) rules formats standing numbers met = (
@@ -199,25 +199,31 @@ parts_of_runs config state (era ∷ eras) met = (
       (parts_of_runs config (era_leaves config state era) eras met.1),
 )
 
-pub followed_over : (config : Config) (eras : List VisitedEra) → IsConfig config → AreRepositoryFormats config.formats → HaveNumbersIn config (empty_state config) eras
-    → AreMetEach config (empty_state config) eras → FollowListsOver config eras
-followed_over config eras rules formats numbers met =
+-- a token that was handed out in one era is refused in all later ones
+pub ended_over : (config : Config) (eras : List VisitedEra) → IsConfig config → HaveNumbersIn config (empty_state config) eras → AreMetEach config (empty_state config) eras
+    → AreEnded (steps_within config (empty_state config) eras)
+ended_over config eras rules numbers met =
     let state : RepoState = empty_state config in
-    let standing = standing_empty config rules in
     let machine : List Era = machine_eras config eras in
-    let parts = parts_of_runs config state eras met in
+    ended_fewer (steps_within config state eras) (runs config state machine) (parts_of_runs config state eras met)
+    (era_tokens_refused config machine state rules (standing_empty config rules).sound (machine_numbers config state eras numbers))
+
+-- the numbers of lists rise
+pub rising_over : (config : Config) (eras : List VisitedEra) → HaveNumbersIn config (empty_state config) eras → AreMetEach config (empty_state config) eras
+    → numbers_rise_strictly (numbers_given (all_exchanges (steps_within config (empty_state config) eras))) ≡ true
+rising_over config eras numbers met =
+    let state : RepoState = empty_state config in
+    let machine : List Era = machine_eras config eras in
     let steps : List (List Exchange) = steps_within config state eras in
     let whole : List (List Exchange) = runs config state machine in
-    let machine_has = machine_numbers config state eras numbers in
-    record {
-      each = followed_each config state eras rules formats standing numbers met;
-      refused = ended_fewer steps whole parts (era_tokens_refused config machine state rules standing.sound machine_has);
-      rising = rising_fewer (numbers_given (all_exchanges steps)) (numbers_given (all_exchanges whole))
-          (part_each given_in (all_exchanges steps) (all_exchanges whole) (parts_joined steps whole parts)) (numbers_rise_over config machine machine_has);
-    }
+    rising_fewer (numbers_given (all_exchanges steps)) (numbers_given (all_exchanges whole))
+    (part_each given_in (all_exchanges steps) (all_exchanges whole) (parts_joined steps whole (parts_of_runs config state eras met)))
+    (numbers_rise_over config machine (machine_numbers config state eras numbers))
 
-pub harvested_over : (config : Config) (eras : List VisitedEra) → IsConfig config → HaveNumbersIn config (empty_state config) eras → AreMetEach config (empty_state config) eras → MissNothingOver config eras
-harvested_over config eras rules numbers met = λ prefix first others keeps s.
+-- harvests miss nothing
+pub copied_over : (config : Config) (eras : List VisitedEra) → IsConfig config → HaveNumbersIn config (empty_state config) eras → AreMetEach config (empty_state config) eras
+    → MissNothingWithin config (steps_within config (empty_state config) eras)
+copied_over config eras rules numbers met = λ prefix first others keeps s.
     let state : RepoState = empty_state config in
     let machine : List Era = machine_eras config eras in
     let parts = parts_of_runs config state eras met in

@@ -2,6 +2,7 @@ pub mod CarriedLemmas
 pub mod EndLemmas
 pub mod PrintedLemmas
 pub mod TakenLemmas
+pub mod PrintingLemmas
 pub mod SeenLemmas
 pub mod ClientCopyLemmas
 pub mod FollowedLemmas
@@ -11,6 +12,7 @@ pub mod PartLemmas
 pub mod EraLemmas
 pub mod ThroughoutLemmas
 pub mod ClientHarvestLemmas
+pub mod ClientEraLemmas
 pub mod MetLemmas
 pub mod ClientMetLemmas
 pub mod FoundLemmas

@@ -1,6 +1,6 @@
 -- Harvests, as a client sees them: what it asks, what it sees in the answers, and what it keeps of the records that it
 -- sees. OAI-PMH 2.0, sections 2.5, 2.7.1, 3.2, 3.5 and 4.5.
-use Rattle.std.specs.Prelude.{◌≡◌, ◌↔◌, ℕ, ℤ, int_lt, Bool, true, false, if◌then◌else◌, List, [], ◌∷◌, map, take, Option, None, Some}
+use Rattle.std.specs.Prelude.{◌≡◌, ◌⊎◌, ◌↔◌, ℕ, ℤ, int_lt, Bool, true, false, if◌then◌else◌, List, [], ◌∷◌, map, take, Option, None, Some}
 use Rattle.std.specs.List.{AllByRecursion, Contains, flat_map, list_any}
 use Rattle.std.specs.Str.{bytes_eq}
 use Rattle.oai_names.specs.declared.list_verbs.ListVerb.TheVariants as list
@@ -10,6 +10,7 @@ use Rattle.oai_time.specs.declared.granularity.Granularity.{Granularity}
 use Rattle.oai_time.specs.declared.granularity.Granularity.TheVariants.{Day, Second}
 use Rattle.oai_item.specs.Formats.{format_named}
 use Rattle.oai_item.specs.Item.{ItemState, has_record}
+use Rattle.oai_item.specs.declared.deleted_record.DeletedRecord.TheVariants.{Persistent}
 use Rattle.oai_item.specs.declared.formats.Format.{Format}
 use Rattle.oai_args.specs.Asks.{asks}
 use Rattle.oai_args.specs.declared.requests.Ask.TheVariants as ask
@@ -24,7 +25,7 @@ use Rattle.oai_laws.specs.Runs.{IsPart}
 use Rattle.oai_http.specs.Answers.{answered_with}
 use Rattle.oai_http.specs.declared.exchanges.Answer.{Answer}
 use Rattle.oai_headline.specs.Chains.{IsRequest}
-use Rattle.oai_headline.specs.Visits.{Visit}
+use Rattle.oai_headline.specs.Visits.{Visit, found_by}
 
 -- ---- what a client sees
 
@@ -156,6 +157,31 @@ abbrev pub last_client_harvest : ClientHarvest → List ClientHarvest → Client
 last_client_harvest harvest [] = harvest
 last_client_harvest harvest (next ∷ harvests) = last_client_harvest next harvests
 
+-- ---- over eras, each of which a checkpoint ends: the visits of each
+
+-- a harvest among the visits of one era
+abbrev pub IsClientHarvestWithin : Config → List (List Visit) → List ℕ → Option (List ℕ) → ClientHarvest → Type 0
+IsClientHarvestWithin config [] prefix from harvest = ⊥
+IsClientHarvestWithin config (all ∷ eras) prefix from harvest =
+    IsClientHarvest config all prefix from harvest ⊎ IsClientHarvestWithin config eras prefix from harvest
+
+-- each in some era: the first from that date on if one is given, and each other one from the date on that was seen in
+-- the first answer of the one before it
+abbrev pub AreClientHarvestsWithin : Config → List (List Visit) → List ℕ → Option (List ℕ) → List ClientHarvest → Type 0
+AreClientHarvestsWithin config eras prefix from [] = Unit {0}
+AreClientHarvestsWithin config eras prefix from (harvest ∷ harvests) =
+    IsClientHarvestWithin config eras prefix from harvest
+    × AreClientHarvestsWithin config eras prefix (Some (datestamp_in config.granularity harvest.first.seen.date)) harvests
+
+-- of all eras, one era after the other
+abbrev pub all_visits : List (List Visit) → List Visit
+all_visits eras = flat_map (λ (all : List Visit). all) eras
+
+-- a harvest of all records, and others after it, each of them within an era, whichever it is
+pub record AreSuccessiveByClientWithin (config : Config) (eras : List (List Visit)) (prefix : List ℕ) (first : ClientHarvest) (others : List ClientHarvest) : Type 0 where
+  pub begun : IsPart (map (λ (harvest : ClientHarvest). harvest.first.visit) (first ∷ others)) (all_visits eras)
+  pub harvests : AreClientHarvestsWithin config eras prefix None (first ∷ others)
+
 -- ---- a client's copy
 
 -- the records that are seen in a harvest, one answer after the other
@@ -187,3 +213,14 @@ pub record IsWholeClientCopy (config : Config) (prefix : List ℕ) (state : Repo
   pub format : Format
   pub known : format_named prefix config.formats ≡ Some format
   pub members : (seen : SeenRecord) → Contains copy seen ↔ IsRecordIn config.granularity format prefix state seen
+
+-- ---- the theorem
+
+-- such harvests miss nothing, if the repository keeps deleted records (section 2.5.1): the client then has exactly the
+-- records of the items that had one in the metadataPrefix when the last of them began
+abbrev pub MissNothingSeen : Config → List (List Visit) → Type 0
+MissNothingSeen config eras =
+    (prefix : List ℕ) (first : ClientHarvest) (others : List ClientHarvest)
+    → config.deleted ≡ Persistent
+    → AreSuccessiveByClientWithin config eras prefix first others
+    → IsWholeClientCopy config prefix (found_by (last_client_harvest first others).first.visit) (client_copy (first ∷ others))

@@ -1,15 +1,25 @@
 -- The exchanges with a repository all of whose open lists are ended from time to time, as a checkpoint ends them.
 -- OAI-PMH 2.0, sections 2.7.1 and 3.5; that lists are ended before they expire is this repository's own.
 use Rattle.std.specs.Prelude.{◌≡◌, ◌≤◌, ℕ, true, List, [], ◌∷◌}
-use Rattle.std.specs.List.{flat_map}
+use Rattle.std.specs.List.{AllByRecursion, flat_map}
+use Rattle.oai_names.specs.declared.list_verbs.ListVerb.{ListVerb}
+use Rattle.oai_args.specs.Asks.{asks}
+use Rattle.oai_args.specs.declared.requests.Ask.TheVariants as ask
+use Rattle.oai_answers.specs.Answers.{Document, fails}
+use Rattle.oai_answers.specs.Documents.{document}
+use Rattle.oai_answers.specs.declared.errors.ErrorCode.TheVariants.{BadResumptionToken}
 use Rattle.oai_lists.specs.declared.lists.TheConstants.{LAST_NUMBER}
 use Rattle.oai_settings.specs.Config.{Config}
 use Rattle.oai_repo.specs.Saved.{ended}
 use Rattle.oai_repo.specs.State.{RepoState, empty_state}
 use Rattle.oai_laws.specs.Eras.{AreEnded, MissNothingWithin, all_exchanges}
-use Rattle.oai_laws.specs.Runs.{Exchange, numbers_given, numbers_rise_strictly}
+use Rattle.oai_laws.specs.Following.{TokenOffer}
+use Rattle.oai_laws.specs.Runs.{Exchange, IsPart, numbers_given, numbers_rise_strictly}
+use Rattle.oai_http.specs.Answers.{answered_with}
 use Rattle.oai_http.specs.declared.exchanges.Answer.{Answer}
 use Rattle.oai_http.specs.declared.exchanges.Call.{Call}
+use Rattle.oai_headline.specs.Chains.{IsPrinted, IsRequest}
+use Rattle.oai_headline.specs.ClientHarvests.{MissNothingSeen}
 use Rattle.oai_headline.specs.Throughout.{AreTrueFrom, FollowLists, calls_done, left_by, visits_given, whole_visits}
 use Rattle.oai_headline.specs.Visits.{Visit, steps_of}
 
@@ -33,9 +43,17 @@ abbrev pub eras_leave : Config → RepoState → List VisitedEra → RepoState
 eras_leave config state [] = state
 eras_leave config state (era ∷ eras) = eras_leave config (era_leaves config state era) eras
 
--- the steps of the machine that the visits without a fault make, for each era
+-- the visits without a fault, for each era
+abbrev pub era_visits : Config → RepoState → VisitedEra → List Visit
+era_visits config state era = whole_visits (visits_given config (era_begins state era) era.calls era.answers)
+
+abbrev pub visits_within : Config → RepoState → List VisitedEra → List (List Visit)
+visits_within config state [] = []
+visits_within config state (era ∷ eras) = era_visits config state era ∷ visits_within config (era_leaves config state era) eras
+
+-- and the steps of the machine that they make
 abbrev pub era_steps : Config → RepoState → VisitedEra → List Exchange
-era_steps config state era = flat_map (steps_of config) (whole_visits (visits_given config (era_begins state era) era.calls era.answers))
+era_steps config state era = flat_map (steps_of config) (era_visits config state era)
 
 abbrev pub steps_within : Config → RepoState → List VisitedEra → List (List Exchange)
 steps_within config state [] = []
@@ -66,13 +84,36 @@ FollowListsEach config state [] = Unit {0}
 FollowListsEach config state (era ∷ eras) =
     FollowLists config (visits_given config (era_begins state era) era.calls era.answers) × FollowListsEach config (era_leaves config state era) eras
 
--- and a token that was handed out in one era is refused in all later ones; and the numbers of the lists that are opened
--- rise over all eras, so that none is given twice
+-- the answer to a token is badResumptionToken (section 3.6)
+pub record IsTokenRefused (answer : Answer) : Type 0 where
+  pub its : Document
+  pub written : answer ≡ answered_with (document its)
+  pub told : its.answer ≡ fails BadResumptionToken
+
+-- it is the answer to each visit that comes with a token that an answer to an earlier one prints
+abbrev pub AreTokensRefused : Config → List Visit → List Visit → Type 0
+AreTokensRefused config earlier later =
+    (before after : Visit) (offer : TokenOffer) (verb : ListVerb)
+    → IsPart (before ∷ []) earlier
+    → IsPrinted before.answer offer
+    → IsPart (after ∷ []) later
+    → IsRequest config.granularity after.call (asks (ask.Resume verb offer.token))
+    → IsTokenRefused after.answer
+
+-- of each era, in all later ones
+abbrev pub AreTokensEnded : Config → List (List Visit) → Type 0
+AreTokensEnded config [] = Unit {0}
+AreTokensEnded config (earlier ∷ eras) = AllByRecursion (AreTokensRefused config earlier) eras × AreTokensEnded config eras
+
+-- and a token that was handed out in one era is refused in all later ones, by the steps of the machine and as its
+-- answers print it; and the numbers of the lists that are opened rise over all eras, so that none is given twice
 pub record FollowListsOver (config : Config) (eras : List VisitedEra) : Type 0 where
   pub each : FollowListsEach config (empty_state config) eras
   pub refused : AreEnded (steps_within config (empty_state config) eras)
+  pub printed : AreTokensEnded config (visits_within config (empty_state config) eras)
   pub rising : numbers_rise_strictly (numbers_given (all_exchanges (steps_within config (empty_state config) eras))) ≡ true
 
--- harvests, each of which is made within an era, miss nothing
-abbrev pub MissNothingOver : Config → List VisitedEra → Type 0
-MissNothingOver config eras = MissNothingWithin config (steps_within config (empty_state config) eras)
+-- harvests, each of which is made within an era, miss nothing, by the steps of the machine and as a client sees them
+pub record MissNothingOver (config : Config) (eras : List VisitedEra) : Type 0 where
+  pub copied : MissNothingWithin config (steps_within config (empty_state config) eras)
+  pub seen : MissNothingSeen config (visits_within config (empty_state config) eras)

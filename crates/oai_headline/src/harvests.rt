@@ -13,7 +13,8 @@ ghost use Rattle.oai_http.specs.declared.exchanges.Answer.{Answer};
 ghost use Rattle.oai_http.specs.declared.exchanges.Call.{Call};
 ghost use Rattle.oai_host.specs.Alone.{own_answers, own_calls};
 ghost use Rattle.oai_headline.specs.Chains.{IsStepOf};
-ghost use Rattle.oai_headline.specs.ClientHarvests.{AreSuccessiveByClient, ClientHarvest, IsSeen, IsSomeClientHarvest, IsWholeClientCopy, client_copy, last_client_harvest};
+ghost use Rattle.oai_headline.specs.ClientHarvests.{AreSuccessiveByClient, AreSuccessiveByClientWithin, ClientHarvest, IsSeen, IsSomeClientHarvest, IsWholeClientCopy, client_copy, last_client_harvest};
+ghost use Rattle.oai_headline.specs.Eras.{AreTrueOver, HaveNumbersIn, VisitedEra, visits_within};
 ghost use Rattle.oai_headline.specs.Headline.{HasRules};
 ghost use Rattle.oai_headline.specs.Throughout.{AreTrueFrom, own_given, whole_visits};
 ghost use Rattle.oai_headline.specs.Visits.{Visit, commands_in, found_by, visits};
@@ -26,6 +27,9 @@ ghost use Rattle.oai_headline.specs.Visits.{Visit, commands_in, found_by, visits
 /// anything may fail. Of all records that it saw, it keeps the last of each identifier. Then it has exactly the
 /// records, live and deleted, of the items that had one in that metadataPrefix when the last harvest began.
 ///
+/// So it is over eras, between which a checkpoint ends all open lists: each harvest is made within an era, whichever it
+/// is (`over`). The numbers of lists are raised to none beyond 64 bits.
+///
 /// The bytes of an answer determine what the client sees: two documents that could be seen in it show the same. And
 /// visits whose steps are a harvest of the machine are such a harvest of a client: the machine's answers satisfy what
 /// is required of the answers. The function is empty.
@@ -36,6 +40,12 @@ pub fn client_harvests_law()
         → AreTrueFrom entry.config (empty_state entry.config) (own_calls entry.name calls)
         (own_answers entry.name calls answers) left
         → AreSuccessiveByClient entry.config (whole_visits (own_given entry calls answers)) prefix first others
+        → IsWholeClientCopy entry.config prefix (found_by (last_client_harvest first others).first.visit)
+        (client_copy (first ∷ others)) }
+    ensures over { (eras : List VisitedEra) (entry : NamedConfig) (left : RepoState) (prefix : List ℕ)
+        (first : ClientHarvest) (others : List ClientHarvest) → HasRules entry → entry.config.deleted ≡ Persistent
+        → AreTrueOver entry.config eras left → HaveNumbersIn entry.config (empty_state entry.config) eras
+        → AreSuccessiveByClientWithin entry.config (visits_within entry.config (empty_state entry.config) eras) prefix first others
         → IsWholeClientCopy entry.config prefix (found_by (last_client_harvest first others).first.visit)
         (client_copy (first ∷ others)) }
     ensures seen { (answer : Answer) (one other : SeenDocument) → IsSeen answer one → IsSeen answer other

@@ -15,6 +15,6 @@ mod recovery;
 
 pub use file::FileJournal;
 pub use journals::{Journal, JournalFault};
-pub use laws::{damage_law, one_journal_law};
+pub use laws::{crash_law, damage_law, one_journal_law};
 pub use records::{Kind, MAX_BODY, MAX_FIRST_BODY, MAX_NAME, Record};
 pub use recovery::{Recovery, RecoveryFault};

@@ -6,7 +6,8 @@ use Rattle.std.proofs.lemmas.List.{append-nil, length-append}
 use Rattle.std.proofs.Math.Seq.{take-append-add}
 use Rattle.slab.specs.Slab.{Slab}
 use Rattle.oai_front.specs.Runs.{Served, Serves, done_on}
-use Rattle.oai_host.specs.Hosts.{HostState, Repository}
+use Rattle.oai_host.specs.Hosts.{HostState, IsLater, Repository, store_of}
+use Rattle.oai_host.specs.Performed.{StoreState}
 use Rattle.oai_journal.specs.Journals.{IsLeft}
 use Rattle.oai_journal.specs.Records.{Entry}
 use Rattle.oai_journal.specs.declared.journals.Journal as journal
@@ -20,8 +21,9 @@ use Rattle.oai_durable.specs.Served.{AreThose, EndsAs}
 use Rattle.oai_durable.proofs.ServedLemmas.{ends_held, left_less}
 use Rattle.oai_service.specs.Hosting.{hosting}
 use Rattle.oai_service.specs.Lives.{AreServerLives, IsServerLife, ServerLife, served_behind}
-use Rattle.oai_service.specs.Service.{AreKept, IsReceivedIn, Told, all_turns, turns_of}
+use Rattle.oai_service.specs.Service.{AreKept, IsOverHonest, IsReceivedIn, IsRecordedIn, Told, all_turns, turns_of}
 use Rattle.oai_service.specs.Turns.{AreTurns, Turn, its, records_in}
+use Rattle.oai_service.proofs.OwnLemmas.{AreTurnsOnce, once_append, turns_once}
 use Rattle.oai_service.proofs.TurnLemmas.{HasFew, behind, goes_all, goes_rounds, turns_append, turns_front}
 
 -- ---- what a crash leaves
@@ -110,6 +112,11 @@ unfolding over_by
 over_served view j mid last (Ok done) ends = refl
 over_served view j mid last (Err fault) ends = refl
 
+-- settling leaves the handler
+ends_same : {H J : Type 0} (j : journal.Ghosts J) (performed last : Parts H J) → EndsAs j performed last → last.handler ≡ performed.handler
+ends_same {H} {J} j performed last (inl is) = ap (λ (p : Parts H J). p.handler) is
+ends_same j performed last (inr settled) = settled.1.handler
+
 -- a server with no link has none that is not what came of its stream
 nothing_at : {A : Type 0} (slots : List (Option A)) (key : ℕ) → slots ≡ [] → slice_index_or slots key None ≡ None
 nothing_at {A} slots key none = ap (λ (xs : List (Option A)). slice_index_or xs key None) none ∙ at key
@@ -140,7 +147,7 @@ all_kept {S} contents remaining links none = record {
   all = λ number low high. absurd (omega (arith, low, high));
 }
 
-long_append : {A : Type 0} (xs ys : List A) → length xs ≤ length (xs ++ ys)
+pub long_append : {A : Type 0} (xs ys : List A) → length xs ≤ length (xs ++ ys)
 long_append xs ys = let many : length (xs ++ ys) ≡ length xs + length ys = length-append xs ys in grind (arith)
 
 few_of : {A : Type 0} (n : ℕ) (xs ys : List A) → n ≡ length xs → n ≤ length (xs ++ ys)
@@ -150,22 +157,24 @@ left_all : (found left : List Entry) (answered kept : List Turn) → left ≡ (f
 left_all found left answered kept is = is ∙ sym (behind found answered kept)
 
 -- what is told of a life
-pub record Tells {S H J : Type 0} (contents remaining : S → Option (List ℕ)) (begun : List Repository) (life : ServerLife S H J) : Type 0 where
+pub record Tells {S H J : Type 0} (store : H → StoreState) (contents remaining : S → Option (List ℕ)) (begun : List Repository) (life : ServerLife S H J) : Type 0 where
   pub told : Told
   pub received : IsReceivedIn contents remaining life told
-  pub turned : AreTurns begun life.found (turns_of told)
+  pub recorded : IsRecordedIn store begun life told
   pub left : life.left ≡ life.found ++ records_in (turns_of told)
 
 pub tell : {S H J : Type 0} (view : H → HostState) (j : journal.Ghosts J) (contents remaining : S → Option (List ℕ))
     → ((journal : J) (entries : List Entry) (durable : ℕ) (found : List Entry) → j.holds journal entries durable → j.may_leave journal found → IsLeft durable entries found)
-    → (begun : List Repository) (life : ServerLife S H J) → IsServerLife (hosting view) j contents remaining begun life → Tells contents remaining begun life
+    → (begun : List Repository) (life : ServerLife S H J) → IsServerLife (hosting view) j contents remaining begun life
+    → Tells (λ (handler : H). store_of (view handler)) contents remaining begun life
 tell {S} {H} {J} view j contents remaining law begun life is =
+    let store : H → StoreState = λ handler. store_of (view handler) in
     let service = is.serves in
-    let before = goes_rounds view j begun life.found service.rounds life.old.handler service.mid is.begins is.honest service.settles in
+    let before = goes_rounds view j begun life.found service.rounds life.old.handler service.mid is.begins service.settles in
     let answered : List Turn = before.goes.turns in
     let front : List Entry = life.found ++ records_in answered in
     let over = over_by view j service.mid life.new.handler life.result service.ends in
-    let after = goes_all view j begun front before.durable over.served service.mid over.performed before.goes.held before.goes.honest over.run in
+    let after = goes_all view j begun front before.durable over.served service.mid over.performed before.goes.held over.run in
     let entries : List Entry = front ++ records_in after.turns in
     let few : before.durable ≤ length entries = few_of before.durable front (records_in after.turns) before.all in
     let ended = ends_held j entries before.durable over.performed life.new.handler few after.held.records over.ends in
@@ -184,26 +193,44 @@ tell {S} {H} {J} view j contents remaining law begun life is =
         clients = subst (λ (rounds : List (List Served)). AreAllAnswered contents remaining service.streams service.parted (served_in rounds) life.new.links) is.rounds
             (service.answered [] [] [] is.none (all_kept contents remaining life.old.links is.unlinked));
       };
-      turned = turns_append begun life.found answered left.kept before.goes.turned (turns_front begun front left.kept left.others (subst (AreTurns begun front) left.parts after.turned));
+      recorded = λ so.
+          let all : AreTurns begun front (store service.mid.handler) (left.kept ++ left.others) (store over.performed.handler) =
+          subst (λ (turns : List Turn). AreTurns begun front (store service.mid.handler) turns (store over.performed.handler)) left.parts (after.turned (before.goes.honesty ∙ so)) in
+          let first = turns_front begun front (store service.mid.handler) left.kept left.others (store over.performed.handler) all in
+          record {
+            reached = first.reached;
+            turned = turns_append begun life.found (store life.old.handler.handler) (store service.mid.handler) first.reached answered left.kept (before.goes.turned so) first.turned;
+            later = subst (λ (handler : H). IsLater first.reached (store handler)) (sym (ends_same j over.performed life.new.handler over.ends)) first.later;
+          };
       left = left_all life.found life.left answered left.kept left.records;
     }
 
 -- ---- lives
 
 -- what is told of lives
-pub record TellsAll {S H J : Type 0} (contents remaining : S → Option (List ℕ)) (begun : List Repository) (before : List Entry) (lives : List (ServerLife S H J)) (left : List Entry) : Type 0 where
+pub record TellsAll {S H J : Type 0} (store : H → StoreState) (contents remaining : S → Option (List ℕ)) (begun : List Repository) (before : List Entry) (lives : List (ServerLife S H J)) (left : List Entry) : Type 0 where
   pub told : List Told
   pub received : AllZip (IsReceivedIn contents remaining) lives told
-  pub turned : AreTurns begun before (all_turns told)
+  pub recorded : AllZip (IsRecordedIn store begun) lives told
   pub kept : AreKept before lives told left
+  pub turned : AllByRecursion (IsOverHonest store) lives → AreTurnsOnce begun before (all_turns told)
   pub leaves : left ≡ before ++ records_in (all_turns told)
+
+turned_once : {S H J : Type 0} (store : H → StoreState) (begun : List Repository) (life : ServerLife S H J) (told : Told) → IsRecordedIn store begun life told → IsOverHonest store life
+    → AreTurnsOnce begun life.found (turns_of told)
+turned_once store begun life told recorded honest =
+    let is = recorded honest in
+    turns_once begun life.found (store life.old.handler.handler) (turns_of told) is.reached honest is.turned
 
 pub tell_all : {S H J : Type 0} (view : H → HostState) (j : journal.Ghosts J) (contents remaining : S → Option (List ℕ))
     → ((journal : J) (entries : List Entry) (durable : ℕ) (found : List Entry) → j.holds journal entries durable → j.may_leave journal found → IsLeft durable entries found)
     → (begun : List Repository) (before : List Entry) (lives : List (ServerLife S H J)) (left : List Entry)
-    → AreServerLives (hosting view) j contents remaining begun before lives left → TellsAll contents remaining begun before lives left
-tell_all view j contents remaining law begun before [] left are = record { told = []; received = tt; turned = tt; kept = are; leaves = are ∙ sym (append-nil before) }
-tell_all view j contents remaining law begun before (life ∷ lives) left are =
+    → AreServerLives (hosting view) j contents remaining begun before lives left
+    → TellsAll (λ (handler : H). store_of (view handler)) contents remaining begun before lives left
+tell_all view j contents remaining law begun before [] left are =
+    record { told = []; received = tt; recorded = tt; kept = are; turned = λ so. tt; leaves = are ∙ sym (append-nil before) }
+tell_all {S} {H} {J} view j contents remaining law begun before (life ∷ lives) left are =
+    let store : H → StoreState = λ handler. store_of (view handler) in
     let first = tell view j contents remaining law begun life are.1 in
     let more = tell_all view j contents remaining law begun life.left lives left are.2 in
     let own : List Turn = turns_of first.told in
@@ -212,7 +239,10 @@ tell_all view j contents remaining law begun before (life ∷ lives) left are =
     record {
       told = first.told ∷ more.told;
       received = (first.received, more.received);
-      turned = turns_append begun before own others (subst (λ (es : List Entry). AreTurns begun es own) are.0 first.turned) (subst (λ (es : List Entry). AreTurns begun es others) there more.turned);
+      recorded = (first.recorded, more.recorded);
       kept = (are.0, subst (λ (es : List Entry). AreKept es lives more.told left) there more.kept);
+      turned = λ so. once_append begun before own others
+          (subst (λ (es : List Entry). AreTurnsOnce begun es own) are.0 (turned_once store begun life first.told first.recorded so.0))
+          (subst (λ (es : List Entry). AreTurnsOnce begun es others) there (more.turned so.1));
       leaves = more.leaves ∙ ap (λ (es : List Entry). es ++ records_in others) there ∙ sym (behind before own others);
     }

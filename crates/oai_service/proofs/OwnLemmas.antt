@@ -1,5 +1,5 @@
 -- Turns of a host, at each of its repositories: what is known of its own exchanges, one after the other.
-use Rattle.std.proofs.Common.{◌≡◌, ◌∙◌, inl, inr, ℕ, true, false, IsTrue, List, [], ◌∷◌, ◌++◌, map, filter, take, Option, None, Some, is_none, unwrap_or, refl, sym, ap, subst, append-nil, arith}
+use Rattle.std.proofs.Common.{◌≡◌, ◌∙◌, inl, inr, ℕ, true, false, IsTrue, List, [], ◌∷◌, ◌++◌, map, filter, take, Option, None, Some, is_none, unwrap_or, refl, sym, ap, subst, append-nil}
 use Rattle.std.specs.List.{AllByRecursion, AllZip, zip}
 use Rattle.std.proofs.lemmas.Bool.{and_parts, cases_Bool, cond-true, cond-false}
 use Rattle.std.proofs.lemmas.List.{append_assoc}
@@ -11,7 +11,7 @@ use Rattle.oai_http.specs.Targets.{leads_to_repository}
 use Rattle.oai_http.specs.declared.exchanges.Answer.{Answer}
 use Rattle.oai_http.specs.declared.exchanges.Call.{Call}
 use Rattle.oai_host.specs.Alone.{answers_alone, done_alone, exchanged_alone, own_answers, own_calls}
-use Rattle.oai_host.specs.Hosts.{AreSteps, IsLater, IsStep, Repository, none_failed, store_of}
+use Rattle.oai_host.specs.Hosts.{AreSteps, IsStep, Repository, none_failed}
 use Rattle.oai_host.specs.Performed.{IsPerformed, StoreState}
 use Rattle.oai_host.specs.Tasks.{Task, asking, depositing, refusing, task_of}
 use Rattle.oai_journal.specs.Records.{Entry}
@@ -19,16 +19,15 @@ use Rattle.oai_durable.specs.Records.{redone_all}
 use Rattle.oai_headline.specs.Throughout.{IsTrueVisit, IsTrueBy, left_by, calls_done, calls_done_by, calls_done_in, visits_given, with_lines}
 use Rattle.oai_headline.proofs.GivenLemmas.{all_met}
 use Rattle.oai_service.specs.Hosting.{leaving}
-use Rattle.oai_service.specs.Turns.{AreTurns, Turn, answers_in, calls_in, records_in, was_performed, was_refused}
+use Rattle.oai_durable.specs.Lives.{Exchanged}
+use Rattle.oai_service.specs.Turns.{AreTurns, IsTurn, Turn, answers_in, calls_in, its, records_in, was_performed, was_refused}
+use Rattle.oai_service.proofs.TurnLemmas.{later_self}
 
 -- ---- exchanges of one repository
 
 left_both : (config : Config) (state : RepoState) (calls others : List Call) → left_by config state (calls ++ others) ≡ left_by config (left_by config state calls) others
 left_both config state [] others = refl
 left_both config state (call ∷ calls) others = left_both config (exchanged_alone config state call).1 calls others
-
-later_self : (store : StoreState) → IsLater store store
-later_self store = record { honesty = refl; count = omega arith }
 
 -- what is known of an exchange
 record IsMetOnce (config : Config) (call : Call) (answer : Answer) (before after : RepoState) : Type 0 where
@@ -161,7 +160,41 @@ none_met (x ∷ repositories) = (record { name = refl; config = refl; met = reco
 
 -- ---- turns
 
-pub turns_met : (begun : List Repository) (before : List Entry) (turns : List Turn) → AreTurns begun before turns
+-- turns, each over an honest store of its own
+pub record IsHostTurn (before : List Repository) (e : Exchanged) (after : List Repository) : Type 0 where
+  pub old : StoreState
+  pub new : StoreState
+  pub honest : IsTrue old.honest
+  pub steps : AreSteps (call_at e.moment e.asked) e.answer old new before after
+
+abbrev pub IsTurnOnce : List Repository → Turn → List Repository → Type 0
+IsTurnOnce before (was_performed e) after = IsHostTurn before e after
+IsTurnOnce before (was_refused e) after = after ≡ before
+
+abbrev pub AreTurnsOnce : List Repository → List Entry → List Turn → Type 0
+AreTurnsOnce begun before [] = Unit {0}
+AreTurnsOnce begun before (turn ∷ turns) =
+    IsTurnOnce (redone_all leaving begun before) turn (redone_all leaving begun (before ++ (its turn).own)) × AreTurnsOnce begun (before ++ (its turn).own) turns
+
+turn_once : (before : List Repository) (old : StoreState) (turn : Turn) (after : List Repository) (new : StoreState) → IsTrue old.honest → IsTurn before old turn after new
+    → IsTurnOnce before turn after × IsTrue new.honest
+turn_once before old (was_performed e) after new honest is = (record { old = old; new = new; honest = honest; steps = is.each }, is.honesty.same ∙ honest)
+turn_once before old (was_refused e) after new honest is = (is.0, ap (λ (s : StoreState). s.honest) is.1 ∙ honest)
+
+pub turns_once : (begun : List Repository) (before : List Entry) (old : StoreState) (turns : List Turn) (new : StoreState) → IsTrue old.honest → AreTurns begun before old turns new
+    → AreTurnsOnce begun before turns
+turns_once begun before old [] new honest are = tt
+turns_once begun before old (turn ∷ turns) new honest are =
+    let first = turn_once (redone_all leaving begun before) old turn (redone_all leaving begun (before ++ (its turn).own)) are.0 honest are.1 in
+    (first.0, turns_once begun (before ++ (its turn).own) are.0 turns new first.1 are.2)
+
+pub once_append : (begun : List Repository) (before : List Entry) (turns others : List Turn) → AreTurnsOnce begun before turns → AreTurnsOnce begun (before ++ records_in turns) others
+    → AreTurnsOnce begun before (turns ++ others)
+once_append begun before [] others first then = rw (append-nil before) at then
+once_append begun before (turn ∷ turns) others first then =
+    (first.0, once_append begun (before ++ (its turn).own) turns others first.1 (rw (append_assoc before (its turn).own (records_in turns)) then))
+
+pub turns_met : (begun : List Repository) (before : List Entry) (turns : List Turn) → AreTurnsOnce begun before turns
     → AllZip (IsOwnMet (calls_in turns) (answers_in turns)) (redone_all leaving begun before) (redone_all leaving begun (before ++ records_in turns))
 turns_met begun before [] all =
     subst (λ (es : List Entry). AllZip (IsOwnMet [] []) (redone_all leaving begun before) (redone_all leaving begun es)) (sym (append-nil before)) (none_met (redone_all leaving begun before))
@@ -171,10 +204,8 @@ turns_met begun before (was_performed e ∷ turns) all =
     let last : List Repository = redone_all leaving begun (before ++ (e.own ++ records_in turns)) in
     let more = turns_met begun (before ++ e.own) turns all.1 in
     let others = subst (λ (es : List Entry). AllZip (IsOwnMet (calls_in turns) (answers_in turns)) there (redone_all leaving begun es)) (append_assoc before e.own (records_in turns)) more in
-    let from = subst (λ (rs : List Repository). AreSteps (call_at e.moment e.asked) e.answer (store_of first.old) (store_of first.new) rs first.new.repositories) first.begins first.exchanged.each in
-    let steps = subst (λ (rs : List Repository). AreSteps (call_at e.moment e.asked) e.answer (store_of first.old) (store_of first.new) (redone_all leaving begun before) rs) first.ends from in
-    each_met (call_at e.moment e.asked) e.answer (calls_in turns) (answers_in turns) (store_of first.old) (store_of first.new) first.honest (redone_all leaving begun before) there last steps others
+    each_met (call_at e.moment e.asked) e.answer (calls_in turns) (answers_in turns) first.old first.new first.honest (redone_all leaving begun before) there last first.steps others
 turns_met begun before (was_refused e ∷ turns) all =
     let more = turns_met begun (before ++ e.own) turns all.1 in
     let others = subst (λ (es : List Entry). AllZip (IsOwnMet (calls_in turns) (answers_in turns)) (redone_all leaving begun (before ++ e.own)) (redone_all leaving begun es)) (append_assoc before e.own (records_in turns)) more in
-    subst (λ (rs : List Repository). AllZip (IsOwnMet (calls_in turns) (answers_in turns)) rs (redone_all leaving begun (before ++ (e.own ++ records_in turns)))) all.0.0 others
+    subst (λ (rs : List Repository). AllZip (IsOwnMet (calls_in turns) (answers_in turns)) rs (redone_all leaving begun (before ++ (e.own ++ records_in turns)))) all.0 others

@@ -6,7 +6,8 @@ use Rattle.oai_settings.specs.Config.{Config}
 use Rattle.oai_repo.specs.State.{RepoState, empty_state}
 use Rattle.oai_config.specs.Configs.{HostConfig, NamedConfig}
 use Rattle.oai_host.specs.Emptied.{emptied_redone, emptied_restored}
-use Rattle.oai_host.specs.Hosts.{HostState, Repository, begun}
+use Rattle.oai_host.specs.Hosts.{HostState, Repository, begun, store_of}
+use Rattle.oai_host.specs.Performed.{StoreState}
 use Rattle.oai_host.specs.Saved.{emptied_in, ended_at, ended_in}
 use Rattle.oai_journal.specs.Journals.{IsLeft}
 use Rattle.oai_journal.specs.Records.{Entry}
@@ -15,11 +16,12 @@ use Rattle.oai_durable.specs.Records.{redone_all}
 use Rattle.oai_durable.proofs.CheckpointLemmas.{checkpoint_left}
 use Rattle.oai_headline.specs.Eras.{AreTrueOver, FollowListsOver, HaveNumbersIn, MissNothingOver, VisitedEra, era_leaves, eras_leave}
 use Rattle.oai_headline.specs.Headline.{HasRules, HaveRules}
-use Rattle.oai_headline.proofs.EraLemmas.{AreMetEach, followed_over, harvested_over, true_each}
+use Rattle.oai_headline.proofs.ClientEraLemmas.{followed_over, harvested_over}
+use Rattle.oai_headline.proofs.EraLemmas.{AreMetEach, true_each}
 use Rattle.oai_service.specs.Hosting.{AreNumbered, hosting, leaving, saving}
 use Rattle.oai_service.specs.Lives.{AreServerEras, BeginsEra, ServerEra}
-use Rattle.oai_service.specs.Service.{AreEndedBetween, AreKept, IsReceivedIn, IsServed, Told, all_turns, eras_told, eras_left, own_era, own_eras}
-use Rattle.oai_service.specs.Turns.{AreTurns, answers_in, calls_in}
+use Rattle.oai_service.specs.Service.{AreEndedBetween, AreKept, AreOverHonest, IsReceivedIn, IsRecordedIn, IsServed, Told, all_turns, eras_told, eras_left, own_era, own_eras}
+use Rattle.oai_service.specs.Turns.{answers_in, calls_in}
 use Rattle.oai_service.proofs.LifeLemmas.{tell_all}
 use Rattle.oai_service.proofs.OwnLemmas.{IsOwnMet, turns_met}
 
@@ -98,40 +100,41 @@ none_over (x ∷ repositories) = (record { name = refl; config = refl; met = tt;
 -- ---- eras
 
 -- what is told of eras
-record TellsEras {S H J : Type 0} (contents remaining : S → Option (List ℕ)) (begins before : List Repository) (eras : List (ServerEra S H J)) : Type 0 where
+record TellsEras {S H J : Type 0} (store : H → StoreState) (contents remaining : S → Option (List ℕ)) (begins before : List Repository) (eras : List (ServerEra S H J)) : Type 0 where
   pub told : List (List Told)
   pub received : AllZip (λ (era : ServerEra S H J) (t : List Told). AllZip (IsReceivedIn contents remaining) era.lives t) eras told
-  pub recorded : AllZip (λ (era : ServerEra S H J) (t : List Told). AreTurns begins era.found (all_turns t)) eras told
+  pub recorded : AllZip (λ (era : ServerEra S H J) (t : List Told). AllZip (IsRecordedIn store begins) era.lives t) eras told
   pub kept : AllZip (λ (era : ServerEra S H J) (t : List Told). AreKept era.found era.lives t era.left) eras told
   pub ended : AreEndedBetween begins before eras
-  pub met : AllZip (IsOwnMetOver (eras_told eras told)) before (eras_left begins before eras)
+  pub met : AreOverHonest store eras → AllZip (IsOwnMetOver (eras_told eras told)) before (eras_left begins before eras)
 
 module _ {S H J : Type 0} (view : H → HostState) (j : journal.Ghosts J) (contents remaining : S → Option (List ℕ))
     (law : (journal : J) (entries : List Entry) (durable : ℕ) (found : List Entry) → j.holds journal entries durable → j.may_leave journal found → IsLeft durable entries found)
     (entries : List NamedConfig) where
   tell_eras : (before : Option (List Entry)) (eras : List (ServerEra S H J)) → AreServerEras (hosting view) saving j contents remaining (map begun entries) before eras
       → AllByRecursion (λ (era : ServerEra S H J). AreNumbered (redone_all leaving (map begun entries) era.found)) eras
-      → TellsEras contents remaining (map begun entries) (state_before entries before) eras
+      → TellsEras (λ (handler : H). store_of (view handler)) contents remaining (map begun entries) (state_before entries before) eras
   unfolding state_before
-  tell_eras before [] are numbers = record { told = []; received = tt; recorded = tt; kept = tt; ended = tt; met = none_over (state_before entries before) }
+  tell_eras before [] are numbers = record { told = []; received = tt; recorded = tt; kept = tt; ended = tt; met = λ so. none_over (state_before entries before) }
   tell_eras before (era ∷ eras) are numbers =
       let all = tell_all view j contents remaining law (map begun entries) era.found era.lives era.left are.1 in
       let rest = tell_eras (Some era.left) eras are.2 numbers.1 in
       let starts : redone_all leaving (map begun entries) era.found ≡ ended_in era.raise (state_before entries before) = era_begun entries before era are.0 in
       let turns = all_turns all.told in
-      let own = turns_met (map begun entries) era.found turns all.turned in
-      let to_left = subst (λ (es : List Entry). AllZip (IsOwnMet (calls_in turns) (answers_in turns)) (redone_all leaving (map begun entries) era.found) (redone_all leaving (map begun entries) es))
-      (sym all.leaves) own in
-      let from = subst (λ (rs : List Repository). AllZip (IsOwnMet (calls_in turns) (answers_in turns)) rs (redone_all leaving (map begun entries) era.left)) starts to_left in
       record {
         told = all.told ∷ rest.told;
         received = (all.received, rest.received);
-        recorded = (all.turned, rest.recorded);
+        recorded = (all.recorded, rest.recorded);
         kept = (all.kept, rest.kept);
         ended = (starts, rest.ended);
-        met = each_over (record { raise = era.raise; calls = calls_in turns; answers = answers_in turns }) (eras_told eras rest.told) (state_before entries before)
+        met = λ so.
+            let own = turns_met (map begun entries) era.found turns (all.turned so.0) in
+            let to_left = subst (λ (es : List Entry). AllZip (IsOwnMet (calls_in turns) (answers_in turns)) (redone_all leaving (map begun entries) era.found) (redone_all leaving (map begun entries) es))
+            (sym all.leaves) own in
+            let from = subst (λ (rs : List Repository). AllZip (IsOwnMet (calls_in turns) (answers_in turns)) rs (redone_all leaving (map begun entries) era.left)) starts to_left in
+            each_over (record { raise = era.raise; calls = calls_in turns; answers = answers_in turns }) (eras_told eras rest.told) (state_before entries before)
             (redone_all leaving (map begun entries) era.left) (eras_left (map begun entries) (redone_all leaving (map begun entries) era.left) eras)
-            (subst AreNumbered starts numbers.0) from rest.met;
+            (subst AreNumbered starts numbers.0) from (rest.met so.1);
       }
 
 -- ---- the server
@@ -160,14 +163,14 @@ harvested_at : (eras : List VisitedEra) (entries : List NamedConfig) (after : Li
 harvested_at eras [] after rules met = tt
 harvested_at eras (entry ∷ entries) [] rules met = absurd met
 harvested_at eras (entry ∷ entries) (y ∷ after) rules met =
-    (harvested_over entry.config (own_eras entry.name eras) rules.0.rules met.0.numbers met.0.met, harvested_at eras entries after rules.1 met.1)
+    (harvested_over entry.config (own_eras entry.name eras) rules.0.rules rules.0.formats met.0.numbers met.0.met, harvested_at eras entries after rules.1 met.1)
 
 pub served : {S H J : Type 0} (view : H → HostState) (j : journal.Ghosts J) (contents remaining : S → Option (List ℕ))
     → ((journal : J) (entries : List Entry) (durable : ℕ) (found : List Entry) → j.holds journal entries durable → j.may_leave journal found → IsLeft durable entries found)
     → (config : HostConfig) (eras : List (ServerEra S H J)) → HaveRules config
     → AreServerEras (hosting view) saving j contents remaining (map begun config.repositories) None eras
     → AllByRecursion (λ (era : ServerEra S H J). AreNumbered (redone_all leaving (map begun config.repositories) era.found)) eras
-    → IsServed config contents remaining eras
+    → IsServed (λ (handler : H). store_of (view handler)) config contents remaining eras
 unfolding state_before
 served view j contents remaining law config eras rules are numbers =
     let entries : List NamedConfig = config.repositories in
@@ -179,9 +182,9 @@ served view j contents remaining law config eras rules are numbers =
       told = all.told;
       received = all.received;
       recorded = all.recorded;
-      answered = true_at its entries left all.met;
       kept = all.kept;
       ended = all.ended;
-      followed = followed_at its entries left each all.met;
-      harvested = harvested_at its entries left each all.met;
+      answered = λ so. true_at its entries left (all.met so);
+      followed = λ so. followed_at its entries left each (all.met so);
+      harvested = λ so. harvested_at its entries left each (all.met so);
     }

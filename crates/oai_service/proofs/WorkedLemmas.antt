@@ -16,7 +16,7 @@ use Rattle.oai_http.specs.Targets.{leads_to_repository}
 use Rattle.oai_http.specs.declared.exchanges.Answer.{Answer}
 use Rattle.oai_http.specs.declared.exchanges.Call.{Call}
 use Rattle.oai_host.specs.Alone.{answers_alone, exchanged_alone, own_answers, own_calls}
-use Rattle.oai_host.specs.Hosts.{Repository, begun, none_failed}
+use Rattle.oai_host.specs.Hosts.{IsExchanged, Repository, begun, none_failed}
 use Rattle.oai_host.specs.Redone.{reply_all}
 use Rattle.oai_host.specs.Redone as host
 use Rattle.oai_host.specs.Bodies.{lines_in}
@@ -37,9 +37,9 @@ use Rattle.oai_headline.proofs.WorkedCalls.{carried_a, carried_b}
 use Rattle.oai_headline.proofs.WorkedLemmas.{worked_beside, worked_list}
 use Rattle.oai_service.specs.Hosting.{leaving}
 use Rattle.oai_service.specs.Turns.{AreTurns, IsTurn, Turn, answers_in, calls_in, records_in, was_performed}
-use Rattle.oai_service.specs.WorkedLives.{AreWorkedTurns, Deed, done_once, done_whole, entry_in, exchanged_at, first_deeds, second_deeds, turns_at, worked_begun, worked_checkpoint}
-use Rattle.oai_service.proofs.MachineLemmas.{IsOnce, leads_to_one, names_in, names_left, once_exchanged, reply_whole, sound_host, whole_exchanged}
-use Rattle.oai_service.proofs.OwnLemmas.{IsMetAt, IsOwnMet, left_whole, other_answer, other_call, own_answer, own_call, turns_met}
+use Rattle.oai_service.specs.WorkedLives.{AreWorkedTurns, Deed, done_once, done_whole, entry_in, exchanged_at, first_deeds, held_deeds, second_deeds, turns_at, worked_begun, worked_checkpoint}
+use Rattle.oai_service.proofs.MachineLemmas.{IsOnce, leads_to_one, names_in, names_left, once_exchanged, reply_whole, sound_host, sound_store, whole_exchanged}
+use Rattle.oai_service.proofs.OwnLemmas.{IsMetAt, IsOwnMet, left_whole, other_answer, other_call, own_answer, own_call, turns_met, turns_once}
 
 -- ---- records, one list behind another
 
@@ -64,42 +64,30 @@ pub deed_kind : (names : List (List ℕ)) (deed : Deed) → IsFit names deed →
 deed_kind names (done_whole entry) fit = fit.1
 deed_kind names (done_once call entry) fit = fit.1
 
-deed_turn : (kept : List Repository) (deed : Deed) → IsFit (names_in kept) deed → IsTurn kept (was_performed (exchanged_at kept deed)) (left_by leaving kept (entry_in deed))
-deed_turn kept (done_whole entry) fit = record {
-  old = sound_host kept;
-  new = sound_host (host.redone_all kept (call_in entry));
-  honest = refl;
-  begins = refl;
-  ends = sym (left_call kept entry fit.1);
-  exchanged = whole_exchanged (call_in entry) kept fit.0;
-}
-deed_turn kept (done_once call entry) fit = record {
-  old = sound_host kept;
-  new = sound_host (host.redone_all kept (call_in entry));
-  honest = refl;
-  begins = refl;
-  ends = sym (left_call kept entry fit.1);
-  exchanged = once_exchanged call (call_in entry) kept fit.2 fit.0;
-}
+deed_turn : (kept : List Repository) (deed : Deed) → IsFit (names_in kept) deed → IsTurn kept sound_store (was_performed (exchanged_at kept deed)) (left_by leaving kept (entry_in deed)) sound_store
+deed_turn kept (done_whole entry) fit =
+    subst (λ (rs : List Repository). IsExchanged (call_in entry) (reply_all kept (call_in entry)) (sound_host kept) (sound_host rs)) (sym (left_call kept entry fit.1)) (whole_exchanged (call_in entry) kept fit.0)
+deed_turn kept (done_once call entry) fit =
+    subst (λ (rs : List Repository). IsExchanged call (failed NoMemory (Some 1)) (sound_host kept) (sound_host rs)) (sym (left_call kept entry fit.1)) (once_exchanged call (call_in entry) kept fit.2 fit.0)
 
 pub own_entry : (kept : List Repository) (deed : Deed) → (exchanged_at kept deed).own ≡ entry_in deed ∷ []
 own_entry kept (done_whole entry) = refl
 own_entry kept (done_once call entry) = refl
 
-deeds_turned : (begun kept : List Repository) (before : List Entry) (deeds : List Deed) → redone_all leaving begun before ≡ kept → AllByRecursion (IsFit (names_in kept)) deeds
-    → AreTurns begun before (turns_at kept deeds)
-deeds_turned begun kept before [] is fit = tt
+pub deeds_turned : (begun kept : List Repository) (before : List Entry) (deeds : List Deed) → redone_all leaving begun before ≡ kept → AllByRecursion (IsFit (names_in kept)) deeds
+    → AreTurns begun before sound_store (turns_at kept deeds) sound_store
+deeds_turned begun kept before [] is fit = refl
 deeds_turned begun kept before (deed ∷ deeds) is fit =
     let entry : Entry = entry_in deed in
     let now : List Repository = left_by leaving kept entry in
     let own : (exchanged_at kept deed).own ≡ entry ∷ [] = own_entry kept deed in
     let next : redone_all leaving begun (before ++ (exchanged_at kept deed).own) ≡ now =
     ap (λ (es : List Entry). redone_all leaving begun (before ++ es)) own ∙ redone_append begun before (entry ∷ []) ∙ ap (λ (rs : List Repository). left_by leaving rs entry) is in
-    let here : IsTurn (redone_all leaving begun before) (was_performed (exchanged_at kept deed)) (redone_all leaving begun (before ++ (exchanged_at kept deed).own)) =
-    subst (λ (rs : List Repository). IsTurn (redone_all leaving begun before) (was_performed (exchanged_at kept deed)) rs) (sym next)
-    (subst (λ (rs : List Repository). IsTurn rs (was_performed (exchanged_at kept deed)) now) (sym is) (deed_turn kept deed fit.0)) in
+    let here : IsTurn (redone_all leaving begun before) sound_store (was_performed (exchanged_at kept deed)) (redone_all leaving begun (before ++ (exchanged_at kept deed).own)) sound_store =
+    subst (λ (rs : List Repository). IsTurn (redone_all leaving begun before) sound_store (was_performed (exchanged_at kept deed)) rs sound_store) (sym next)
+    (subst (λ (rs : List Repository). IsTurn rs sound_store (was_performed (exchanged_at kept deed)) now sound_store) (sym is) (deed_turn kept deed fit.0)) in
     let names : names_in now ≡ names_in kept = names_after kept entry (deed_kind (names_in kept) deed fit.0) in
-    (here, deeds_turned begun now (before ++ (exchanged_at kept deed).own) deeds next (subst (λ (ns : List (List ℕ)). AllByRecursion (IsFit ns) deeds) (sym names) fit.1))
+    (sound_store, here, deeds_turned begun now (before ++ (exchanged_at kept deed).own) deeds next (subst (λ (ns : List (List ℕ)). AllByRecursion (IsFit ns) deeds) (sym names) fit.1))
 
 -- ---- what is done of them
 
@@ -273,7 +261,10 @@ once : IsOnce (post 61 (codes "/deposit/a") (deposit_line (codes "oai:a:6") ++ d
 once = record { lines = lines_in (deposit_line (codes "oai:a:6") ++ deposit_line (codes "oai:a:7")); asked = refl; more = omega arith; first = refl; target = refl; moment = refl }
 
 pub first_fit : AllByRecursion (IsFit (names_in worked_begun)) first_deeds
-first_fit = ((refl, refl), ((refl, refl), ((refl, refl), ((refl, refl), ((refl, refl), ((refl, refl), ((refl, refl), ((refl, refl), ((refl, refl), tt)))))))))
+first_fit = ((refl, refl), ((refl, refl), ((refl, refl), ((refl, refl), ((refl, refl), ((refl, refl), ((refl, refl), tt)))))))
+
+pub held_fit : AllByRecursion (IsFit (names_in worked_begun)) held_deeds
+held_fit = ((refl, refl), ((refl, refl), tt))
 
 pub second_fit : AllByRecursion (IsFit (names_in worked_begun)) second_deeds
 second_fit = (
@@ -281,7 +272,7 @@ second_fit = (
   ((refl, refl), ((refl, refl, once), ((refl, refl), ((refl, refl), ((refl, refl), ((refl, refl), ((refl, refl), ((refl, refl), ((refl, refl), ((refl, refl), ((refl, refl), ((refl, refl), tt)))))))))))),
 )
 
-all_fit : (names : List (List ℕ)) (front back : List Deed) → AllByRecursion (IsFit names) front → AllByRecursion (IsFit names) back → AllByRecursion (IsFit names) (front ++ back)
+pub all_fit : (names : List (List ℕ)) (front back : List Deed) → AllByRecursion (IsFit names) front → AllByRecursion (IsFit names) back → AllByRecursion (IsFit names) (front ++ back)
 all_fit names [] back first second = second
 all_fit names (deed ∷ front) back first second = (first.0, all_fit names front back first.1 second)
 
@@ -289,14 +280,14 @@ all_fit names (deed ∷ front) back first second = (first.0, all_fit names front
 repeated : List Call
 repeated = call_in (record { moment = pos (1_704_067_200 + 124); kind = kind.Deposit; name = codes "a"; body = deposit_line (codes "oai:a:6") ++ deposit_line (codes "oai:a:7") }) ∷ []
 
-same_a : planned (codes "a") (first_deeds ++ second_deeds) ≡ own_calls (codes "a") worked_calls ++ repeated
+same_a : planned (codes "a") (first_deeds ++ held_deeds ++ second_deeds) ≡ own_calls (codes "a") worked_calls ++ repeated
 unfolding repeated
 same_a = refl
 
-same_b : own_calls (codes "b") (map call_of_deed (first_deeds ++ second_deeds)) ≡ own_calls (codes "b") worked_calls
+same_b : own_calls (codes "b") (map call_of_deed (first_deeds ++ held_deeds ++ second_deeds)) ≡ own_calls (codes "b") worked_calls
 same_b = refl
 
-whole_b : are_whole (codes "b") (first_deeds ++ second_deeds) ≡ true
+whole_b : are_whole (codes "b") (first_deeds ++ held_deeds ++ second_deeds) ≡ true
 whole_b = refl
 
 asked_b : list_all (λ (call : Call). is_asked (task_of call)) (own_calls (codes "b") worked_calls) ≡ true
@@ -309,13 +300,14 @@ with_deeds : (its : List Deed) (found : List Entry) → redone_all leaving worke
     → IsFollowing worked_config (own_visits first_entry worked_calls) all_records first (second ∷ last ∷ [])
     → AreSuccessive archive_b (own_steps second_entry worked_calls) prefix one (two ∷ three ∷ [])
     → (let turns = turns_at worked_begun its in
-    AreTurns worked_begun found turns
+    AreTurns worked_begun found sound_store turns sound_store
     × IsFollowing worked_config (whole_visits (own_given first_entry (calls_in turns) (answers_in turns))) all_records first (second ∷ last ∷ [])
     × AreSuccessive archive_b (flat_map (steps_of archive_b) (whole_visits (own_given second_entry (calls_in turns) (answers_in turns)))) prefix one (two ∷ three ∷ []))
 with_deeds its found starts fits at_a at_b whole first second last one two three chain successive =
     let turns : List Turn = turns_at worked_begun its in
-    let turned : AreTurns worked_begun found turns = deeds_turned worked_begun worked_begun found its starts fits in
-    let met = subst (λ (rs : List Repository). AllZip (IsOwnMet (calls_in turns) (answers_in turns)) rs (redone_all leaving worked_begun (found ++ records_in turns))) starts (turns_met worked_begun found turns turned) in
+    let turned : AreTurns worked_begun found sound_store turns sound_store = deeds_turned worked_begun worked_begun found its starts fits in
+    let met = subst (λ (rs : List Repository). AllZip (IsOwnMet (calls_in turns) (answers_in turns)) rs (redone_all leaving worked_begun (found ++ records_in turns))) starts
+    (turns_met worked_begun found turns (turns_once worked_begun found sound_store turns sound_store refl turned)) in
     let both : AreMetBoth (calls_in turns) (answers_in turns) = both_met (calls_in turns) (answers_in turns) (redone_all leaving worked_begun (found ++ records_in turns)) met in (
       turned,
       following_a (calls_in turns) (answers_in turns) repeated first second last both.met_a.given (done_planned (codes "a") worked_begun its ∙ at_a) chain,
@@ -331,5 +323,5 @@ pub worked_turned : (first : Visit) × (second : Visit) × (last : Visit) × (on
 worked_turned =
     let list = worked_list carried_a in
     let beside = worked_beside carried_b in
-    let all = with_deeds (first_deeds ++ second_deeds) worked_checkpoint checkpoint_leaves (all_fit (names_in worked_begun) first_deeds second_deeds first_fit second_fit) same_a same_b whole_b list.0 list.2 list.3 beside.0 beside.1 beside.2 list.4.following beside.3.successive in
-    (list.0, list.2, list.3, beside.0, beside.1, beside.2, record { turned = all.0; following = all.1; successive = all.2 })
+    let all = with_deeds (first_deeds ++ held_deeds ++ second_deeds) worked_checkpoint checkpoint_leaves (all_fit (names_in worked_begun) first_deeds (held_deeds ++ second_deeds) first_fit (all_fit (names_in worked_begun) held_deeds second_deeds held_fit second_fit)) same_a same_b whole_b list.0 list.2 list.3 beside.0 beside.1 beside.2 list.4.following beside.3.successive in
+    (list.0, list.2, list.3, beside.0, beside.1, beside.2, record { store = sound_store; honest = refl; turned = all.0; following = all.1; successive = all.2 })

@@ -1,11 +1,10 @@
 -- The worked lives are lives of a server.
-use Rattle.std.proofs.Common.{◌≡◌, ◌≢◌, ◌∙◌, inl, ℕ, zero, suc, ◌<◌, Bool, true, false, List, [], ◌∷◌, ◌++◌, length, map, codes, drop, Option, Some, Ok, Err, take, unwrap_or, refl, sym, ap, subst, arith}
+use Rattle.std.proofs.Common.{◌≡◌, ◌≢◌, ◌∙◌, inl, inr, ℕ, zero, suc, ◌<◌, Bool, true, false, List, [], ◌∷◌, ◌++◌, length, map, codes, drop, Option, None, Some, Ok, Err, slice_index_or, take, unwrap_or, refl, sym, ap, subst, arith}
 use Rattle.std.specs.Fmt as fmt
 use Rattle.std.specs.List.{AllByRecursion, AllZip, flat_map, list_all}
 use Rattle.std.specs.Prelude.{Contains, nat_lt}
 use Rattle.std.proofs.lemmas.Bool.{lt-ltb}
-use Rattle.std.proofs.lemmas.List.{append-nil, append_assoc, take-append-drop}
-use Rattle.std.proofs.Math.Nat.{le_refl}
+use Rattle.std.proofs.lemmas.List.{append-nil, append_assoc, map-append, take-append-drop}
 use Rattle.slab.specs.Slab.{Slab}
 use Rattle.httparse.specs.Grammar.{is_token_byte, print_request, trim_ows}
 use Rattle.oai_item.specs.declared.faults.Fault.TheVariants.{NoMemory}
@@ -19,27 +18,29 @@ use Rattle.oai_front.specs.Performing.{Done, answers_of, done_bytes, messages_of
 use Rattle.oai_front.specs.Runs.{Served, Serves, done_on}
 use Rattle.oai_front.specs.declared.stages.Stage.TheVariants.{Reading}
 use Rattle.oai_front.proofs.RunLemmas.{done_join, none_unfinished}
-use Rattle.oai_host.specs.Hosts.{HostState, IsExchanged, Repository}
+use Rattle.oai_host.specs.Hosts.{HostState, IsExchanged, Repository, store_of}
 use Rattle.oai_host.specs.Redone as host
 use Rattle.oai_journal.specs.Records.{Entry}
 use Rattle.oai_serving.specs.Accepted.{known_of}
 use Rattle.oai_serving.specs.Links.{Link}
 use Rattle.oai_serving.specs.Received.{IsReceived}
 use Rattle.oai_serving.specs.Rounds.{AreSettled, served_in}
-use Rattle.oai_serving.specs.Tables.{AreAllThere, AreGoneAnswered, AreLinksAnswered, AreLinksKept, IsAnswered}
+use Rattle.oai_serving.specs.Tables.{AreAllAnswered, AreAllThere, AreGoneAnswered, AreLinksAnswered, AreLinksKept, IsAnswered}
 use Rattle.oai_serving.specs.declared.faults.ServeFault.TheVariants.{Wait}
 use Rattle.oai_durable.specs.Journaled.{IsExchange, IsHeld, IsSettled, Parts}
 use Rattle.oai_durable.specs.Records.{call_in, left_by, redone_all}
-use Rattle.oai_headline.specs.Worked.{deposit_line}
+use Rattle.oai_headline.specs.Worked.{delete_line, deposit_line}
 use Rattle.oai_service.specs.Hosting.{AreNumbered, hosting, leaving}
 use Rattle.oai_service.specs.Lives.{AreServerLives, IsServerLife, ServerLife}
 use Rattle.oai_durable.specs.Served.{AreThose, told_by, Told as Answered}
-use Rattle.oai_service.specs.Service.{AreKept, IsReceivedIn, Told, all_turns}
-use Rattle.oai_service.specs.Turns.{Turn, its, records_in, was_performed}
-use Rattle.oai_service.specs.WorkedLives.{AreWorkedLives, Deed, IsConnected, Memory, Wire, asked_in, deposited, done_once, done_whole, entry_in, exchanged_at, first_deeds, in_memory, second_deeds, sent_as, sent_for, turns_at, unread_of, worked_begun, worked_checkpoint, written_to}
+use Rattle.oai_service.specs.Service.{AreKept, IsReceivedIn, IsRecordedIn, Told, all_turns}
+use Rattle.oai_service.specs.Turns.{AreTurns, Turn, its, records_in, was_performed}
+use Rattle.oai_service.specs.WorkedLives.{AreWorkedLives, Deed, HasLeft, IsConnected, Memory, Wire, asked_in, deposited, done_once, done_whole, entry_in, exchanged_at, first_deeds, held_deeds, in_memory, requested, second_deeds, sent_as, sent_for, turns_at, unread_of, worked_begun, worked_checkpoint, written_to}
 use Rattle.oai_service.proofs.ClientLemmas.{is_sent, message_of, read_all}
-use Rattle.oai_service.proofs.MachineLemmas.{names_in, once_exchanged, sound_host, whole_exchanged}
-use Rattle.oai_service.proofs.WorkedLemmas.{IsFit, checkpoint_leaves, deed_kind, first_fit, left_call, names_after, own_entry, redone_append, second_fit}
+use Rattle.oai_service.proofs.LifeLemmas.{long_append}
+use Rattle.oai_service.proofs.MachineLemmas.{names_in, once_exchanged, sound_host, sound_store, whole_exchanged}
+use Rattle.oai_service.proofs.TurnLemmas.{later_self, records_append}
+use Rattle.oai_service.proofs.WorkedLemmas.{IsFit, all_fit, checkpoint_leaves, deed_kind, deeds_turned, first_fit, held_fit, left_call, names_after, own_entry, redone_append, second_fit}
 
 -- ---- a message
 
@@ -172,9 +173,6 @@ link_of number sent waiting = record {
 abbrev clients_of : List Deed → List Deed → List Wire
 clients_of deeds lost = client_of deeds ∷ client_of lost ∷ []
 
-abbrev links_of : List ℕ → List ℕ → List ℕ → Slab (Link Wire)
-links_of sent waiting held = record { slots = Some (link_of 1 sent waiting) ∷ Some (link_of 2 [] held) ∷ []; vacant_key = 2; capacity = 2 }
-
 -- all but the end of the last answer is written, which waits; or all is written
 abbrev all_but : List Done → List ℕ
 all_but [] = []
@@ -185,6 +183,15 @@ abbrev end_in : List Done → List ℕ
 end_in [] = []
 end_in (done ∷ []) = drop 8 (done_bytes done)
 end_in (done ∷ next ∷ others) = end_in (next ∷ others)
+
+abbrev links_of : Bool → List Done → List ℕ → Slab (Link Wire)
+links_of true done held = record { slots = Some (link_of 1 (all_but done) (end_in done)) ∷ Some (link_of 2 [] held) ∷ []; vacant_key = 2; capacity = 2 }
+links_of false done held = record { slots = None ∷ Some (link_of 2 [] held) ∷ []; vacant_key = 0; capacity = 2 }
+
+-- and those that were let go
+abbrev gone_of : Bool → List Done → List (ℕ × Wire)
+gone_of true done = []
+gone_of false done = (1, record { written = answers_of done; unread = [] }) ∷ []
 
 abbrev sent_of : Bool → List Done → List ℕ
 sent_of true done = all_but done
@@ -247,47 +254,97 @@ other_received lost held = record {
 the_link : {link other : Link Wire} → Some link ≡ Some other → link ≡ other
 the_link {link} there = ap (λ (o : Option (Link Wire)). unwrap_or o link) there
 
-links_answered : (kept : List Repository) (deeds lost : List Deed) (waits : Bool) (held : List ℕ) (accepted : List Wire) (served : List Served) → accepted ≡ clients_of deeds lost
-    → done_on 1 served ≡ done_all kept deeds → done_on 2 served ≡ [] → list_all is_sent (asked_all deeds) ≡ true
-    → (let done = done_all kept deeds in AreLinksAnswered written_to unread_of accepted served (links_of (sent_of waits done) (left_of waits done) held))
-links_answered kept deeds lost waits held accepted served are own none may zero link there =
+other_answered : (deeds lost : List Deed) (held : List ℕ) (accepted : List Wire) (served : List Served) → accepted ≡ clients_of deeds lost → done_on 2 served ≡ []
+    → IsAnswered written_to unread_of accepted served 2 (link_of 2 [] held).stream
+other_answered deeds lost held accepted served are none = record {
+  first = client_of lost;
+  numbered = record { front = client_of deeds ∷ []; later = []; stands = are; at = refl };
+  received = subst (IsReceived written_to unread_of (client_of lost) (link_of 2 [] held).stream) (sym none) (other_received lost held);
+}
+
+first_answered : (kept : List Repository) (deeds lost : List Deed) (waits : Bool) (accepted : List Wire) (served : List Served) → accepted ≡ clients_of deeds lost
+    → done_on 1 served ≡ done_all kept deeds → list_all is_sent (asked_all deeds) ≡ true
+    → IsAnswered written_to unread_of accepted served 1 (link_of 1 (sent_of waits (done_all kept deeds)) (left_of waits (done_all kept deeds))).stream
+first_answered kept deeds lost waits accepted served are own may =
     let done : List Done = done_all kept deeds in
     let stream : Wire = (link_of 1 (sent_of waits done) (left_of waits done)).stream in
-    subst (λ (l : Link Wire). IsAnswered written_to unread_of accepted served l.connection.number l.stream) (the_link there) (record {
+    record {
       first = client_of deeds;
       numbered = record { front = []; later = client_of lost ∷ []; stands = are; at = refl };
       received = subst (IsReceived written_to unread_of (client_of deeds) stream) (sym own) (first_received kept deeds waits may);
-    })
-links_answered kept deeds lost waits held accepted served are own none may (suc zero) link there =
-    subst (λ (l : Link Wire). IsAnswered written_to unread_of accepted served l.connection.number l.stream) (the_link there) (record {
-      first = client_of lost;
-      numbered = record { front = client_of deeds ∷ []; later = []; stands = are; at = refl };
-      received = subst (IsReceived written_to unread_of (client_of lost) (link_of 2 [] held).stream) (sym none) (other_received lost held);
-    })
-links_answered kept deeds lost waits held accepted served are own none may (suc (suc zero)) link there = cc
-links_answered kept deeds lost waits held accepted served are own none may (suc (suc (suc key))) link there = cc
+    }
 
--- both clients are connected
-both_there : (accepted : List Wire) (gone : List (ℕ × Wire)) (deeds lost : List Deed) (sent waiting held : List ℕ) → accepted ≡ clients_of deeds lost
-    → AreAllThere accepted gone (links_of sent waiting held)
-both_there accepted gone deeds lost sent waiting held are zero low high = absurd (omega (arith, low))
-both_there accepted gone deeds lost sent waiting held are (suc zero) low high = inl (record { key = 0; link = link_of 1 sent waiting; stands = refl; is = refl })
-both_there accepted gone deeds lost sent waiting held are (suc (suc zero)) low high = inl (record { key = 1; link = link_of 2 [] held; stands = refl; is = refl })
-both_there accepted gone deeds lost sent waiting held are (suc (suc (suc number))) low high =
+links_answered : (kept : List Repository) (deeds lost : List Deed) (waits : Bool) (held : List ℕ) (accepted : List Wire) (served : List Served) → accepted ≡ clients_of deeds lost
+    → done_on 1 served ≡ done_all kept deeds → done_on 2 served ≡ [] → list_all is_sent (asked_all deeds) ≡ true
+    → AreLinksAnswered written_to unread_of accepted served (links_of waits (done_all kept deeds) held)
+links_answered kept deeds lost true held accepted served are own none may zero link there =
+    subst (λ (l : Link Wire). IsAnswered written_to unread_of accepted served l.connection.number l.stream) (the_link there)
+    (first_answered kept deeds lost true accepted served are own may)
+links_answered kept deeds lost false held accepted served are own none may zero link there = cc
+links_answered kept deeds lost true held accepted served are own none may (suc zero) link there =
+    subst (λ (l : Link Wire). IsAnswered written_to unread_of accepted served l.connection.number l.stream) (the_link there)
+    (other_answered deeds lost held accepted served are none)
+links_answered kept deeds lost false held accepted served are own none may (suc zero) link there =
+    subst (λ (l : Link Wire). IsAnswered written_to unread_of accepted served l.connection.number l.stream) (the_link there)
+    (other_answered deeds lost held accepted served are none)
+links_answered kept deeds lost true held accepted served are own none may (suc (suc zero)) link there = cc
+links_answered kept deeds lost false held accepted served are own none may (suc (suc zero)) link there = cc
+links_answered kept deeds lost true held accepted served are own none may (suc (suc (suc key))) link there = cc
+links_answered kept deeds lost false held accepted served are own none may (suc (suc (suc key))) link there = cc
+
+nobody : {A : Type 0} (a : A) → Contains [] a → ⊥
+nobody a is = omega (arith, is.1)
+
+-- who was let go
+the_gone : (one other : ℕ × Wire) → Contains (one ∷ []) other → one ≡ other
+the_gone one other there = by there.0 there.1 there.2
+  where
+    by : (k : ℕ) → k < 1 → slice_index_or (one ∷ []) k other ≡ other → one ≡ other
+    by zero within is = is
+    by (suc k) within is = absurd (omega (arith, within))
+
+gone_answered : (kept : List Repository) (deeds lost : List Deed) (waits : Bool) (accepted : List Wire) (served : List Served) → accepted ≡ clients_of deeds lost
+    → done_on 1 served ≡ done_all kept deeds → list_all is_sent (asked_all deeds) ≡ true
+    → AreGoneAnswered written_to unread_of accepted (gone_of waits (done_all kept deeds)) served
+gone_answered kept deeds lost true accepted served are own may = λ number last is. absurd (nobody {A = ℕ × Wire} (number, last) is)
+gone_answered kept deeds lost false accepted served are own may = λ number last is.
+    let stream : Wire = record { written = answers_of (done_all kept deeds); unread = [] } in
+    subst (λ (one : ℕ × Wire). IsAnswered written_to unread_of accepted served one.0 one.1) (the_gone (1, stream) (number, last) is)
+    (first_answered kept deeds lost false accepted served are own may)
+
+-- both clients are connected, or the first one left
+both_there : (accepted : List Wire) (deeds lost : List Deed) (waits : Bool) (done : List Done) (held : List ℕ) → accepted ≡ clients_of deeds lost
+    → AreAllThere accepted (gone_of waits done) (links_of waits done held)
+both_there accepted deeds lost waits done held are zero low high = absurd (omega (arith, low))
+both_there accepted deeds lost true done held are (suc zero) low high = inl (record { key = 0; link = link_of 1 (all_but done) (end_in done); stands = refl; is = refl })
+both_there accepted deeds lost false done held are (suc zero) low high = inr (record { written = answers_of done; unread = [] }, (0, omega arith, refl))
+both_there accepted deeds lost true done held are (suc (suc zero)) low high = inl (record { key = 1; link = link_of 2 [] held; stands = refl; is = refl })
+both_there accepted deeds lost false done held are (suc (suc zero)) low high = inl (record { key = 1; link = link_of 2 [] held; stands = refl; is = refl })
+both_there accepted deeds lost waits done held are (suc (suc (suc number))) low high =
     let two : length accepted ≡ 2 = ap (λ (xs : List Wire). length xs) are in
     absurd (omega (arith, high, two))
 
+-- of all of them
+all_answered : (kept : List Repository) (deeds lost : List Deed) (waits : Bool) (held : List ℕ) (accepted : List Wire) (served : List Served) → accepted ≡ clients_of deeds lost
+    → done_on 1 served ≡ done_all kept deeds → done_on 2 served ≡ [] → list_all is_sent (asked_all deeds) ≡ true
+    → AreAllAnswered written_to unread_of accepted (gone_of waits (done_all kept deeds)) served (links_of waits (done_all kept deeds) held)
+all_answered kept deeds lost waits held accepted served are own none may = record {
+  linked = links_answered kept deeds lost waits held accepted served are own none may;
+  over = gone_answered kept deeds lost waits accepted served are own may;
+  all = both_there accepted deeds lost waits (done_all kept deeds) held are;
+}
+
 -- where none was accepted none was let go
-none_gone : (accepted : List Wire) (gone : List (ℕ × Wire)) (served : List Served) → 0 ≡ length accepted → AreGoneAnswered written_to unread_of accepted gone served
-    → (number : ℕ) (last : Wire) → Contains gone (number, last) → ⊥
-none_gone [] gone served none over number last is =
-    let numbered = (over number last is).numbered in
-    nothing_before (over number last is).first numbered.front numbered.later numbered.stands
+none_gone : (accepted : List Wire) (gone : List (ℕ × Wire)) (served : List Served) → 0 ≡ length accepted → AreGoneAnswered written_to unread_of accepted gone served → gone ≡ []
+none_gone accepted [] served none over = refl
+none_gone [] (one ∷ gone) served none over =
+    let its = over one.0 one.1 (0, omega arith, refl) in
+    absurd (nothing_before its.first its.numbered.front its.numbered.later its.numbered.stands)
   where
     nothing_before : (x : Wire) (front later : List Wire) → [] ≡ front ++ x ∷ later → ⊥
     nothing_before x [] later same = cc
     nothing_before x (y ∷ front) later same = cc
-none_gone (x ∷ accepted) gone served none over number last is = absurd (omega (arith, none))
+none_gone (x ∷ accepted) (one ∷ gone) served none over = absurd (omega (arith, none))
 
 -- before them none was accepted, and nothing served of them
 none_before : (accepted others : List Wire) → 0 ≡ length accepted → accepted ++ others ≡ others
@@ -339,27 +396,30 @@ settle_deeds kept entries (deed ∷ deeds) fit =
           (parts_at (redone_all leaving now (entries_in deeds)) es (length es))) (append_assoc entries (entry ∷ []) (entries_in deeds)) rest,
     )
 
--- it finds so many records, serves deeds in rounds that settle, the end of whose last answer waits or not, and others whose records a crash takes
-abbrev life_of : List Repository → List Entry → List Deed → List Deed → Bool → ServerLife Wire HostState Memory
-life_of begun found deeds lost waits =
+-- it finds so many records, and serves deeds in rounds that settle, the end of whose last answer waits; or all was
+-- written, and the client left. It serves others whose answers are held back: a crash leaves the records of the first of
+-- these, and takes those of the others
+abbrev life_of : List Repository → List Entry → List Deed → List Deed → List Deed → Bool → ServerLife Wire HostState Memory
+life_of begun found deeds held lost waits =
     let kept = redone_all leaving begun found in
     let now = redone_all leaving kept (entries_in deeds) in
     let entries = found ++ entries_in deeds in
+    let behind = held ++ lost in
     let done = done_all kept deeds in
     record {
       found = found;
       known = known_of (Some []) (Some []);
-      later = known_of (Some (clients_of deeds lost)) (Some []);
+      later = known_of (Some (clients_of deeds behind)) (Some (gone_of waits done));
       old = record { handler = parts_at kept found (length found); links = no_links; last = 0 };
       rounds = rounds_of kept deeds;
-      behind = served_all 2 now lost;
+      behind = served_all 2 now behind;
       result = Err Wait;
       new = record {
-        handler = parts_at (redone_all leaving now (entries_in lost)) (entries ++ entries_in lost) (length entries);
-        links = links_of (sent_of waits done) (left_of waits done) (answers_of (done_all now lost));
+        handler = parts_at (redone_all leaving now (entries_in behind)) (entries ++ entries_in behind) (length entries);
+        links = links_of waits done (answers_of (done_all now behind));
         last = 2;
       };
-      left = entries;
+      left = entries ++ entries_in held;
     }
 
 front_taken : (front back : List Entry) → front ≡ take (length front) (front ++ back)
@@ -367,18 +427,22 @@ front_taken [] [] = refl
 front_taken [] (x ∷ back) = refl
 front_taken (x ∷ front) back = ap (λ (es : List Entry). x ∷ es) (front_taken front back)
 
-is_life : (begun : List Repository) (found : List Entry) (deeds lost : List Deed) (waits : Bool) → AllByRecursion (IsFit (names_in (redone_all leaving begun found))) deeds
-    → AllByRecursion (IsFit (names_in (redone_all leaving (redone_all leaving begun found) (entries_in deeds)))) lost → list_all is_sent (asked_all deeds) ≡ true
-    → IsServerLife (hosting (λ (h : HostState). h)) in_memory written_to unread_of begun (life_of begun found deeds lost waits)
-is_life begun found deeds lost waits fit lost_fit may =
+held_taken : (entries held lost : List Entry) → entries ++ held ≡ take (length (entries ++ held)) (entries ++ (held ++ lost))
+held_taken entries held lost =
+    front_taken (entries ++ held) lost ∙ ap (λ (es : List Entry). take (length (entries ++ held)) es) (append_assoc entries held lost)
+
+is_life : (begun : List Repository) (found : List Entry) (deeds held lost : List Deed) (waits : Bool) → AllByRecursion (IsFit (names_in (redone_all leaving begun found))) deeds
+    → AllByRecursion (IsFit (names_in (redone_all leaving (redone_all leaving begun found) (entries_in deeds)))) (held ++ lost) → list_all is_sent (asked_all deeds) ≡ true
+    → IsServerLife (hosting (λ (h : HostState). h)) in_memory written_to unread_of begun (life_of begun found deeds held lost waits)
+is_life begun found deeds held lost waits fit behind_fit may =
     let kept : List Repository = redone_all leaving begun found in
     let now : List Repository = redone_all leaving kept (entries_in deeds) in
     let entries : List Entry = found ++ entries_in deeds in
+    let behind : List Deed = held ++ lost in
     let settled : Parts HostState Memory = parts_at now entries (length entries) in
     let served : List Served = served_in (rounds_of kept deeds) in
     record {
       begins = record { records = (refl, refl); kept = λ so. refl };
-      honest = refl;
       unlinked = refl;
       none = refl;
       serves = record {
@@ -387,29 +451,35 @@ is_life begun found deeds lost waits fit lost_fit may =
         mid = settled;
         settles = settle_deeds kept found deeds fit;
         ends = record {
-          served = served_all 2 now lost;
-          performed = parts_at (redone_all leaving now (entries_in lost)) (entries ++ entries_in lost) (length entries);
-          run = serve_deeds 2 now entries (length entries) lost lost_fit;
+          served = served_all 2 now behind;
+          performed = parts_at (redone_all leaving now (entries_in behind)) (entries ++ entries_in behind) (length entries);
+          run = serve_deeds 2 now entries (length entries) behind behind_fit;
           settles = refl;
         };
-        streams = clients_of deeds lost;
-        parted = [];
+        streams = clients_of deeds behind;
+        parted = gone_of waits (done_all kept deeds);
         passes = record { accepts = refl; lets_go = refl };
-        answered = λ accepted gone earlier many all. record {
-          linked = links_answered kept deeds lost waits (answers_of (done_all now lost)) (accepted ++ clients_of deeds lost) (earlier ++ served)
-              (none_before accepted (clients_of deeds lost) many)
-              (served_later 1 accepted earlier served no_links many (omega arith) all.kept ∙ first_in_rounds kept deeds)
-              (served_later 2 accepted earlier served no_links many (omega arith) all.kept ∙ other_in_rounds kept deeds) may;
-          over = λ number last is.
-              absurd (none_gone accepted gone earlier many all.over number last (subst (λ (ps : List (ℕ × Wire)). Contains ps (number, last)) (append-nil gone) is));
-          all = both_there (accepted ++ clients_of deeds lost) (gone ++ []) deeds lost (sent_of waits (done_all kept deeds)) (left_of waits (done_all kept deeds))
-              (answers_of (done_all now lost)) (none_before accepted (clients_of deeds lost) many);
-        };
+        answered = λ accepted gone earlier many all.
+            let parted : List (ℕ × Wire) = gone_of waits (done_all kept deeds) in
+            subst (λ (ps : List (ℕ × Wire)). AreAllAnswered written_to unread_of (accepted ++ clients_of deeds behind) (ps ++ parted) (earlier ++ served)
+            (links_of waits (done_all kept deeds) (answers_of (done_all now behind)))) (sym (none_gone accepted gone earlier many all.over))
+            (all_answered kept deeds behind waits (answers_of (done_all now behind)) (accepted ++ clients_of deeds behind) (earlier ++ served)
+            (none_before accepted (clients_of deeds behind) many)
+            (served_later 1 accepted earlier served no_links many (omega arith) all.kept ∙ first_in_rounds kept deeds)
+            (served_later 2 accepted earlier served no_links many (omega arith) all.kept ∙ other_in_rounds kept deeds) may);
       };
       rounds = refl;
       behind = refl;
-      leaves = record { count = length entries; enough = le_refl (length entries); is = front_taken entries (entries_in lost) };
+      leaves = record {
+        count = length (entries ++ entries_in held);
+        enough = long_append entries (entries_in held);
+        is = held_taken entries (entries_in held) (entries_in lost) ∙ ap (λ (es : List Entry). take (length (entries ++ entries_in held)) (entries ++ es)) (sym (map-append entry_in held lost));
+      };
     }
+
+turns_behind : (kept : List Repository) (deeds others : List Deed) → turns_at kept (deeds ++ others) ≡ turns_at kept deeds ++ turns_at (redone_all leaving kept (entries_in deeds)) others
+turns_behind kept [] others = refl
+turns_behind kept (deed ∷ deeds) others = ap (λ (ts : List Turn). was_performed (exchanged_at kept deed) ∷ ts) (turns_behind (left_by leaving kept (entry_in deed)) deeds others)
 
 -- what is told of deeds is what was served
 deeds_told : (number : ℕ) (kept : List Repository) (deeds : List Deed) → AreThose (map its (turns_at kept deeds)) (served_all number kept deeds)
@@ -419,24 +489,35 @@ deeds_told number kept (done_whole entry ∷ deeds) =
 deeds_told number kept (done_once call entry ∷ deeds) =
     ap (λ (ts : List Answered). told_by (exchanged_at kept (done_once call entry)) ∷ ts) (deeds_told number (left_by leaving kept entry) deeds)
 
-life_told : (begun : List Repository) (found : List Entry) (deeds lost : List Deed) (waits : Bool) → list_all is_sent (asked_all deeds) ≡ true
-    → IsReceivedIn written_to unread_of (life_of begun found deeds lost waits) (record { answered = turns_at (redone_all leaving begun found) deeds; held = [] })
-life_told begun found deeds lost waits may =
+life_told : (begun : List Repository) (found : List Entry) (deeds held lost : List Deed) (waits : Bool) → list_all is_sent (asked_all deeds) ≡ true
+    → (let kept = redone_all leaving begun found in
+    let now = redone_all leaving kept (entries_in deeds) in
+    IsReceivedIn written_to unread_of (life_of begun found deeds held lost waits) (record { answered = turns_at kept deeds; held = turns_at now held }))
+life_told begun found deeds held lost waits may =
     let kept : List Repository = redone_all leaving begun found in
     let now : List Repository = redone_all leaving kept (entries_in deeds) in
+    let behind : List Deed = held ++ lost in
     record {
       those = subst (AreThose (map its (turns_at kept deeds))) (sym (in_rounds kept deeds)) (deeds_told 1 kept deeds);
-      lost = turns_at now lost;
-      held = deeds_told 2 now lost;
-      streams = clients_of deeds lost;
-      gone = [];
+      lost = turns_at (redone_all leaving now (entries_in held)) lost;
+      held = subst (λ (ts : List Turn). AreThose (map its ts) (served_all 2 now behind)) (turns_behind now held lost) (deeds_told 2 now behind);
+      streams = clients_of deeds behind;
+      gone = gone_of waits (done_all kept deeds);
       passes = record { accepts = refl; lets_go = refl };
-      clients = record {
-        linked = links_answered kept deeds lost waits (answers_of (done_all now lost)) (clients_of deeds lost) (served_in (rounds_of kept deeds)) refl
-            (first_in_rounds kept deeds) (other_in_rounds kept deeds) may;
-        over = λ number last is. absurd (omega (arith, is.1));
-        all = both_there (clients_of deeds lost) [] deeds lost (sent_of waits (done_all kept deeds)) (left_of waits (done_all kept deeds)) (answers_of (done_all now lost)) refl;
-      };
+      clients = all_answered kept deeds behind waits (answers_of (done_all now behind)) (clients_of deeds behind) (served_in (rounds_of kept deeds)) refl
+          (first_in_rounds kept deeds) (other_in_rounds kept deeds) may;
+    }
+
+life_recorded : (begun : List Repository) (found : List Entry) (deeds held lost : List Deed) (waits : Bool) → AllByRecursion (IsFit (names_in (redone_all leaving begun found))) (deeds ++ held)
+    → (let kept = redone_all leaving begun found in
+    let now = redone_all leaving kept (entries_in deeds) in
+    IsRecordedIn store_of begun (life_of begun found deeds held lost waits) (record { answered = turns_at kept deeds; held = turns_at now held }))
+life_recorded begun found deeds held lost waits fit = λ so.
+    let kept : List Repository = redone_all leaving begun found in
+    record {
+      reached = sound_store;
+      turned = subst (λ (ts : List Turn). AreTurns begun found sound_store ts sound_store) (turns_behind kept deeds held) (deeds_turned begun kept found (deeds ++ held) refl fit);
+      later = later_self sound_store;
     }
 
 -- an answer begins with the protocol
@@ -465,36 +546,48 @@ end_some (done ∷ []) many =
     ap (λ (xs : List ℕ). nat_lt 0 (length (drop 8 xs))) (protocol_first done) ∙ lt-ltb 0 (suc (length (drop 9 (done_bytes done)))) (omega arith)
 end_some (done ∷ next ∷ others) many = end_some (next ∷ others) (omega arith)
 
-some_sent : (waits : Bool) (done : List Done) → 0 < length done → sent_of waits done ≢ []
-some_sent true done many = all_but_some done many
-some_sent false done many = answers_some done many
-
-some_left : (waits : Bool) (done : List Done) → 0 < length done → nat_lt 0 (length (left_of waits done)) ≡ waits
-some_left true done many = end_some done many
-some_left false done many = refl
-
 some_done : (kept : List Repository) (deeds : List Deed) → 0 < length deeds → 0 < length (done_all kept deeds)
 some_done kept [] many = many
 some_done kept (deed ∷ deeds) many = omega arith
 
-life_connected : (begun : List Repository) (found : List Entry) (deeds lost : List Deed) (waits : Bool) → 0 < length deeds → IsConnected (life_of begun found deeds lost waits) waits
-life_connected begun found deeds lost waits many =
+life_connected : (begun : List Repository) (found : List Entry) (deeds held lost : List Deed) → 0 < length deeds → IsConnected (life_of begun found deeds held lost true)
+life_connected begun found deeds held lost many =
     let kept : List Repository = redone_all leaving begun found in
     let done : List Done = done_all kept deeds in
     let own : done_on 1 (served_in (rounds_of kept deeds)) ≡ done = first_in_rounds kept deeds in
     record {
       key = 0;
-      link = link_of 1 (sent_of waits done) (left_of waits done);
+      link = link_of 1 (all_but done) (end_in done);
       stands = refl;
-      streams = clients_of deeds lost;
+      streams = clients_of deeds (held ++ lost);
       known = refl;
       later = refl;
       client = client_of deeds;
-      numbered = record { front = []; later = client_of lost ∷ []; stands = refl; at = refl };
+      numbered = record { front = []; later = client_of (held ++ lost) ∷ []; stands = refl; at = refl };
       came = sym (sent_done kept deeds) ∙ sym (ap (flat_map sent_for) own);
-      told = ap answers_of own ∙ both_of waits done;
-      some = some_sent waits done (some_done kept deeds many);
-      rest = some_left waits done (some_done kept deeds many);
+      told = ap answers_of own ∙ both_of true done;
+      some = all_but_some done (some_done kept deeds many);
+      rest = end_some done (some_done kept deeds many);
+    }
+
+life_left : (begun : List Repository) (found : List Entry) (deeds held lost : List Deed) → 0 < length deeds → HasLeft (life_of begun found deeds held lost false)
+life_left begun found deeds held lost many =
+    let kept : List Repository = redone_all leaving begun found in
+    let done : List Done = done_all kept deeds in
+    let own : done_on 1 (served_in (rounds_of kept deeds)) ≡ done = first_in_rounds kept deeds in
+    record {
+      streams = clients_of deeds (held ++ lost);
+      gone = gone_of false done;
+      known = refl;
+      later = refl;
+      number = 1;
+      client = client_of deeds;
+      numbered = record { front = []; later = client_of (held ++ lost) ∷ []; stands = refl; at = refl };
+      came = sym (sent_done kept deeds) ∙ sym (ap (flat_map sent_for) own);
+      last = record { written = answers_of done; unread = [] };
+      left = (0, omega arith, refl);
+      told = sym (ap answers_of own);
+      some = answers_some done (some_done kept deeds many);
     }
 
 -- ---- the two
@@ -516,50 +609,80 @@ records_of_turns kept (deed ∷ deeds) =
     ap (λ (es : List Entry). es ++ records_in (turns_at (left_by leaving kept (entry_in deed)) deeds)) (own_entry kept deed)
     ∙ ap (λ (es : List Entry). entry_in deed ∷ es) (records_of_turns (left_by leaving kept (entry_in deed)) deeds)
 
-turns_behind : (kept : List Repository) (deeds others : List Deed) → turns_at kept (deeds ++ others) ≡ turns_at kept deeds ++ turns_at (redone_all leaving kept (entries_in deeds)) others
-turns_behind kept [] others = refl
-turns_behind kept (deed ∷ deeds) others = ap (λ (ts : List Turn). was_performed (exchanged_at kept deed) ∷ ts) (turns_behind (left_by leaving kept (entry_in deed)) deeds others)
-
-two_lives : (begun : List Repository) (found : List Entry) (front back lost : List Deed) → redone_all leaving begun found ≡ begun → AllByRecursion (IsFit (names_in begun)) front
-    → AllByRecursion (IsFit (names_in begun)) back → AllByRecursion (IsFit (names_in begun)) lost → list_all is_sent (asked_all front) ≡ true → list_all is_sent (asked_all back) ≡ true
-    → (let one = life_of begun found front lost true in
-    let two = life_of begun (found ++ entries_in front) back [] false in
-    let told : List Told = record { answered = turns_at begun front; held = [] } ∷ record { answered = turns_at (redone_all leaving begun (entries_in front)) back; held = [] } ∷ [] in
-    AreServerLives (hosting (λ (h : HostState). h)) in_memory written_to unread_of begun found (one ∷ two ∷ []) ((found ++ entries_in front) ++ entries_in back)
+two_lives : (begun : List Repository) (found : List Entry) (front held back lost : List Deed) → redone_all leaving begun found ≡ begun → AllByRecursion (IsFit (names_in begun)) front
+    → AllByRecursion (IsFit (names_in begun)) held → AllByRecursion (IsFit (names_in begun)) back → AllByRecursion (IsFit (names_in begun)) lost
+    → list_all is_sent (asked_all front) ≡ true → list_all is_sent (asked_all back) ≡ true
+    → (let left = (found ++ entries_in front) ++ entries_in held in
+    let now = redone_all leaving begun (entries_in front) in
+    let one = life_of begun found front held lost true in
+    let two = life_of begun left back [] [] false in
+    let told : List Told =
+    record { answered = turns_at begun front; held = turns_at now held } ∷ record { answered = turns_at (redone_all leaving now (entries_in held)) back; held = [] } ∷ [] in
+    AreServerLives (hosting (λ (h : HostState). h)) in_memory written_to unread_of begun found (one ∷ two ∷ []) ((left ++ entries_in back) ++ [])
     × AllZip (IsReceivedIn written_to unread_of) (one ∷ two ∷ []) told
-    × AreKept found (one ∷ two ∷ []) told ((found ++ entries_in front) ++ entries_in back)
-    × (all_turns told ≡ turns_at begun (front ++ back)))
-two_lives begun found front back lost starts front_fit back_fit lost_fit front_sent back_sent =
+    × AllZip (IsRecordedIn store_of begun) (one ∷ two ∷ []) told
+    × AreKept found (one ∷ two ∷ []) told ((left ++ entries_in back) ++ [])
+    × (all_turns told ≡ turns_at begun (front ++ (held ++ back))))
+two_lives begun found front held back lost starts front_fit held_fit back_fit lost_fit front_sent back_sent =
     let now : List Repository = redone_all leaving begun (entries_in front) in
+    let then : List Repository = redone_all leaving now (entries_in held) in
     let names : names_in now ≡ names_in begun = names_redone begun front front_fit in
     let fits : (rs : List Repository) → names_in rs ≡ names_in begun → (deeds : List Deed) → AllByRecursion (IsFit (names_in begun)) deeds → AllByRecursion (IsFit (names_in rs)) deeds =
     λ rs same deeds fit. subst (λ (ns : List (List ℕ)). AllByRecursion (IsFit ns) deeds) (sym same) fit in
+    let names_then : names_in then ≡ names_in begun = names_redone now held (fits now names held held_fit) ∙ names in
     let there : names_in (redone_all leaving begun found) ≡ names_in begun = ap names_in starts in
     let performed : redone_all leaving (redone_all leaving begun found) (entries_in front) ≡ now = ap (λ (rs : List Repository). redone_all leaving rs (entries_in front)) starts in
-    let later : redone_all leaving begun (found ++ entries_in front) ≡ now = redone_append begun found (entries_in front) ∙ performed in
-    let first_told : records_in (turns_at begun front ++ []) ≡ entries_in front = ap records_in (append-nil (turns_at begun front)) ∙ records_of_turns begun front in
-    let second_told : records_in (turns_at now back ++ []) ≡ entries_in back = ap records_in (append-nil (turns_at now back)) ∙ records_of_turns now back in
-    let front_left : List Entry = found ++ entries_in front in
-    let kept_first : front_left ≡ found ++ records_in (turns_at begun front ++ []) = ap (λ (es : List Entry). found ++ es) (sym first_told) in (
+    let between : redone_all leaving begun (found ++ entries_in front) ≡ now = redone_append begun found (entries_in front) ∙ performed in
+    let left : List Entry = (found ++ entries_in front) ++ entries_in held in
+    let later : redone_all leaving begun left ≡ then =
+    redone_append begun (found ++ entries_in front) (entries_in held) ∙ ap (λ (rs : List Repository). redone_all leaving rs (entries_in held)) between in
+    let behind_fit : AllByRecursion (IsFit (names_in begun)) (held ++ lost) = all_fit (names_in begun) held lost held_fit lost_fit in
+    let first_told : records_in (turns_at begun front ++ turns_at now held) ≡ entries_in front ++ entries_in held =
+    records_append (turns_at begun front) (turns_at now held)
+    ∙ ap (λ (es : List Entry). es ++ records_in (turns_at now held)) (records_of_turns begun front)
+    ∙ ap (λ (es : List Entry). entries_in front ++ es) (records_of_turns now held) in
+    let second_told : records_in (turns_at then back ++ []) ≡ entries_in back = ap records_in (append-nil (turns_at then back)) ∙ records_of_turns then back in
+    let kept_first : left ≡ found ++ records_in (turns_at begun front ++ turns_at now held) =
+    append_assoc found (entries_in front) (entries_in held) ∙ ap (λ (es : List Entry). found ++ es) (sym first_told) in
+    let at_begin : (P : List Turn → List Turn → Type 0) → P (turns_at (redone_all leaving begun found) front) (turns_at (redone_all leaving (redone_all leaving begun found) (entries_in front)) held)
+    → P (turns_at begun front) (turns_at now held) =
+    λ P h. subst (λ (rs : List Repository). P (turns_at rs front) (turns_at (redone_all leaving rs (entries_in front)) held)) starts h in (
       (
         refl,
-        is_life begun found front lost true (fits (redone_all leaving begun found) there front front_fit)
-            (fits (redone_all leaving (redone_all leaving begun found) (entries_in front)) (ap names_in performed ∙ names) lost lost_fit) front_sent,
-        (refl, is_life begun front_left back [] false (fits (redone_all leaving begun front_left) (ap names_in later ∙ names) back back_fit) tt back_sent, refl),
+        is_life begun found front held lost true (fits (redone_all leaving begun found) there front front_fit)
+            (fits (redone_all leaving (redone_all leaving begun found) (entries_in front)) (ap names_in performed ∙ names) (held ++ lost) behind_fit) front_sent,
+        (refl, is_life begun left back [] [] false (fits (redone_all leaving begun left) (ap names_in later ∙ names_then) back back_fit) tt back_sent, refl),
       ),
       (
-        subst (λ (rs : List Repository). IsReceivedIn written_to unread_of (life_of begun found front lost true) (record { answered = turns_at rs front; held = [] })) starts
-            (life_told begun found front lost true front_sent),
+        at_begin (λ (xs ys : List Turn). IsReceivedIn written_to unread_of (life_of begun found front held lost true) (record { answered = xs; held = ys }))
+            (life_told begun found front held lost true front_sent),
         (
-          subst (λ (rs : List Repository). IsReceivedIn written_to unread_of (life_of begun front_left back [] false) (record { answered = turns_at rs back; held = [] })) later
-              (life_told begun front_left back [] false back_sent),
+          subst (λ (rs : List Repository). IsReceivedIn written_to unread_of (life_of begun left back [] [] false) (record { answered = turns_at rs back; held = [] })) later
+              (life_told begun left back [] [] false back_sent),
           tt,
         ),
       ),
-      (refl, (kept_first, ap (λ (es : List Entry). front_left ++ es) (sym second_told) ∙ ap (λ (es : List Entry). es ++ records_in (turns_at now back ++ [])) kept_first)),
-      ap (λ (ts : List Turn). ts ++ ((turns_at now back ++ []) ++ [])) (append-nil (turns_at begun front))
-          ∙ ap (λ (ts : List Turn). turns_at begun front ++ ts) (append-nil (turns_at now back ++ []) ∙ append-nil (turns_at now back))
-          ∙ sym (turns_behind begun front back),
+      (
+        at_begin (λ (xs ys : List Turn). IsRecordedIn store_of begun (life_of begun found front held lost true) (record { answered = xs; held = ys }))
+            (life_recorded begun found front held lost true (fits (redone_all leaving begun found) there (front ++ held) (all_fit (names_in begun) front held front_fit held_fit))),
+        (
+          subst (λ (rs : List Repository). IsRecordedIn store_of begun (life_of begun left back [] [] false) (record { answered = turns_at rs back; held = [] })) later
+              (life_recorded begun left back [] [] false
+              (subst (AllByRecursion (IsFit (names_in (redone_all leaving begun left)))) (sym (append-nil back)) (fits (redone_all leaving begun left) (ap names_in later ∙ names_then) back back_fit))),
+          tt,
+        ),
+      ),
+      (
+        refl,
+        (
+          kept_first,
+          append-nil (left ++ entries_in back) ∙ ap (λ (es : List Entry). left ++ es) (sym second_told) ∙ ap (λ (es : List Entry). es ++ records_in (turns_at then back ++ [])) kept_first,
+        ),
+      ),
+      ap (λ (ts : List Turn). (turns_at begun front ++ turns_at now held) ++ ts) (append-nil (turns_at then back ++ []) ∙ append-nil (turns_at then back))
+          ∙ append_assoc (turns_at begun front) (turns_at now held) (turns_at then back)
+          ∙ ap (λ (ts : List Turn). turns_at begun front ++ ts) (sym (turns_behind now held back))
+          ∙ sym (turns_behind begun front (held ++ back)),
     )
 
 -- what is asked of them can be sent
@@ -571,32 +694,41 @@ second_sent : list_all is_sent (asked_all second_deeds) ≡ true
 unfolding fmt.digits framing_in framing_of is_alike is_token_byte length_written any_close lists_close print_request trim_ows values_named
 second_sent = refl
 
+some_held : (kept : List Repository) (deed : Deed) (deeds : List Deed) (others : List Turn) → turns_at kept (deed ∷ deeds) ++ others ≡ [] → ⊥
+some_held kept deed deeds others none = cc
+
 pub worked_lived : AreWorkedLives
 worked_lived =
-    let all = two_lives worked_begun worked_checkpoint first_deeds second_deeds lost_deeds checkpoint_leaves first_fit second_fit ((refl, refl), tt) first_sent second_sent in
+    let all = two_lives worked_begun worked_checkpoint first_deeds held_deeds second_deeds lost_deeds checkpoint_leaves first_fit held_fit second_fit ((refl, refl), tt) first_sent second_sent in
     let numbers : AreNumbered worked_begun = (omega arith, (omega arith, tt)) in
+    let left : List Entry = (worked_checkpoint ++ entries_in first_deeds) ++ entries_in held_deeds in
+    let now : List Repository = redone_all leaving worked_begun (entries_in first_deeds) in
     record {
-      first = record { raise = 0; found = []; lives = life_of worked_begun [] [] [] false ∷ []; left = [] };
+      first = record { raise = 0; found = []; lives = life_of worked_begun [] [] [] [] false ∷ []; left = [] };
       one = refl;
       second = record {
         raise = 0;
         found = worked_checkpoint;
-        lives = life_of worked_begun worked_checkpoint first_deeds lost_deeds true ∷ life_of worked_begun (worked_checkpoint ++ entries_in first_deeds) second_deeds [] false ∷ [];
-        left = (worked_checkpoint ++ entries_in first_deeds) ++ entries_in second_deeds;
+        lives = life_of worked_begun worked_checkpoint first_deeds held_deeds lost_deeds true ∷ life_of worked_begun left second_deeds [] [] false ∷ [];
+        left = (left ++ entries_in second_deeds) ++ [];
       };
+      before = life_of worked_begun worked_checkpoint first_deeds held_deeds lost_deeds true;
+      last = life_of worked_begun left second_deeds [] [] false;
       two = refl;
       are = (
         (refl, refl),
-        (refl, is_life worked_begun [] [] [] false tt tt refl, refl),
+        (refl, is_life worked_begun [] [] [] [] false tt tt refl, refl),
         (record { is = refl; leaves = checkpoint_leaves }, all.0, tt),
       );
+      honest = ((refl, tt), ((refl, (refl, tt)), tt));
       numbers = (numbers, (subst AreNumbered (sym checkpoint_leaves) numbers, tt));
-      told = record { answered = turns_at worked_begun first_deeds; held = [] } ∷ record { answered = turns_at (redone_all leaving worked_begun (entries_in first_deeds)) second_deeds; held = [] } ∷ [];
+      told = record { answered = turns_at worked_begun first_deeds; held = turns_at now held_deeds }
+          ∷ record { answered = turns_at (redone_all leaving now (entries_in held_deeds)) second_deeds; held = [] } ∷ [];
       received = all.1;
-      kept = all.2;
-      turns = all.3;
-      connected = (
-        life_connected worked_begun worked_checkpoint first_deeds lost_deeds true (omega arith),
-        (life_connected worked_begun (worked_checkpoint ++ entries_in first_deeds) second_deeds [] false (omega arith), tt),
-      );
+      recorded = all.2;
+      kept = all.3;
+      turns = all.4;
+      survive = λ none. some_held now (deposited 5 (codes "b") (delete_line (codes "oai:b:2"))) (requested 60 (codes "a") (codes "verb=ListRecords&metadataPrefix=oai_dc") ∷ []) [] none;
+      connected = life_connected worked_begun worked_checkpoint first_deeds held_deeds lost_deeds (omega arith);
+      left = life_left worked_begun left second_deeds [] [] (omega arith);
     }

@@ -1,6 +1,6 @@
 -- Lives of a server, one after the other: each as its service was, over what the one before it left, or over a
 -- checkpoint of it. A life is one run of the server. This repository's own.
-use Rattle.std.specs.Prelude.{◌≡◌, ℕ, IsTrue, List, [], ◌∷◌, length, Option, None, Some, Result, Ok, Err}
+use Rattle.std.specs.Prelude.{◌≡◌, ℕ, List, [], ◌∷◌, length, Option, None, Some, Result, Ok, Err}
 use Rattle.oai_front.specs.Performing.{Steps}
 use Rattle.oai_front.specs.Runs.{Served}
 use Rattle.oai_journal.specs.Records.{Entry}
@@ -31,11 +31,10 @@ abbrev pub served_behind : {H : Type 0} (step : Steps H) (settled : Settles H) (
 served_behind step settled mid (Ok done) new ends = []
 served_behind step settled mid (Err fault) new ends = ends.served
 
--- it began with no connection, with all records that it found replayed, over a device that returns what was written to
--- it; it was a service, of these rounds; and a crash at its end may leave what it left
+-- it began with no connection, and with all records that it found replayed; it was a service, of these rounds; and a
+-- crash at its end may leave what it left
 pub record IsServerLife {S H J : Type 0} (h : Replaying H) (j : journal.Ghosts J) (contents remaining : S → Option (List ℕ)) (begun : h.Kept) (life : ServerLife S H J) : Type 0 where
   pub begins : IsHeld h j begun life.old.handler life.found (length life.found)
-  pub honest : IsTrue (h.is_honest life.old.handler.handler)
   pub unlinked : life.old.links.slots ≡ []
   pub none : life.old.last ≡ 0
   pub serves : IsService (IsExchange h j) (IsSettled j) contents remaining life.known life.later life.old life.result life.new

@@ -1,6 +1,6 @@
 -- The theorem of a server over all its lives, in one definition. OAI-PMH 2.0, sections 2.7, 3.1.2.2 and 3.5;
 -- connections, deposits, lives, and many repositories behind one interface are this repository's own.
-use Rattle.std.specs.Prelude.{◌≡◌, ℕ, List, [], ◌∷◌, ◌++◌, map, Option}
+use Rattle.std.specs.Prelude.{◌≡◌, ℕ, IsTrue, List, [], ◌∷◌, ◌++◌, map, Option}
 use Rattle.std.specs.List.{AllByRecursion, AllZip, flat_map}
 use Rattle.oai_journal.specs.Records.{Entry}
 use Rattle.oai_serving.specs.Accepted.{Passes}
@@ -8,7 +8,8 @@ use Rattle.oai_serving.specs.Rounds.{served_in}
 use Rattle.oai_serving.specs.Tables.{AreAllAnswered}
 use Rattle.oai_config.specs.Configs.{HostConfig, NamedConfig}
 use Rattle.oai_host.specs.Alone.{own_answers, own_calls}
-use Rattle.oai_host.specs.Hosts.{Repository, begun}
+use Rattle.oai_host.specs.Hosts.{IsLater, Repository, begun}
+use Rattle.oai_host.specs.Performed.{StoreState}
 use Rattle.oai_host.specs.Saved.{ended_in}
 use Rattle.oai_durable.specs.Records.{redone_all}
 use Rattle.oai_durable.specs.Served.{AreThose}
@@ -41,6 +42,22 @@ pub record IsReceivedIn {S H J : Type 0} (contents remaining : S → Option (Lis
   pub gone : List (ℕ × S)
   pub passes : Passes life.known life.later streams gone
   pub clients : AreAllAnswered contents remaining streams gone (served_in life.rounds) life.new.links
+
+-- the life is over a store that returns what was written to it
+abbrev pub IsOverHonest : {S H J : Type 0} → (H → StoreState) → ServerLife S H J → Type 0
+IsOverHonest store life = IsTrue (store life.old.handler.handler).honest
+
+-- the turns of the life over its store, as it was at the begin, and no later than at the end: so each begins in the
+-- state that the replay of the records before it leaves, and its own record leaves what it did; and a fault of the
+-- device or of its room has its cause in this life
+pub record AreRecorded {S H J : Type 0} (store : H → StoreState) (begun : List Repository) (life : ServerLife S H J) (told : Told) : Type 0 where
+  pub reached : StoreState
+  pub turned : AreTurns begun life.found (store life.old.handler.handler) (turns_of told) reached
+  pub later : IsLater reached (store life.new.handler.handler)
+
+-- if the store is honest
+abbrev pub IsRecordedIn : {S H J : Type 0} → (H → StoreState) → List Repository → ServerLife S H J → Told → Type 0
+IsRecordedIn store begun life told = IsOverHonest store life → AreRecorded store begun life told
 
 -- each life finds exactly the records of the turns of all lives before it, and the last one leaves its own after them
 abbrev pub AreKept : {S H J : Type 0} → List Entry → List (ServerLife S H J) → List Told → List Entry → Type 0
@@ -77,22 +94,28 @@ eras_left begun before (era ∷ eras) = eras_left begun (redone_all leaving begu
 
 -- ---- the theorem
 
--- the eras are one history, written as turns. `received`: each client that was accepted was sent a prefix of the
--- answers to the messages that it sent. `recorded`: a turn did what the replay of its own record does, after the
--- records before it. `answered`: at each repository each answer without a fault is the machine's after what was
--- performed before it, in whichever life, and one with a fault did what its number of lines says, or nothing. `kept`:
--- in an era each life begins with the records of all turns before it, those of the answers that were sent among them.
--- `ended`: each era begins with all that was kept before it except the open lists, and raises the number of the next
--- list. `followed`: if visits without a fault follow a list by its unexpired tokens within an era, their pages, joined,
--- are the records selected at the first of them; a token of an earlier era is refused, and no number of a list is given
--- twice, in whichever eras. `harvested`: harvests miss nothing, in whichever eras they are made
-pub record IsServed {S H J : Type 0} (config : HostConfig) (contents remaining : S → Option (List ℕ)) (eras : List (ServerEra S H J)) : Type 0 where
+-- every life is over a store that returns what was written to it
+abbrev pub AreOverHonest : {S H J : Type 0} → (H → StoreState) → List (ServerEra S H J) → Type 0
+AreOverHonest {S} {H} {J} store eras = AllByRecursion (λ (era : ServerEra S H J). AllByRecursion (IsOverHonest store) era.lives) eras
+
+-- the eras are one history, written as turns. Over whatever stores: `received`: each client that was accepted was sent
+-- a prefix of the answers to the messages that it sent. `kept`: in an era each life begins with the records of all
+-- turns before it, those of the answers that were sent among them. `ended`: each era begins with all that was kept
+-- before it except the open lists, and raises the number of the next list. `recorded`: in a life over an honest store a
+-- turn did what the replay of its own record does, after the records before it. If all stores are honest: `answered`:
+-- at each repository each answer without a fault is the machine's after what was performed before it, in whichever
+-- life, and one with a fault did what its number of lines says, or nothing. `followed`: if visits without a fault
+-- follow a list by its unexpired tokens within an era, their pages, joined, are the records selected at the first of
+-- them; a token of an earlier era is refused, and no number of a list is given twice, in whichever eras. `harvested`:
+-- harvests miss nothing, in whichever eras they are made
+pub record IsServed {S H J : Type 0} (store : H → StoreState) (config : HostConfig) (contents remaining : S → Option (List ℕ)) (eras : List (ServerEra S H J)) : Type 0 where
   pub told : List (List Told)
   pub received : AllZip (λ (era : ServerEra S H J) (t : List Told). AllZip (IsReceivedIn contents remaining) era.lives t) eras told
-  pub recorded : AllZip (λ (era : ServerEra S H J) (t : List Told). AreTurns (map begun config.repositories) era.found (all_turns t)) eras told
-  pub answered : AllZip (λ (entry : NamedConfig) (repository : Repository). AreTrueOver entry.config (own_eras entry.name (eras_told eras told)) repository.state)
-      config.repositories (eras_left (map begun config.repositories) (map begun config.repositories) eras)
   pub kept : AllZip (λ (era : ServerEra S H J) (t : List Told). AreKept era.found era.lives t era.left) eras told
   pub ended : AreEndedBetween (map begun config.repositories) (map begun config.repositories) eras
-  pub followed : AllByRecursion (λ (entry : NamedConfig). FollowListsOver entry.config (own_eras entry.name (eras_told eras told))) config.repositories
-  pub harvested : AllByRecursion (λ (entry : NamedConfig). MissNothingOver entry.config (own_eras entry.name (eras_told eras told))) config.repositories
+  pub recorded : AllZip (λ (era : ServerEra S H J) (t : List Told). AllZip (IsRecordedIn store (map begun config.repositories)) era.lives t) eras told
+  pub answered : AreOverHonest store eras
+      → AllZip (λ (entry : NamedConfig) (repository : Repository). AreTrueOver entry.config (own_eras entry.name (eras_told eras told)) repository.state)
+      config.repositories (eras_left (map begun config.repositories) (map begun config.repositories) eras)
+  pub followed : AreOverHonest store eras → AllByRecursion (λ (entry : NamedConfig). FollowListsOver entry.config (own_eras entry.name (eras_told eras told))) config.repositories
+  pub harvested : AreOverHonest store eras → AllByRecursion (λ (entry : NamedConfig). MissNothingOver entry.config (own_eras entry.name (eras_told eras told))) config.repositories

@@ -1,11 +1,12 @@
 -- Messages that came to a host in all lives of its server, and what was done of each. This repository's own.
-use Rattle.std.specs.Prelude.{◌≡◌, IsTrue, List, [], ◌∷◌, ◌++◌}
+use Rattle.std.specs.Prelude.{◌≡◌, List, [], ◌∷◌, ◌++◌}
 use Rattle.std.specs.List.{flat_map}
 use Rattle.oai_http.specs.Exchanges.{call_at}
 use Rattle.oai_http.specs.declared.exchanges.Answer.{Answer}
 use Rattle.oai_http.specs.declared.exchanges.Call.{Call}
 use Rattle.oai_journal.specs.Records.{Entry}
 use Rattle.oai_host.specs.Hosts.{HostState, IsExchanged, Repository}
+use Rattle.oai_host.specs.Performed.{StoreState}
 use Rattle.oai_durable.specs.Journaled.{refused}
 use Rattle.oai_durable.specs.Lives.{Exchanged}
 use Rattle.oai_durable.specs.Records.{redone_all}
@@ -37,23 +38,21 @@ answers_in [] = []
 answers_in (was_performed e ∷ turns) = e.answer ∷ answers_in turns
 answers_in (was_refused e ∷ turns) = answers_in turns
 
--- a host of these repositories, over an honest store, exchanged the message, and these are the repositories afterwards
-pub record IsHostTurn (before : List Repository) (e : Exchanged) (after : List Repository) : Type 0 where
-  pub old : HostState
-  pub new : HostState
-  pub honest : IsTrue old.honest
-  pub begins : old.repositories ≡ before
-  pub ends : new.repositories ≡ after
-  pub exchanged : IsExchanged (call_at e.moment e.asked) e.answer old new
+-- a host of these repositories, over a store in that state
+abbrev pub host_in : List Repository → StoreState → HostState
+host_in repositories store = record { repositories = repositories; honest = store.honest; failures = store.failures; room = store.room }
 
--- what was done of it; nothing if it was refused
-abbrev pub IsTurn : List Repository → Turn → List Repository → Type 0
-IsTurn before (was_performed e) after = IsHostTurn before e after
-IsTurn before (was_refused e) after = (after ≡ before) × (e.answer ≡ refused e.asked.target)
+-- what was done of it: a host exchanged the message; or it was refused, and nothing was done
+abbrev pub IsTurn : List Repository → StoreState → Turn → List Repository → StoreState → Type 0
+IsTurn before old (was_performed e) after new = IsExchanged (call_at e.moment e.asked) e.answer (host_in before old) (host_in after new)
+IsTurn before old (was_refused e) after new = (after ≡ before) × (new ≡ old) × (e.answer ≡ refused e.asked.target)
 
--- turns, the first after these records, and each other one after those of the one before it: each begins in the state
--- that the replay of the records before it leaves, and ends in the one that these and its own leave
-abbrev pub AreTurns : List Repository → List Entry → List Turn → Type 0
-AreTurns begun before [] = Unit {0}
-AreTurns begun before (turn ∷ turns) =
-    IsTurn (redone_all leaving begun before) turn (redone_all leaving begun (before ++ (its turn).own)) × AreTurns begun (before ++ (its turn).own) turns
+-- turns over one store, from one of its states to another, the first after these records, and each other one after
+-- those of the one before it: each begins in the state that the replay of the records before it leaves, and ends in the
+-- one that these and its own leave
+abbrev pub AreTurns : List Repository → List Entry → StoreState → List Turn → StoreState → Type 0
+AreTurns begun before old [] new = new ≡ old
+AreTurns begun before old (turn ∷ turns) new =
+    (between : StoreState)
+    × IsTurn (redone_all leaving begun before) old turn (redone_all leaving begun (before ++ (its turn).own)) between
+    × AreTurns begun (before ++ (its turn).own) between turns new

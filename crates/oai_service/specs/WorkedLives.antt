@@ -1,7 +1,7 @@
 -- Worked lives of a server of two repositories, as turns: what the theorem asks of clients, lists and harvests can be
 -- met across an end, and after a checkpoint. OAI-PMH 2.0, sections 2.7.1, 3.1.2.2 and 3.5; deposits and lives are this
 -- repository's own.
-use Rattle.std.specs.Prelude.{◌≡◌, ◌≢◌, ℕ, pos, ◌+◌, Bool, true, false, nat_lt, List, [], ◌∷◌, ◌++◌, codes, length, map, Option, None, Some}
+use Rattle.std.specs.Prelude.{◌≡◌, ◌≢◌, ℕ, pos, ◌+◌, true, Contains, IsTrue, nat_lt, List, [], ◌∷◌, ◌++◌, codes, length, map, Option, None, Some}
 use Rattle.std.specs.Fmt.{decimal}
 use Rattle.std.specs.List.{AllByRecursion, AllZip, flat_map}
 use Rattle.slab.specs.Slab.{get}
@@ -18,7 +18,8 @@ use Rattle.oai_serving.specs.Accepted.{known_of}
 use Rattle.oai_serving.specs.Links.{Link}
 use Rattle.oai_serving.specs.Rounds.{served_in}
 use Rattle.oai_serving.specs.Tables.{IsNumbered}
-use Rattle.oai_host.specs.Hosts.{HostState, Repository, begun}
+use Rattle.oai_host.specs.Hosts.{HostState, Repository, begun, store_of}
+use Rattle.oai_host.specs.Performed.{StoreState}
 use Rattle.oai_host.specs.Redone.{reply_all}
 use Rattle.oai_host.specs.Saved.{ended_in, parts_in}
 use Rattle.oai_journal.specs.Journals.{IsLeft}
@@ -34,7 +35,7 @@ use Rattle.oai_headline.specs.Visits.{Visit, steps_of}
 use Rattle.oai_headline.specs.Worked.{delete_line, deposit_line, first_entry, post, second_entry, worked_host}
 use Rattle.oai_service.specs.Hosting.{AreNumbered, hosting, leaving, saving}
 use Rattle.oai_service.specs.Lives.{AreServerEras, ServerEra, ServerLife}
-use Rattle.oai_service.specs.Service.{AreKept, IsReceivedIn, Told, all_turns}
+use Rattle.oai_service.specs.Service.{AreKept, AreOverHonest, IsReceivedIn, IsRecordedIn, Told, all_turns}
 use Rattle.oai_service.specs.Turns.{AreTurns, Turn, answers_in, calls_in, was_performed}
 
 -- ---- what is done
@@ -83,7 +84,12 @@ first_deeds =
     ∷ deposited 0 (codes "a") (deposit_line (codes "oai:a:4") ++ deposit_line (codes "oai:a:5"))
     ∷ requested 0 (codes "a") (codes "verb=ListIdentifiers&metadataPrefix=oai_dc")
     ∷ requested 5 (codes "b") (codes "verb=ListRecords&metadataPrefix=oai_dc")
-    ∷ deposited 5 (codes "b") (delete_line (codes "oai:b:2"))
+    ∷ []
+
+-- at its end these are performed too; their answers are held back, but a crash leaves their records
+abbrev pub held_deeds : List Deed
+held_deeds =
+    deposited 5 (codes "b") (delete_line (codes "oai:b:2"))
     ∷ requested 60 (codes "a") (codes "verb=ListRecords&metadataPrefix=oai_dc")
     ∷ []
 
@@ -115,7 +121,7 @@ abbrev pub worked_checkpoint : List Entry
 worked_checkpoint = records_of (parts_in (ended_in 0 worked_begun))
 
 abbrev pub worked_turns : List Turn
-worked_turns = turns_at worked_begun (first_deeds ++ second_deeds)
+worked_turns = turns_at worked_begun (first_deeds ++ held_deeds ++ second_deeds)
 
 abbrev pub worked_given_a : List Visit
 worked_given_a = whole_visits (own_given first_entry (calls_in worked_turns) (answers_in worked_turns))
@@ -123,10 +129,12 @@ worked_given_a = whole_visits (own_given first_entry (calls_in worked_turns) (an
 abbrev pub worked_given_b : List Visit
 worked_given_b = whole_visits (own_given second_entry (calls_in worked_turns) (answers_in worked_turns))
 
--- they are turns after those records; a list is followed over three pages at the first repository, and three harvests
+-- they are turns after those records, over a store that does not fail; a list is followed over three pages at the first repository, and three harvests
 -- are made of the second, among visits of both lives
 pub record AreWorkedTurns (first second last : Visit) (one two three : Harvest) : Type 0 where
-  pub turned : AreTurns worked_begun worked_checkpoint worked_turns
+  pub store : StoreState
+  pub honest : IsTrue store.honest
+  pub turned : AreTurns worked_begun worked_checkpoint store worked_turns store
   pub following : IsFollowing worked_config worked_given_a all_records first (second ∷ last ∷ [])
   pub successive : AreSuccessive archive_b (flat_map (steps_of archive_b) worked_given_b) prefix one (two ∷ three ∷ [])
 
@@ -166,8 +174,8 @@ abbrev pub sent_for : Done → List ℕ
 sent_for done = sent_as done.message.asked
 
 -- at the end of the life a client is connected. It sent the messages that were served in the rounds that settled, and a
--- prefix of their answers, which is not empty, was written to it. The rest of these waits, or there is none
-pub record IsConnected (life : ServerLife Wire HostState Memory) (waits : Bool) : Type 0 where
+-- prefix of their answers, which is not empty, was written to it. The rest of these waits
+pub record IsConnected (life : ServerLife Wire HostState Memory) : Type 0 where
   pub key : ℕ
   pub link : Link Wire
   pub stands : get life.new.links key ≡ Some link
@@ -179,22 +187,45 @@ pub record IsConnected (life : ServerLife Wire HostState Memory) (waits : Bool) 
   pub came : client.unread ≡ flat_map sent_for (done_on link.connection.number (served_in life.rounds))
   pub told : answers_of (done_on link.connection.number (served_in life.rounds)) ≡ link.stream.written ++ link.connection.output
   pub some : link.stream.written ≢ []
-  pub rest : nat_lt 0 (length link.connection.output) ≡ waits
+  pub rest : nat_lt 0 (length link.connection.output) ≡ true
+
+-- a client left before the end of the life. It sent the messages that were served in the rounds that settled, all of
+-- their answers were written to it, and then its stream was let go
+pub record HasLeft (life : ServerLife Wire HostState Memory) : Type 0 where
+  pub streams : List Wire
+  pub gone : List (ℕ × Wire)
+  pub known : life.known ≡ known_of (Some []) (Some [])
+  pub later : life.later ≡ known_of (Some streams) (Some gone)
+  pub number : ℕ
+  pub client : Wire
+  pub numbered : IsNumbered streams number client
+  pub came : client.unread ≡ flat_map sent_for (done_on number (served_in life.rounds))
+  pub last : Wire
+  pub left : Contains gone (number, last)
+  pub told : last.written ≡ answers_of (done_on number (served_in life.rounds))
+  pub some : last.written ≢ []
 
 -- ---- the lives of a server
 
 -- three lives of a server: one, a checkpoint after it, and two more. The last two leave the records of the checkpoint,
--- followed by those of these turns. At the end of both a client is connected: a part of the answers to its messages
--- waits at the end of the first, and none at the end of the last
+-- followed by those of these turns. At the end of the first of them a client is connected, and a part of the answers to
+-- its messages waits; and a crash leaves the records of messages whose answers were held back. In the last one a client
+-- left after it was sent all of its answers
 pub record AreWorkedLives : Type 0 where
   pub first : ServerEra Wire HostState Memory
   pub one : length first.lives ≡ 1
   pub second : ServerEra Wire HostState Memory
-  pub two : length second.lives ≡ 2
+  pub before : ServerLife Wire HostState Memory
+  pub last : ServerLife Wire HostState Memory
+  pub two : second.lives ≡ before ∷ last ∷ []
   pub are : AreServerEras (hosting (λ (host : HostState). host)) saving in_memory written_to unread_of worked_begun None (first ∷ second ∷ [])
+  pub honest : AreOverHonest store_of (first ∷ second ∷ [])
   pub numbers : AllByRecursion (λ (era : ServerEra Wire HostState Memory). AreNumbered (redone_all leaving worked_begun era.found)) (first ∷ second ∷ [])
   pub told : List Told
   pub received : AllZip (IsReceivedIn written_to unread_of) second.lives told
+  pub recorded : AllZip (IsRecordedIn store_of worked_begun) second.lives told
   pub kept : AreKept worked_checkpoint second.lives told second.left
   pub turns : all_turns told ≡ worked_turns
-  pub connected : AllZip IsConnected second.lives (true ∷ false ∷ [])
+  pub survive : flat_map (λ (t : Told). t.held) told ≢ []
+  pub connected : IsConnected before
+  pub left : HasLeft last

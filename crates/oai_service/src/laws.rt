@@ -5,7 +5,7 @@ ghost use Rattle.std.specs.List.{AllByRecursion};
 ghost use Rattle.oai_config.specs.Configs.{HostConfig};
 ghost use Rattle.oai_headline.specs.Headline.{HaveRules};
 ghost use Rattle.oai_headline.specs.Visits.{Visit};
-ghost use Rattle.oai_host.specs.Hosts.{HostState, begun};
+ghost use Rattle.oai_host.specs.Hosts.{HostState, begun, store_of};
 ghost use Rattle.oai_laws.specs.Harvests.{Harvest};
 ghost use Rattle.oai_durable.specs.Records.{redone_all};
 ghost use Rattle.oai_journal.specs.Kept.{MayLeaveRecords};
@@ -33,20 +33,20 @@ use sqlite_disk::{Disk, Fuse};
 /// memory was refused and whichever device calls failed, the next one replays what is left; or a checkpoint of it. Then
 /// all of them are one history:
 ///
-/// - each client that is connected at the end of a life was sent a prefix of the answers to its messages, in order;
+/// - each client that a life accepted was sent a prefix of the answers to its messages, in order;
 /// - each life begins with the records of every message that was answered before it, and a checkpoint ends the open
 ///   lists, raises the number of the next, and changes nothing else;
 /// - at each repository each answer without a fault is the machine's after what was performed before it, in whichever
 ///   life;
 /// - lists that are followed by their unexpired tokens, by requests without a fault, are what was selected at their
-///   first request; a token of a list that a checkpoint ended is refused, and no number of a list is given twice, before
-///   a checkpoint or after it;
+///   first request; a token that was printed before a checkpoint is refused after it, and no number of a list is given
+///   twice;
 /// - harvests miss nothing, where deleted records are kept, even if each of them was made in another life, after
 ///   another checkpoint.
 ///
-/// The configuration is one that satisfies its rules. The first life begins with no record, and each is over a store
-/// that returns what was written to it. The lives between two checkpoints are an era; a checkpoint raises no number of
-/// a list beyond 64 bits. The function is empty.
+/// The first two hold over any stores, the others if the store of each life returns what was written to it. The
+/// configuration is one that satisfies its rules, and the first life begins with no record. The lives between two
+/// checkpoints are an era; a checkpoint raises no number of a list beyond 64 bits. The function is empty.
 pub fn service_law<S: Stream, V: Versions + Drop, J: Journal>()
     ensures { (config : HostConfig) (eras : List (ServerEra S HostState J)) → HaveRules config
         → AreServerEras (record {
@@ -64,7 +64,7 @@ pub fn service_law<S: Stream, V: Versions + Drop, J: Journal>()
           emptied = ⟦<Host<V> as Replayed>⟧.emptied;
         }) J.Journal S.contents S.remaining (map begun config.repositories) None eras
         → AllByRecursion (λ (era : ServerEra S HostState J). AreNumbered (redone_all leaving (map begun config.repositories) era.found)) eras
-        → IsServed config S.contents S.remaining eras }
+        → IsServed store_of config S.contents S.remaining eras }
 {}
 
 /// The same at the types that the program runs: the store is the one of pages over a device, and the journal a file.
@@ -92,7 +92,7 @@ pub fn service_on_files_law<S: Stream, P: PageDevice, D: Disk + Drop>()
           emptied = ⟦<Host<PagedVersions<P>> as Replayed>⟧.emptied;
         }) ⟦<FileJournal<D> as Journal>⟧ S.contents S.remaining (map begun config.repositories) None eras
         → AllByRecursion (λ (era : ServerEra S HostState _). AreNumbered (redone_all leaving (map begun config.repositories) era.found)) eras
-        → IsServed config S.contents S.remaining eras }
+        → IsServed store_of config S.contents S.remaining eras }
 {}
 
 /// A kill within a call of the journal is an instance of the theorem. `Fuse` passes the first calls on to its disk, any
@@ -110,16 +110,17 @@ pub fn killed_law<S: Stream, D: Disk + Drop>()
         → AreServerEras (hosting (λ (host : HostState). host)) saving ⟦<FileJournal<Fuse<D>> as Journal>⟧
         S.contents S.remaining (map begun config.repositories) None eras
         → AllByRecursion (λ (era : ServerEra S HostState _). AreNumbered (redone_all leaving (map begun config.repositories) era.found)) eras
-        → IsServed config S.contents S.remaining eras }
+        → IsServed store_of config S.contents S.remaining eras }
 {}
 
 /// The premises of the theorem can be met: three lives of a server of two repositories, one before a checkpoint and two
 /// after it. What these two serve is given. The first of them ends in the middle of a list and of a harvest; a deposit
 /// runs out of memory after its first line, and is repeated; at the first repository a list is followed over three
 /// pages, at the second three harvests are made, by the visits of both lives. The messages that are answered in a life
-/// come over one connection, as bytes that are given; it is open at the end, and a prefix of their answers was sent
-/// over it: in the first of the two lives a part of them, and in the last all. It is computed from the bytes of the
-/// records and messages; the function is empty.
+/// come over one connection, as bytes that are given. In the first of the two lives it is open at the end, and a part
+/// of their answers was sent over it; others, whose answers are held back, come over a second one, and a crash leaves
+/// the records of the first of these. In the last life the client was sent all answers, and left. It is computed from
+/// the bytes of the records and messages; the function is empty.
 pub fn worked_lives_law()
     ensures lived { AreWorkedLives }
     ensures turned { (first : Visit) × (second : Visit) × (last : Visit) × (one : Harvest) × (two : Harvest) × (three : Harvest)

@@ -17,14 +17,13 @@ use oai_serving::Stream;
 use sqlite_disk::Disk;
 
 /// What `serve` of oai_daemon, which `main` calls, returns is the end of a life of the theorem, over any disk and
-/// stream: provided that the disk returned what was written to it as the journal was read, and that the device of the
-/// pages does so, it began with all records of the journal, and leaves whatever a crash may leave of it. The function
-/// is empty.
+/// stream: provided that the disk returned what was written to it as the journal was read, it began with all records of
+/// the journal, and leaves whatever a crash may leave of it. The function is empty.
 pub fn program_life_law<S: Stream, D: Disk + Drop>()
     ensures { (text : List ℕ) (later : Known S) (result : Result Unit ServeFault) (new : World S (Parts HostState (Filed D)))
         (lived : HasLived ⟦<FileJournal<D> as Journal>⟧ D.Disk.seen D.Disk.is_clean S.contents S.remaining text later result new)
         (left : List Entry)
-        → IsTrue (D.Disk.is_clean (disk_of lived.recovery)) → IsTrue lived.old.handler.handler.honest
+        → IsTrue (D.Disk.is_clean (disk_of lived.recovery))
         → ⟦<FileJournal<D> as Journal>⟧.may_leave new.handler.journal left
         → (found : List Entry)
         × IsServerLife (hosting (λ host. host)) ⟦<FileJournal<D> as Journal>⟧ S.contents S.remaining (map begun lived.config.repositories) (record {
