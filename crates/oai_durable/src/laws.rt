@@ -2,17 +2,25 @@
 ghost use Rattle.oai_durable.specs.Checkpoints.{AreStages, IsHistory, Stage};
 ghost use Rattle.oai_durable.specs.Lives.{AreAmong, AreLives, Life, answered_in};
 ghost use Rattle.oai_durable.specs.Journaled.{IsExchange, IsHeld, IsSettled, Parts};
+ghost use Rattle.oai_durable.specs.Recovered.{TellsDamage};
 ghost use Rattle.oai_durable.specs.Served.{IsLived, IsRemembered, LivesAs};
+ghost use Rattle.oai_durable.specs.declared.recovery.RecoverFault.{RecoverFault};
+ghost use Rattle.oai_durable.specs.declared.recovery.RecoverFault.TheVariants as cause;
 ghost use Rattle.oai_front.specs.Runs.{Served};
+ghost use Rattle.oai_journal.specs.Changes.{IsChangedAt};
+ghost use Rattle.oai_journal.specs.Kept.{HoldsRecords};
 ghost use Rattle.oai_journal.specs.Records.{Entry};
+ghost use Rattle.oai_journal.specs.declared.file.FileJournal.{FileJournal};
+ghost use Rattle.oai_journal.specs.declared.recovery.RecoveryFault.TheVariants.{Damaged};
 ghost use Rattle.oai_serving.specs.Accepted.{Known};
 ghost use Rattle.oai_serving.specs.Rounds.{IsService, World, served_in};
 ghost use Rattle.oai_serving.specs.declared.faults.ServeFault.{ServeFault as Fault};
-ghost use Rattle.std.specs.Prelude.{◌≡◌, [], IsTrue, List, Result, length};
+ghost use Rattle.std.specs.Prelude.{◌≡◌, [], ℕ, IsTrue, List, Result, length};
 
 use oai_http::Replayed;
 use oai_journal::Journal;
 use oai_serving::Stream;
+use sqlite_disk::Disk;
 
 /// What the last of any number of lives of a handler left is one list of log records, in which every answer that was
 /// sent has its place, in order over all lives: an answer without a fault is what the records before it make of the
@@ -90,4 +98,17 @@ pub fn stages_law<H: Replayed>()
           ended = H.ended;
           emptied = H.emptied;
         }) begun stages left }
+{}
+
+/// Recovery of what a crash left of a journal, at any moment, does not end by damage, but for a cause that is named: out
+/// of memory, the disk, or a record that could not be performed. The premise is that no commit byte of the file was
+/// changed: an unset one is not followed by frames with the right digests and a set commit byte between them. A torn
+/// write may leave any bytes, so a crash could leave these by a collision of digests alone; see
+/// [`crash_law`](oai_journal::crash_law).
+pub fn recovery_law<D: Disk>()
+    ensures { (journal : FileJournal D) (entries : List Entry) (durable : ℕ) (file : List ℕ) (fault : RecoverFault)
+        → HoldsRecords D.Disk.seen D.Disk.may_leave journal entries durable → D.Disk.may_leave journal.disk file
+        → ((at : ℕ) → IsChangedAt file at → ⊥)
+        → TellsDamage file fault
+        → (at : ℕ) → fault ≡ cause.Journal (Damaged at) → ⊥ }
 {}

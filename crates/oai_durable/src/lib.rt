@@ -10,5 +10,5 @@ mod recovery;
 
 pub use checkpoints::{CheckpointFault, checkpoint};
 pub use journaled::Journaled;
-pub use laws::{life_law, restart_law, service_law, stages_law};
+pub use laws::{life_law, recovery_law, restart_law, service_law, stages_law};
 pub use recovery::{Progress, RecoverFault, recover, resume};

@@ -1,11 +1,11 @@
 //! Replays the records of a journal: crash recovery.
 ghost use Rattle.oai_durable.specs.Journaled.{IsHeld};
 ghost use Rattle.oai_durable.specs.Records.{left_by};
-ghost use Rattle.oai_durable.specs.Recovered.{HasRedone, IsRecovered};
+ghost use Rattle.oai_durable.specs.Recovered.{HasRedone, IsRecovered, TellsDamage, is_of_journal};
 ghost use Rattle.oai_journal.specs.Changes.{IsUndamaged};
 ghost use Rattle.oai_journal.specs.Records.{Entry, as_entry};
 ghost use Rattle.oai_journal.specs.Recovered.{HasRecovered, current, disk_of};
-ghost use Rattle.std.specs.Prelude.{◌≡◌, ◌++◌, ◌∷◌, [], ℕ, Some, false, IfOk, IfSome, IsTrue, List, OnOk, length};
+ghost use Rattle.std.specs.Prelude.{◌≡◌, ◌++◌, ◌∷◌, [], ℕ, Some, false, IfErr, IfOk, IfSome, IsTrue, List, OnOk, length};
 
 use crate::journaled::Journaled;
 use crate::records::{part_in, performed_in};
@@ -38,7 +38,8 @@ pub trait Progress {
 
 /// Replays the records of the journal after its first one, one by one, and restores those that are parts; returns how
 /// many there were. The recovery has begun. The journal is unchanged, also after an error: one of the journal's own, or
-/// one with the number of the record that could not be performed.
+/// one with the number of the record that could not be performed. It reports damage only at a byte where the file is
+/// damaged, or where a commit byte was changed; what a crash leaves is not damaged ([`recovery_law`](crate::recovery_law)).
 pub fn recover<H: Replayed, D: Disk + Drop, P: Progress>(
     handler: &mut H,
     recovery: &mut Recovery<D>,
@@ -48,6 +49,9 @@ pub fn recover<H: Replayed, D: Disk + Drop, P: Progress>(
         → HasRecovered D.Disk.seen D.Disk.may_leave recovery.old first []
         → IsRecovered H.kept H.is_honest (record { redone = H.redone; restored = H.restored }) D.Disk.seen D.Disk.may_leave (H.kept handler.old) handler.new
         recovery.new first count) }
+    ensures damaged { IfErr result (λ cause. IsTrue (D.Disk.is_clean (disk_of recovery.new)) → (first : Entry)
+        → HasRecovered D.Disk.seen D.Disk.may_leave recovery.old first []
+        → TellsDamage (D.Disk.seen (disk_of recovery.new)) cause) }
     ensures honesty { H.is_honest handler.new ≡ H.is_honest handler.old }
     ensures seen { D.Disk.seen (disk_of recovery.new) ≡ D.Disk.seen (disk_of recovery.old) }
     ensures crash { (c : List ℕ) → D.Disk.may_leave (disk_of recovery.new) c
@@ -55,10 +59,11 @@ pub fn recover<H: Replayed, D: Disk + Drop, P: Progress>(
     ensures clean { IsTrue (D.Disk.is_clean (disk_of recovery.new)) → IsTrue (D.Disk.is_clean (disk_of recovery.old)) }
 {
     for count in 0..u64::MAX {
-        if !redo_next(handler, recovery, count + 1)? {
-            return Ok(count);
+        match redo_next(handler, recovery, count + 1) {
+            Ok(true) => progress.note(recovery.position(), recovery.file_len(), count + 1),
+            Ok(false) => return Ok(count),
+            Err(fault) => return Err(fault),
         }
-        progress.note(recovery.position(), recovery.file_len(), count + 1);
     }
     Err(RecoverFault::Kind(u64::MAX))
 }
@@ -102,6 +107,9 @@ fn redo_next<H: Replayed, D: Disk + Drop>(
         → HasRedone H.kept H.is_honest (record { redone = H.redone; restored = H.restored }) D.Disk.seen D.Disk.may_leave begun handler.old recovery.old first entries
         → HasRedone H.kept H.is_honest (record { redone = H.redone; restored = H.restored }) D.Disk.seen D.Disk.may_leave begun handler.new recovery.new first entries
         × IsUndamaged (D.Disk.seen (disk_of recovery.new)) first entries) }
+    ensures damaged { IfErr result (λ cause. IsTrue (D.Disk.is_clean (disk_of recovery.new))
+        → (first : Entry) (entries : List Entry) → HasRecovered D.Disk.seen D.Disk.may_leave recovery.old first entries
+        → TellsDamage (D.Disk.seen (disk_of recovery.new)) cause) }
     ensures honesty { H.is_honest handler.new ≡ H.is_honest handler.old }
     ensures seen { D.Disk.seen (disk_of recovery.new) ≡ D.Disk.seen (disk_of recovery.old) }
     ensures crash { (c : List ℕ) → D.Disk.may_leave (disk_of recovery.new) c
@@ -126,6 +134,7 @@ fn redo_last<H: Replayed, D: Disk + Drop>(
 ) -> Result<(), RecoverFault>
     ensures redone { OnOk result ((e : Entry) → current recovery.now ≡ Some e → IsTrue (H.is_honest handler.old)
         → H.kept handler.new ≡ left_by (record { redone = H.redone; restored = H.restored }) (H.kept handler.old) e) }
+    ensures own { IfErr result (λ cause. is_of_journal cause ≡ false) }
     ensures honesty { H.is_honest handler.new ≡ H.is_honest handler.old }
 {
     match recovery.record() {
@@ -142,6 +151,7 @@ fn redo_entry<H: Replayed>(
 ) -> Result<(), RecoverFault>
     ensures redone { OnOk result (IsTrue (H.is_honest handler.old)
         → H.kept handler.new ≡ left_by (record { redone = H.redone; restored = H.restored }) (H.kept handler.old) (as_entry entry.now)) }
+    ensures own { IfErr result (λ cause. is_of_journal cause ≡ false) }
     ensures honesty { H.is_honest handler.new ≡ H.is_honest handler.old }
 {
     let done = match part_in(entry) {

@@ -1,5 +1,5 @@
 -- A record is read, and performed.
-use Rattle.oai_durable.proofs.RedoneLemmas.{next_redone}
+use Rattle.oai_durable.proofs.RedoneLemmas.{next_redone, tells_nothing, tells_own}
 use Rattle.oai_durable.proofs.recovery.redo_next.Goals as goal
 
 pub returns-in-Ok-clause-next : goal.returns-in-Ok-clause-next
@@ -14,3 +14,10 @@ pub returns-in-Ok-false-clause-end : goal.returns-in-Ok-false-clause-end
 returns-in-Ok-false-clause-end g c = λ none clean begun first entries had.
     let read = c.in-Ok-false.ensures.end clean first entries had.read c.in-Ok-false.field-0-test in
     (record { read = read.0; so = had.so }, read.1)
+
+pub returns-in-Err-redo_last-clause-damaged : goal.returns-in-Err-redo_last-clause-damaged
+returns-in-Err-redo_last-clause-damaged g c = λ clean first entries had. tells_nothing (g.D.Disk.seen c.advance.new.self.disk) c.in-Err-redo_last.fault c.in-Err-redo_last.ensures.own
+
+pub returns-in-Err-clause-damaged : goal.returns-in-Err-clause-damaged
+returns-in-Err-clause-damaged g c = λ clean first entries had.
+    tells_own (g.D.Disk.seen c.advance.new.self.disk) c.in-Err.fault (λ at is. c.in-Err.ensures.damaged at is clean first entries had)
