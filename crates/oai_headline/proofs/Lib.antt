@@ -18,6 +18,7 @@ pub mod ClientMetLemmas
 pub mod FoundLemmas
 pub mod WorkedCalls
 pub mod WorkedLemmas
+pub mod WorkedEraLemmas
 pub mod WorkedFaultLemmas
 pub mod HostRunLemmas
 pub mod ServedLemmas

@@ -29,14 +29,14 @@ use Rattle.oai_headline.proofs.TakenLemmas.{IsReachable, only_step, reachable_af
 
 -- ---- each visit comes upon a state that commands lead to
 
-abbrev IsReached : Config → Visit → Type 0
+abbrev pub IsReached : Config → Visit → Type 0
 IsReached config visit = IsReachable config visit.before
 
-all_reached : (config : Config) (state : RepoState) (calls : List Call) → IsReachable config state → AllByRecursion (IsReached config) (visits config state calls)
+pub all_reached : (config : Config) (state : RepoState) (calls : List Call) → IsReachable config state → AllByRecursion (IsReached config) (visits config state calls)
 all_reached config state [] h = tt
 all_reached config state (call ∷ calls) h = (h, all_reached config (exchanged_alone config state call).1 calls (reachable_after config state call h))
 
-part_reached : (config : Config) (some all : List Visit) → IsPart some all → AllByRecursion (IsReached config) all → AllByRecursion (IsReached config) some
+pub part_reached : (config : Config) (some all : List Visit) → IsPart some all → AllByRecursion (IsReached config) all → AllByRecursion (IsReached config) some
 part_reached config some [] none h = subst (AllByRecursion (IsReached config)) (sym none) tt
 part_reached config some (visit ∷ all) (inl part) h = part_reached config some all part h.1
 part_reached config some (visit ∷ all) (inr here) h =
@@ -72,7 +72,7 @@ step_is config visit step h =
     let both : step ∷ [] ≡ step_with config visit h.arguments ∷ [] = sym h.only ∙ only_step config visit h.arguments h.asked in
     let it : step ≡ step_with config visit h.arguments = cc in it
 
-printed_at : (config : Config) (visit : Visit) (step : Exchange) (page : Page) (offer : TokenOffer) → IsConfig config → AreRepositoryFormats config.formats → IsReached config visit
+pub printed_at : (config : Config) (visit : Visit) (step : Exchange) (page : Page) (offer : TokenOffer) → IsConfig config → AreRepositoryFormats config.formats → IsReached config visit
     → IsStepOf config visit step → page_shown step.outcome ≡ Some page → offer_in page.continuation ≡ Some offer → IsPrinted visit.answer offer
 printed_at config visit step page offer rules formats before h told offered =
     let found : RepoState = found_by visit in

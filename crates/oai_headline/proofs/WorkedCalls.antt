@@ -1,5 +1,5 @@
 -- What the exchanges of the worked run of a host carry, read and computed, are the worked runs of its two repositories.
-use Rattle.std.proofs.Common.{◌≡◌, ◌∙◌, ℕ, pos, ◌&&◌, Bool, true, List, [], ◌∷◌, codes, Option, None, Some, refl, sym, ap, arith}
+use Rattle.std.proofs.Common.{◌≡◌, ◌∙◌, ℕ, pos, ◌&&◌, Bool, true, List, [], ◌∷◌, ◌++◌, codes, Option, None, Some, refl, sym, ap, arith}
 use Rattle.std.specs.Str as str
 use Rattle.std.specs.Str.Lossy as lossy
 use Rattle.serde_json.proofs.OnLiterals.{serde_json_on_literals}
@@ -32,11 +32,12 @@ use Rattle.oai_laws.proofs.WorkedLemmas.{second}
 use Rattle.oai_laws.specs.Harvests.{records_since}
 use Rattle.oai_laws.specs.WorkedHarvests.{datestamp}
 use Rattle.oai_laws.specs.WorkedHarvests as beside
+use Rattle.oai_laws.proofs.WorkedEraLemmas.{bound_8, last_commands, later_commands}
 use Rattle.oai_laws.proofs.WorkedHarvestLemmas.{bound_5, bound_7, stamped}
 use Rattle.oai_http.specs.declared.exchanges.Call.{Call}
 use Rattle.oai_host.specs.Alone.{own_calls}
 use Rattle.oai_headline.specs.Visits.{commands_in}
-use Rattle.oai_headline.specs.Worked.{worked_calls}
+use Rattle.oai_headline.specs.Worked.{deposit_line, get, post, worked_calls}
 
 -- ---- a day
 
@@ -44,7 +45,7 @@ new_year_count : day_count (pos 2024) 1 1 ≡ 4_391_676
 new_year_count = day_count-early (pos 2024) 12023 1 1 refl (omega arith) (omega arith) (omega arith)
 
 -- 2024-01-01, by the number of the day
-new_year : calendar_day 739_251 ≡ record { year = 2024; month = 1; day = 1 }
+pub new_year : calendar_day 739_251 ≡ record { year = 2024; month = 1; day = 1 }
 new_year = day_is 2024 1 1 739_251 (omega arith) (omega arith) (omega arith) (omega (arith, signed_arith, days_from_civil-day_count, new_year_count))
 
 -- ---- the first repository
@@ -116,3 +117,49 @@ carried_b =
     ∙ ap (λ (text : List ℕ). carried_with (is_from (datestamp 5)) (datestamp 5) (is_from text) text) dated_7
     ∙ ap (λ (passes : Bool). carried_with passes (datestamp 5) (is_from (datestamp 7)) (datestamp 7)) bounded_5
     ∙ ap (λ (passes : Bool). carried_with true (datestamp 5) passes (datestamp 7)) bounded_7
+
+-- ---- calls after them
+
+-- a deposit at the first repository
+abbrev pub last_calls : List Call
+last_calls = post 124 (codes "/deposit/a") (deposit_line (codes "oai:a:6") ++ deposit_line (codes "oai:a:7")) ∷ []
+
+pub carried_last : commands_in Second last_calls ≡ last_commands
+unfolding line_of json_in shape_of has_members deposit_shape deletion_shape text_at texts_at elements_at elements_of records_at records_of record_of field_list_of asked_change have_xml_texts is_identifier is_scheme serde_json_on_literals str.is_utf8 str.chars decoded_pairs form_urlencoded_on_literals lossy.utf8_lossy lossy.utf8_valid_len request_of request_in arguments_in given values_of has_only_keys has_xml_values asked_verb form_of suit first_of first_list_of next_of are_bounds is_prefix is_xml_text lib.Utf8.encode
+carried_last = refl
+
+-- the second repository behind a checkpoint: a token comes again, an item is deposited, and what was deposited since is harvested
+abbrev pub later_calls : List Call
+later_calls =
+    get 9 (codes "/oai/b?verb=ListRecords&resumptionToken=1.2")
+    ∷ post 9 (codes "/deposit/b") (deposit_line (codes "oai:b:5"))
+    ∷ get 10 (codes "/oai/b?verb=ListRecords&metadataPrefix=oai_dc&from=2024-01-01T00:00:08Z")
+    ∷ []
+
+abbrev text_8 : List ℕ
+text_8 = codes "2024-01-01T00:00:08Z"
+
+dated_8 : text_8 ≡ datestamp 8
+unfolding date_text time_text
+dated_8 = sym (second_text_at (second 8) 739_251 8 (record { year = 2024; month = 1; day = 1 }) (omega (arith, signed_arith)) (omega arith) (omega arith) new_year)
+
+bounded_8 : is_from (datestamp 8) ≡ true
+unfolding are_bounds
+bounded_8 = ap (λ (b : Option Bound). is_some_bound Second b && true && are_not_turned b None) (stamped 8 bound_8)
+
+abbrev later_with : Bool → List ℕ → List Timed
+later_with passes since =
+    after 9 (next_request list.Records (codes "1.2"))
+    ∷ after 9 (deposit (codes "oai:b:5"))
+    ∷ after 10 (records_from passes since)
+    ∷ []
+
+read_later : commands_in Second later_calls ≡ later_with (is_from text_8) text_8
+unfolding line_of json_in shape_of has_members deposit_shape deletion_shape text_at texts_at elements_at elements_of records_at records_of record_of field_list_of asked_change have_xml_texts is_identifier is_scheme serde_json_on_literals str.is_utf8 str.chars decoded_pairs form_urlencoded_on_literals lossy.utf8_lossy lossy.utf8_valid_len request_of request_in arguments_in given values_of has_only_keys has_xml_values asked_verb form_of suit first_of first_list_of next_of are_bounds is_prefix is_xml_text lib.Utf8.encode
+read_later = refl
+
+pub carried_later : commands_in Second later_calls ≡ later_commands
+carried_later =
+    read_later
+    ∙ ap (λ (text : List ℕ). later_with (is_from text) text) dated_8
+    ∙ ap (λ (passes : Bool). later_with passes (datestamp 8)) bounded_8

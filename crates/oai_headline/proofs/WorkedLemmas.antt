@@ -112,7 +112,7 @@ asked_each = (
   (asks_for s10 (second 30) all_headers, (asks_next s12 (second 64) list.Records (codes "2.2"), (asks_next s14 (second 123) list.Records (codes "2.4"), tt))),
 )
 
-formats_kept : AreRepositoryFormats (dublin_core ∷ [])
+pub formats_kept : AreRepositoryFormats (dublin_core ∷ [])
 formats_kept = record { first = refl; declared = refl; apart = refl; few = omega arith }
 
 abbrev pub IsWorkedRun : Type 0

@@ -1,13 +1,14 @@
 -- A worked run of a host of two repositories, as exchanges. It shows that the premises of the theorem of a host can be
 -- met. OAI-PMH 2.0, sections 2.7.1, 3.1.2.2 and 3.5; deposits are this repository's own.
-use Rattle.std.specs.Prelude.{◌≡◌, ◌+◌, ℕ, pos, true, false, List, [], ◌∷◌, ◌++◌, length, codes, None, Some}
+use Rattle.std.specs.Prelude.{◌≡◌, ◌+◌, ℕ, pos, int_lt, true, false, List, [], ◌∷◌, ◌++◌, length, codes, None, Some}
 use Rattle.std.specs.List.{AllZip}
 use Rattle.oai_names.specs.declared.list_verbs.ListVerb.TheVariants as list
 use Rattle.oai_args.specs.Asks.{asks}
 use Rattle.oai_args.specs.declared.requests.Ask.TheVariants as ask
 use Rattle.oai_answers.specs.Answers.{Document, Page}
 use Rattle.oai_answers.specs.Documents.{document}
-use Rattle.oai_laws.specs.Following.{joined, page_in}
+use Rattle.oai_settings.specs.Config.{Config}
+use Rattle.oai_laws.specs.Following.{TokenOffer, joined, page_in}
 use Rattle.oai_laws.specs.Runs.{IsPart}
 use Rattle.oai_laws.specs.Worked.{all_records, identifiers, worked_config}
 use Rattle.oai_copy.specs.Copies.{caught_up_with}
@@ -17,7 +18,8 @@ use Rattle.oai_config.specs.Configs.{HostConfig, NamedConfig}
 use Rattle.oai_http.specs.Answers.{answered_with, asked_to_wait}
 use Rattle.oai_http.specs.declared.exchanges.Call.{Call}
 use Rattle.oai_headline.specs.Visits.{Visit, found_by}
-use Rattle.oai_headline.specs.Chains.{IsFollowing, IsRequest}
+use Rattle.oai_headline.specs.Chains.{IsFollowing, IsPrinted, IsRequest}
+use Rattle.oai_headline.specs.Eras.{IsTokenRefused}
 use Rattle.oai_headline.specs.Headline.{own_steps, own_visits}
 
 -- ---- the host
@@ -116,3 +118,16 @@ pub record AreMadeBeside (first second third : Harvest) : Type 0 where
   pub nothing : harvested third ≡ []
   pub copied : told (caught_up_with [] (harvested first ∷ harvested second ∷ harvested third ∷ []))
       ≡ (codes "oai:b:1", true) ∷ (codes "oai:b:2", false) ∷ (codes "oai:b:3", true) ∷ (codes "oai:b:4", true) ∷ []
+
+-- ---- a checkpoint
+
+-- a token that the answer to one of the earlier visits prints comes with one of the later ones, before it expires, and
+-- is refused (section 3.6), since its list was ended between them
+pub record IsTokenEnded (config : Config) (earlier later : List Visit) (before after : Visit) : Type 0 where
+  pub printing : IsPart (before ∷ []) earlier
+  pub coming : IsPart (after ∷ []) later
+  pub offer : TokenOffer
+  pub printed : IsPrinted before.answer offer
+  pub asked : IsRequest config.granularity after.call (asks (ask.Resume list.Records offer.token))
+  pub unexpired : int_lt (found_by after).clock offer.expires ≡ true
+  pub refused : IsTokenRefused after.answer

@@ -23,3 +23,4 @@ pub mod HarvestedLemmas
 pub mod HeldLemmas
 pub mod HarvestLemmas
 pub mod WorkedHarvestLemmas
+pub mod WorkedEraLemmas

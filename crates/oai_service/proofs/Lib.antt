@@ -5,4 +5,5 @@ pub mod ServiceLemmas
 pub mod MachineLemmas
 pub mod ClientLemmas
 pub mod WorkedLemmas
+pub mod WorkedEraLemmas
 pub mod WorkedLifeLemmas

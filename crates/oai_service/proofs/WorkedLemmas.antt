@@ -1,6 +1,5 @@
--- The two worked lives are turns, and what is asked of a list and of harvests is true of their visits.
+-- The worked lives are turns, and what is asked of a list and of harvests is true of their visits.
 use Rattle.std.proofs.Common.{◌≡◌, ◌∙◌, inl, inr, ℕ, ◌+◌, pos, Bool, true, false, ◌&&◌, not, List, [], ◌∷◌, ◌++◌, map, codes, None, Some, is_none, refl, sym, ap, subst, arith, take, unwrap_or}
-use Rattle.std.specs.Fmt as fmt
 use Rattle.std.specs.Prelude.{if◌then◌else◌}
 use Rattle.std.specs.List.{AllByRecursion, AllZip, flat_map, list_all}
 use Rattle.std.proofs.lemmas.Bool.{and_from, and_parts, cond-true, cond-false, false≢true}
@@ -33,11 +32,10 @@ use Rattle.oai_headline.specs.Worked.{deposit_line, first_entry, post, second_en
 use Rattle.oai_headline.proofs.FollowedLemmas.{next_asking}
 use Rattle.oai_headline.proofs.GivenLemmas.{asking_whole}
 use Rattle.oai_headline.proofs.TakenLemmas.{IsAsking}
-use Rattle.oai_headline.proofs.WorkedCalls.{carried_a, carried_b}
-use Rattle.oai_headline.proofs.WorkedLemmas.{worked_beside, worked_list}
+use Rattle.oai_headline.proofs.WorkedCalls.{last_calls}
 use Rattle.oai_service.specs.Hosting.{leaving}
 use Rattle.oai_service.specs.Turns.{AreTurns, IsTurn, Turn, answers_in, calls_in, records_in, was_performed}
-use Rattle.oai_service.specs.WorkedLives.{AreWorkedTurns, Deed, done_once, done_whole, entry_in, exchanged_at, first_deeds, held_deeds, second_deeds, turns_at, worked_begun, worked_checkpoint}
+use Rattle.oai_service.specs.WorkedLives.{Deed, done_once, done_whole, entry_in, exchanged_at, first_deeds, held_deeds, second_deeds, turns_at, worked_begun}
 use Rattle.oai_service.proofs.MachineLemmas.{IsOnce, leads_to_one, names_in, names_left, once_exchanged, reply_whole, sound_host, sound_store, whole_exchanged}
 use Rattle.oai_service.proofs.OwnLemmas.{IsMetAt, IsOwnMet, left_whole, other_answer, other_call, own_answer, own_call, turns_met, turns_once}
 
@@ -91,11 +89,11 @@ deeds_turned begun kept before (deed ∷ deeds) is fit =
 
 -- ---- what is done of them
 
-abbrev asked_alone : Call → List Call
+abbrev pub asked_alone : Call → List Call
 asked_alone call = if is_asked (task_of call) then call ∷ [] else []
 
 -- the calls that are done at the repository of that name
-abbrev planned : List ℕ → List Deed → List Call
+abbrev pub planned : List ℕ → List Deed → List Call
 planned name [] = []
 planned name (done_whole entry ∷ deeds) = (if leads_to_repository name (call_in entry).target then asked_alone (call_in entry) else []) ++ planned name deeds
 planned name (done_once call entry ∷ deeds) = (if leads_to_repository name call.target then calls_done_by call (failed NoMemory (Some 1)) else []) ++ planned name deeds
@@ -128,7 +126,7 @@ done_first name call answer calls answers first rest its others = by (leads_to_r
         ∙ others
         ∙ ap (λ (cs : List Call). cs ++ rest) (sym (cond-false (leads_to_repository name call.target) first [] other))
 
-done_planned : (name : List ℕ) (kept : List Repository) (deeds : List Deed)
+pub done_planned : (name : List ℕ) (kept : List Repository) (deeds : List Deed)
     → calls_done (own_calls name (calls_in (turns_at kept deeds))) (own_answers name (calls_in (turns_at kept deeds)) (answers_in (turns_at kept deeds))) ≡ planned name deeds
 done_planned name kept [] = refl
 done_planned name kept (done_whole entry ∷ deeds) =
@@ -142,16 +140,16 @@ done_planned name kept (done_once call entry ∷ deeds) =
 
 -- ---- a repository at which none fails
 
-abbrev call_of_deed : Deed → Call
+abbrev pub call_of_deed : Deed → Call
 call_of_deed (done_whole entry) = call_in entry
 call_of_deed (done_once call entry) = call
 
-calls_are : (kept : List Repository) (deeds : List Deed) → calls_in (turns_at kept deeds) ≡ map call_of_deed deeds
+pub calls_are : (kept : List Repository) (deeds : List Deed) → calls_in (turns_at kept deeds) ≡ map call_of_deed deeds
 calls_are kept [] = refl
 calls_are kept (done_whole entry ∷ deeds) = ap (λ (cs : List Call). call_in entry ∷ cs) (calls_are (left_by leaving kept entry) deeds)
 calls_are kept (done_once call entry ∷ deeds) = ap (λ (cs : List Call). call ∷ cs) (calls_are (left_by leaving kept entry) deeds)
 
-abbrev are_whole : List ℕ → List Deed → Bool
+abbrev pub are_whole : List ℕ → List Deed → Bool
 are_whole name [] = true
 are_whole name (done_whole entry ∷ deeds) = are_whole name deeds
 are_whole name (done_once call entry ∷ deeds) = not (leads_to_repository name call.target) && are_whole name deeds
@@ -168,7 +166,7 @@ not_so : (b : Bool) → not b ≡ true → b ≡ true → ⊥
 not_so true h so = false≢true h
 not_so false h so = false≢true so
 
-none_of_deeds : (name : List ℕ) (kept : List Repository) (deeds : List Deed) → are_whole name deeds ≡ true → none_failed (own_answers name (calls_in (turns_at kept deeds)) (answers_in (turns_at kept deeds))) ≡ true
+pub none_of_deeds : (name : List ℕ) (kept : List Repository) (deeds : List Deed) → are_whole name deeds ≡ true → none_failed (own_answers name (calls_in (turns_at kept deeds)) (answers_in (turns_at kept deeds))) ≡ true
 none_of_deeds name kept [] whole = refl
 none_of_deeds name kept (done_whole entry ∷ deeds) whole =
     let now : List Repository = left_by leaving kept entry in
@@ -239,20 +237,24 @@ following_a calls answers behind first second last given same chain =
       next = chain.next;
     }
 
+-- at the second one none fails, so that all its visits are whole
+pub whole_are : (start state : RepoState) (calls : List Call) (answers : List Answer) (own : List Call) → IsMetAt archive_b (codes "b") calls answers start state
+    → none_failed (own_answers (codes "b") calls answers) ≡ true → own_calls (codes "b") calls ≡ own → list_all (λ (call : Call). is_asked (task_of call)) own ≡ true
+    → whole_visits (visits_given archive_b start (own_calls (codes "b") calls) (own_answers (codes "b") calls answers)) ≡ visits archive_b start own
+whole_are start state calls answers own met none same asked =
+    let answers_are : own_answers (codes "b") calls answers ≡ answers_alone archive_b start own = met.alone none ∙ ap (answers_alone archive_b start) same in
+    ap (λ (cs : List Call). whole_visits (visits_given archive_b start cs (own_answers (codes "b") calls answers))) same
+    ∙ ap (λ (xs : List Answer). whole_visits (visits_given archive_b start own xs)) answers_are
+    ∙ all_whole archive_b start own asked
+
 successive_b : (calls : List Call) (answers : List Answer) (state : RepoState) (one two three : Harvest) → IsMetAt archive_b (codes "b") calls answers (empty_state archive_b) state
     → none_failed (own_answers (codes "b") calls answers) ≡ true → own_calls (codes "b") calls ≡ own_calls (codes "b") worked_calls
     → list_all (λ (call : Call). is_asked (task_of call)) (own_calls (codes "b") worked_calls) ≡ true
     → AreSuccessive archive_b (own_steps second_entry worked_calls) prefix one (two ∷ three ∷ [])
     → AreSuccessive archive_b (flat_map (steps_of archive_b) (whole_visits (own_given second_entry calls answers))) prefix one (two ∷ three ∷ [])
 successive_b calls answers state one two three met none same asked successive =
-    let own : List Call = own_calls (codes "b") worked_calls in
-    let start : RepoState = empty_state archive_b in
-    let answers_are : own_answers (codes "b") calls answers ≡ answers_alone archive_b start own = met.alone none ∙ ap (answers_alone archive_b start) same in
-    let visits_are : whole_visits (own_given second_entry calls answers) ≡ visits archive_b start own =
-    ap (λ (cs : List Call). whole_visits (visits_given archive_b start cs (own_answers (codes "b") calls answers))) same
-    ∙ ap (λ (xs : List Answer). whole_visits (visits_given archive_b start own xs)) answers_are
-    ∙ all_whole archive_b start own asked in
-    subst (λ (vs : List Visit). AreSuccessive archive_b (flat_map (steps_of archive_b) vs) prefix one (two ∷ three ∷ [])) (sym visits_are) successive
+    subst (λ (vs : List Visit). AreSuccessive archive_b (flat_map (steps_of archive_b) vs) prefix one (two ∷ three ∷ []))
+    (sym (whole_are (empty_state archive_b) state calls answers (own_calls (codes "b") worked_calls) met none same asked)) successive
 
 -- ---- the whole
 
@@ -276,25 +278,20 @@ pub all_fit : (names : List (List ℕ)) (front back : List Deed) → AllByRecurs
 all_fit names [] back first second = second
 all_fit names (deed ∷ front) back first second = (first.0, all_fit names front back first.1 second)
 
--- the deposit that is repeated
-repeated : List Call
-repeated = call_in (record { moment = pos (1_704_067_200 + 124); kind = kind.Deposit; name = codes "a"; body = deposit_line (codes "oai:a:6") ++ deposit_line (codes "oai:a:7") }) ∷ []
-
-same_a : planned (codes "a") (first_deeds ++ held_deeds ++ second_deeds) ≡ own_calls (codes "a") worked_calls ++ repeated
-unfolding repeated
+pub same_a : planned (codes "a") (first_deeds ++ held_deeds ++ second_deeds) ≡ own_calls (codes "a") worked_calls ++ last_calls
 same_a = refl
 
-same_b : own_calls (codes "b") (map call_of_deed (first_deeds ++ held_deeds ++ second_deeds)) ≡ own_calls (codes "b") worked_calls
+pub same_b : own_calls (codes "b") (map call_of_deed (first_deeds ++ held_deeds ++ second_deeds)) ≡ own_calls (codes "b") worked_calls
 same_b = refl
 
-whole_b : are_whole (codes "b") (first_deeds ++ held_deeds ++ second_deeds) ≡ true
+pub whole_b : are_whole (codes "b") (first_deeds ++ held_deeds ++ second_deeds) ≡ true
 whole_b = refl
 
-asked_b : list_all (λ (call : Call). is_asked (task_of call)) (own_calls (codes "b") worked_calls) ≡ true
+pub asked_b : list_all (λ (call : Call). is_asked (task_of call)) (own_calls (codes "b") worked_calls) ≡ true
 asked_b = refl
 
-with_deeds : (its : List Deed) (found : List Entry) → redone_all leaving worked_begun found ≡ worked_begun → AllByRecursion (IsFit (names_in worked_begun)) its
-    → planned (codes "a") its ≡ own_calls (codes "a") worked_calls ++ repeated
+pub with_deeds : (its : List Deed) (found : List Entry) → redone_all leaving worked_begun found ≡ worked_begun → AllByRecursion (IsFit (names_in worked_begun)) its
+    → planned (codes "a") its ≡ own_calls (codes "a") worked_calls ++ last_calls
     → own_calls (codes "b") (map call_of_deed its) ≡ own_calls (codes "b") worked_calls → are_whole (codes "b") its ≡ true
     → (first second last : Visit) (one two three : Harvest)
     → IsFollowing worked_config (own_visits first_entry worked_calls) all_records first (second ∷ last ∷ [])
@@ -310,18 +307,6 @@ with_deeds its found starts fits at_a at_b whole first second last one two three
     (turns_met worked_begun found turns (turns_once worked_begun found sound_store turns sound_store refl turned)) in
     let both : AreMetBoth (calls_in turns) (answers_in turns) = both_met (calls_in turns) (answers_in turns) (redone_all leaving worked_begun (found ++ records_in turns)) met in (
       turned,
-      following_a (calls_in turns) (answers_in turns) repeated first second last both.met_a.given (done_planned (codes "a") worked_begun its ∙ at_a) chain,
+      following_a (calls_in turns) (answers_in turns) last_calls first second last both.met_a.given (done_planned (codes "a") worked_begun its ∙ at_a) chain,
       successive_b (calls_in turns) (answers_in turns) both.state_b one two three both.met_b (none_of_deeds (codes "b") worked_begun its whole) (ap (own_calls (codes "b")) (calls_are worked_begun its) ∙ at_b) asked_b successive,
     )
-
--- the checkpoint leaves what was there
-pub checkpoint_leaves : redone_all leaving worked_begun worked_checkpoint ≡ worked_begun
-unfolding fmt.digits
-checkpoint_leaves = refl
-
-pub worked_turned : (first : Visit) × (second : Visit) × (last : Visit) × (one : Harvest) × (two : Harvest) × (three : Harvest) × AreWorkedTurns first second last one two three
-worked_turned =
-    let list = worked_list carried_a in
-    let beside = worked_beside carried_b in
-    let all = with_deeds (first_deeds ++ held_deeds ++ second_deeds) worked_checkpoint checkpoint_leaves (all_fit (names_in worked_begun) first_deeds (held_deeds ++ second_deeds) first_fit (all_fit (names_in worked_begun) held_deeds second_deeds held_fit second_fit)) same_a same_b whole_b list.0 list.2 list.3 beside.0 beside.1 beside.2 list.4.following beside.3.successive in
-    (list.0, list.2, list.3, beside.0, beside.1, beside.2, record { store = sound_store; honest = refl; turned = all.0; following = all.1; successive = all.2 })

@@ -1,5 +1,5 @@
 -- The worked lives are lives of a server.
-use Rattle.std.proofs.Common.{◌≡◌, ◌≢◌, ◌∙◌, inl, inr, ℕ, zero, suc, ◌<◌, Bool, true, false, List, [], ◌∷◌, ◌++◌, length, map, codes, drop, Option, None, Some, Ok, Err, slice_index_or, take, unwrap_or, refl, sym, ap, subst, arith}
+use Rattle.std.proofs.Common.{◌≡◌, ◌≢◌, ◌∙◌, inl, inr, ℕ, zero, suc, ◌<◌, Bool, true, false, List, [], ◌∷◌, ◌++◌, length, map, codes, drop, Option, None, Some, Ok, Err, slice_index_or, take, unwrap_or, refl, sym, ap, ap₂, subst, arith}
 use Rattle.std.specs.Fmt as fmt
 use Rattle.std.specs.List.{AllByRecursion, AllZip, flat_map, list_all}
 use Rattle.std.specs.Prelude.{Contains, nat_lt}
@@ -27,20 +27,22 @@ use Rattle.oai_serving.specs.Received.{IsReceived}
 use Rattle.oai_serving.specs.Rounds.{AreSettled, served_in}
 use Rattle.oai_serving.specs.Tables.{AreAllAnswered, AreAllThere, AreGoneAnswered, AreLinksAnswered, AreLinksKept, IsAnswered}
 use Rattle.oai_serving.specs.declared.faults.ServeFault.TheVariants.{Wait}
+use Rattle.oai_durable.specs.Checkpoints.{IsCheckpoint}
 use Rattle.oai_durable.specs.Journaled.{IsExchange, IsHeld, IsSettled, Parts}
 use Rattle.oai_durable.specs.Records.{call_in, left_by, redone_all}
 use Rattle.oai_headline.specs.Worked.{delete_line, deposit_line}
-use Rattle.oai_service.specs.Hosting.{AreNumbered, hosting, leaving}
+use Rattle.oai_service.specs.Hosting.{AreNumbered, hosting, leaving, saving}
 use Rattle.oai_service.specs.Lives.{AreServerLives, IsServerLife, ServerLife}
 use Rattle.oai_durable.specs.Served.{AreThose, told_by, Told as Answered}
 use Rattle.oai_service.specs.Service.{AreKept, IsReceivedIn, IsRecordedIn, Told, all_turns}
 use Rattle.oai_service.specs.Turns.{AreTurns, Turn, its, records_in, was_performed}
-use Rattle.oai_service.specs.WorkedLives.{AreWorkedLives, Deed, HasLeft, IsConnected, Memory, Wire, asked_in, deposited, done_once, done_whole, entry_in, exchanged_at, first_deeds, held_deeds, in_memory, requested, second_deeds, sent_as, sent_for, turns_at, unread_of, worked_begun, worked_checkpoint, written_to}
+use Rattle.oai_service.specs.WorkedLives.{AreWorkedLives, Deed, HasLeft, IsConnected, Memory, Wire, asked_in, deposited, done_once, done_whole, entry_in, exchanged_at, first_deeds, held_deeds, in_memory, requested, second_deeds, sent_as, sent_for, third_deeds, turns_at, unread_of, worked_begun, worked_checkpoint, worked_kept, worked_left, written_to}
 use Rattle.oai_service.proofs.ClientLemmas.{is_sent, message_of, read_all}
 use Rattle.oai_service.proofs.LifeLemmas.{long_append}
 use Rattle.oai_service.proofs.MachineLemmas.{names_in, once_exchanged, sound_host, sound_store, whole_exchanged}
 use Rattle.oai_service.proofs.TurnLemmas.{later_self, records_append}
-use Rattle.oai_service.proofs.WorkedLemmas.{IsFit, all_fit, checkpoint_leaves, deed_kind, deeds_turned, first_fit, held_fit, left_call, names_after, own_entry, redone_append, second_fit}
+use Rattle.oai_service.proofs.WorkedEraLemmas.{checkpoint_leaves, lives_leave, third_fit}
+use Rattle.oai_service.proofs.WorkedLemmas.{IsFit, all_fit, deed_kind, deeds_turned, first_fit, held_fit, left_call, names_after, own_entry, redone_append, second_fit}
 
 -- ---- a message
 
@@ -590,7 +592,7 @@ life_left begun found deeds held lost many =
       some = answers_some done (some_done kept deeds many);
     }
 
--- ---- the two
+-- ---- the three
 
 abbrev lost_deeds : List Deed
 lost_deeds = deposited 60 (codes "a") (deposit_line (codes "oai:a:9")) ∷ []
@@ -685,6 +687,36 @@ two_lives begun found front held back lost starts front_fit held_fit back_fit lo
           ∙ sym (turns_behind begun front (held ++ back)),
     )
 
+-- a life of one more era, over which nothing is held back, and whose client leaves
+one_life : (begun start : List Repository) (found : List Entry) (deeds : List Deed) → redone_all leaving begun found ≡ start → AllByRecursion (IsFit (names_in start)) deeds
+    → list_all is_sent (asked_all deeds) ≡ true
+    → (let left = (found ++ entries_in deeds) ++ [] in
+    let life = life_of begun found deeds [] [] false in
+    let told : List Told = record { answered = turns_at start deeds; held = [] } ∷ [] in
+    AreServerLives (hosting (λ (h : HostState). h)) in_memory written_to unread_of begun found (life ∷ []) left
+    × AllZip (IsReceivedIn written_to unread_of) (life ∷ []) told
+    × AllZip (IsRecordedIn store_of begun) (life ∷ []) told
+    × AreKept found (life ∷ []) told left
+    × (all_turns told ≡ turns_at start deeds))
+one_life begun start found deeds starts fit sent =
+    let kept : List Repository = redone_all leaving begun found in
+    let there : AllByRecursion (IsFit (names_in kept)) deeds = subst (λ (rs : List Repository). AllByRecursion (IsFit (names_in rs)) deeds) (sym starts) fit in
+    let none : turns_at start deeds ++ [] ≡ turns_at start deeds = append-nil (turns_at start deeds) in (
+      (refl, is_life begun found deeds [] [] false there tt sent, refl),
+      (
+        subst (λ (rs : List Repository). IsReceivedIn written_to unread_of (life_of begun found deeds [] [] false) (record { answered = turns_at rs deeds; held = [] })) starts
+            (life_told begun found deeds [] [] false sent),
+        tt,
+      ),
+      (
+        subst (λ (rs : List Repository). IsRecordedIn store_of begun (life_of begun found deeds [] [] false) (record { answered = turns_at rs deeds; held = [] })) starts
+            (life_recorded begun found deeds [] [] false (subst (AllByRecursion (IsFit (names_in kept))) (sym (append-nil deeds)) there)),
+        tt,
+      ),
+      (refl, append-nil (found ++ entries_in deeds) ∙ ap (λ (es : List Entry). found ++ es) (sym (ap records_in none ∙ records_of_turns start deeds))),
+      append-nil (turns_at start deeds ++ []) ∙ none,
+    )
+
 -- what is asked of them can be sent
 first_sent : list_all is_sent (asked_all first_deeds) ≡ true
 unfolding fmt.digits framing_in framing_of is_alike is_token_byte length_written any_close lists_close print_request trim_ows values_named
@@ -694,41 +726,60 @@ second_sent : list_all is_sent (asked_all second_deeds) ≡ true
 unfolding fmt.digits framing_in framing_of is_alike is_token_byte length_written any_close lists_close print_request trim_ows values_named
 second_sent = refl
 
-some_held : (kept : List Repository) (deed : Deed) (deeds : List Deed) (others : List Turn) → turns_at kept (deed ∷ deeds) ++ others ≡ [] → ⊥
-some_held kept deed deeds others none = cc
+third_sent : list_all is_sent (asked_all third_deeds) ≡ true
+unfolding fmt.digits framing_in framing_of is_alike is_token_byte length_written any_close lists_close print_request trim_ows values_named
+third_sent = refl
+
+some_held : (kept : List Repository) (deed : Deed) (deeds : List Deed) (others more : List Turn) → (turns_at kept (deed ∷ deeds) ++ others) ++ more ≡ [] → ⊥
+some_held kept deed deeds others more none = cc
 
 pub worked_lived : AreWorkedLives
 worked_lived =
-    let all = two_lives worked_begun worked_checkpoint first_deeds held_deeds second_deeds lost_deeds checkpoint_leaves first_fit held_fit second_fit ((refl, refl), tt) first_sent second_sent in
-    let numbers : AreNumbered worked_begun = (omega arith, (omega arith, tt)) in
-    let left : List Entry = (worked_checkpoint ++ entries_in first_deeds) ++ entries_in held_deeds in
+    let all = two_lives worked_begun [] first_deeds held_deeds second_deeds lost_deeds refl first_fit held_fit second_fit ((refl, refl), tt) first_sent second_sent in
+    let behind = one_life worked_begun worked_kept worked_checkpoint third_deeds checkpoint_leaves third_fit third_sent in
+    let begun_numbers : AreNumbered worked_begun = (omega arith, (omega arith, tt)) in
+    let kept_numbers : AreNumbered worked_kept = (omega arith, (omega arith, tt)) in
+    let left : List Entry = entries_in first_deeds ++ entries_in held_deeds in
+    let whole : List Entry = (left ++ entries_in second_deeds) ++ [] in
     let now : List Repository = redone_all leaving worked_begun (entries_in first_deeds) in
+    let together : whole ≡ entries_in (first_deeds ++ held_deeds ++ second_deeds) = refl in
+    let leaves : redone_all leaving worked_begun whole ≡ worked_left =
+    ap (redone_all leaving worked_begun) (together ∙ sym (records_of_turns worked_begun (first_deeds ++ held_deeds ++ second_deeds))) ∙ lives_leave in
     record {
-      first = record { raise = 0; found = []; lives = life_of worked_begun [] [] [] [] false ∷ []; left = [] };
-      one = refl;
-      second = record {
+      first = record {
         raise = 0;
-        found = worked_checkpoint;
-        lives = life_of worked_begun worked_checkpoint first_deeds held_deeds lost_deeds true ∷ life_of worked_begun left second_deeds [] [] false ∷ [];
-        left = (left ++ entries_in second_deeds) ++ [];
+        found = [];
+        lives = life_of worked_begun [] first_deeds held_deeds lost_deeds true ∷ life_of worked_begun left second_deeds [] [] false ∷ [];
+        left = whole;
       };
-      before = life_of worked_begun worked_checkpoint first_deeds held_deeds lost_deeds true;
+      before = life_of worked_begun [] first_deeds held_deeds lost_deeds true;
       last = life_of worked_begun left second_deeds [] [] false;
       two = refl;
+      second = record {
+        raise = 1_000_000;
+        found = worked_checkpoint;
+        lives = life_of worked_begun worked_checkpoint third_deeds [] [] false ∷ [];
+        left = (worked_checkpoint ++ entries_in third_deeds) ++ [];
+      };
+      one = refl;
       are = (
         (refl, refl),
-        (refl, is_life worked_begun [] [] [] [] false tt tt refl, refl),
-        (record { is = refl; leaves = checkpoint_leaves }, all.0, tt),
+        all.0,
+        (subst (λ (kept : List Repository). IsCheckpoint saving kept 1_000_000 worked_checkpoint) (sym leaves) (record { is = refl; leaves = checkpoint_leaves }), behind.0, tt),
       );
-      honest = ((refl, tt), ((refl, (refl, tt)), tt));
-      numbers = (numbers, (subst AreNumbered (sym checkpoint_leaves) numbers, tt));
-      told = record { answered = turns_at worked_begun first_deeds; held = turns_at now held_deeds }
-          ∷ record { answered = turns_at (redone_all leaving now (entries_in held_deeds)) second_deeds; held = [] } ∷ [];
-      received = all.1;
-      recorded = all.2;
-      kept = all.3;
-      turns = all.4;
-      survive = λ none. some_held now (deposited 5 (codes "b") (delete_line (codes "oai:b:2"))) (requested 60 (codes "a") (codes "verb=ListRecords&metadataPrefix=oai_dc") ∷ []) [] none;
-      connected = life_connected worked_begun worked_checkpoint first_deeds held_deeds lost_deeds (omega arith);
+      honest = ((refl, (refl, tt)), ((refl, tt), tt));
+      numbers = (begun_numbers, (subst AreNumbered (sym checkpoint_leaves) kept_numbers, tt));
+      raised = refl;
+      ended = leaves;
+      told = (record { answered = turns_at worked_begun first_deeds; held = turns_at now held_deeds }
+          ∷ record { answered = turns_at (redone_all leaving now (entries_in held_deeds)) second_deeds; held = [] } ∷ [])
+          ∷ (record { answered = turns_at worked_kept third_deeds; held = [] } ∷ []) ∷ [];
+      received = (all.1, (behind.1, tt));
+      recorded = (all.2, (behind.2, tt));
+      kept = (all.3, (behind.3, tt));
+      turns = ap₂ (λ (xs ys : List Turn). xs ∷ ys ∷ []) all.4 behind.4;
+      survive = λ none.
+          some_held now (deposited 5 (codes "b") (delete_line (codes "oai:b:2"))) (requested 60 (codes "a") (codes "verb=ListRecords&metadataPrefix=oai_dc") ∷ []) [] [] none;
+      connected = life_connected worked_begun [] first_deeds held_deeds lost_deeds (omega arith);
       left = life_left worked_begun left second_deeds [] [] (omega arith);
     }

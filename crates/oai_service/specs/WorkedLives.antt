@@ -1,11 +1,14 @@
 -- Worked lives of a server of two repositories, as turns: what the theorem asks of clients, lists and harvests can be
--- met across an end, and after a checkpoint. OAI-PMH 2.0, sections 2.7.1, 3.1.2.2 and 3.5; deposits and lives are this
+-- met across an end, and across a checkpoint. OAI-PMH 2.0, sections 2.7.1, 3.1.2.2 and 3.5; deposits and lives are this
 -- repository's own.
 use Rattle.std.specs.Prelude.{◌≡◌, ◌≢◌, ℕ, pos, ◌+◌, true, Contains, IsTrue, nat_lt, List, [], ◌∷◌, ◌++◌, codes, length, map, Option, None, Some}
 use Rattle.std.specs.Fmt.{decimal}
 use Rattle.std.specs.List.{AllByRecursion, AllZip, flat_map}
 use Rattle.slab.specs.Slab.{get}
+use Rattle.oai_names.specs.declared.list_verbs.ListVerb.TheVariants as list
+use Rattle.oai_item.specs.Item.{ItemState, live_item, tombstone_of}
 use Rattle.oai_item.specs.declared.faults.Fault.TheVariants.{NoMemory}
+use Rattle.oai_repo.specs.State.{FrozenList, RepoState}
 use Rattle.oai_laws.specs.Harvests.{AreSuccessive, Harvest}
 use Rattle.oai_laws.specs.Worked.{all_records, worked_config}
 use Rattle.oai_laws.specs.WorkedHarvests.{archive_b, prefix}
@@ -65,7 +68,7 @@ abbrev pub turns_at : List Repository → List Deed → List Turn
 turns_at kept [] = []
 turns_at kept (deed ∷ deeds) = was_performed (exchanged_at kept deed) ∷ turns_at (left_by leaving kept (entry_in deed)) deeds
 
--- ---- the two lives
+-- ---- the lives
 
 abbrev pub requested : ℕ → List ℕ → List ℕ → Deed
 requested seconds name arguments = done_whole (record { moment = pos (1_704_067_200 + seconds); kind = kind.Oai; name = name; body = arguments })
@@ -113,15 +116,90 @@ second_deeds =
     ∷ deposited 124 (codes "a") (deposit_line (codes "oai:a:6") ++ deposit_line (codes "oai:a:7"))
     ∷ []
 
+-- in the third life, behind a checkpoint, the token of the first harvest comes again at the second repository, before it
+-- expires; an item is deposited there, and a fourth harvest is made, from the datestamp of the third one
+abbrev pub third_deeds : List Deed
+third_deeds =
+    requested 9 (codes "b") (codes "verb=ListRecords&resumptionToken=1.2")
+    ∷ deposited 9 (codes "b") (deposit_line (codes "oai:b:5"))
+    ∷ requested 10 (codes "b") (codes "verb=ListRecords&metadataPrefix=oai_dc&from=2024-01-01T00:00:08Z")
+    ∷ []
+
 abbrev pub worked_begun : List Repository
 worked_begun = map begun worked_host.repositories
 
--- the records of a checkpoint of the two, while they hold nothing
-abbrev pub worked_checkpoint : List Entry
-worked_checkpoint = records_of (parts_in (ended_in 0 worked_begun))
+-- ---- the checkpoint
 
+-- an item with an empty record in Dublin Core, as it was deposited that many seconds after 2024-01-01T00:00:00Z
+abbrev pub item_at : ℕ → List ℕ → ItemState
+item_at seconds identifier = live_item identifier (pos (1_704_067_200 + seconds)) [] ((codes "oai_dc", []) ∷ [])
+
+-- what is left of it after it was deleted
+abbrev pub deleted_at : ℕ → ItemState → ItemState
+deleted_at seconds item = tombstone_of (pos (1_704_067_200 + seconds)) item
+
+-- the state of a repository at that second, with these items, one open list, and the number of the next list
+abbrev pub state_with : ℕ → List ItemState → FrozenList → ℕ → RepoState
+state_with seconds items one next = record {
+  clock = pos (1_704_067_200 + seconds);
+  holdings = record { items = items; sets = [] };
+  open_lists = record { lists = one ∷ []; next = next };
+}
+
+-- a list of records that is open until that second, of these items
+abbrev pub open_until : ℕ → ℕ → ℕ → List ItemState → FrozenList
+open_until seconds number given items = record {
+  number = number;
+  verb = list.Records;
+  prefix = codes "oai_dc";
+  items = items;
+  end = pos (1_704_067_200 + seconds);
+  given = given;
+}
+
+-- what the first two lives leave of the first repository: the list that was followed is open, for 59 seconds more
+abbrev pub left_a : RepoState
+left_a =
+    let front : List ItemState = item_at 0 (codes "oai:a:1") ∷ item_at 0 (codes "oai:a:2") ∷ item_at 0 (codes "oai:a:3") ∷ [] in
+    let fourth : ItemState = item_at 0 (codes "oai:a:4") in
+    state_with 124
+    (front ++ deleted_at 62 fourth ∷ item_at 70 (codes "oai:a:5") ∷ item_at 124 (codes "oai:a:6") ∷ item_at 124 (codes "oai:a:7") ∷ [])
+    (open_until 183 2 4 (front ++ fourth ∷ item_at 0 (codes "oai:a:5") ∷ []))
+    3
+
+-- and of the second one: the list of the first harvest is open, for 58 seconds more
+abbrev pub left_b : RepoState
+left_b =
+    let first : ItemState = item_at 0 (codes "oai:b:1") in
+    let second : ItemState = item_at 0 (codes "oai:b:2") in
+    let third : ItemState = item_at 0 (codes "oai:b:3") in
+    state_with 8
+    (first ∷ third ∷ deleted_at 5 second ∷ item_at 6 (codes "oai:b:4") ∷ [])
+    (open_until 66 1 2 (first ∷ second ∷ third ∷ []))
+    2
+
+abbrev pub worked_left : List Repository
+worked_left =
+    record { name = first_entry.name; config = first_entry.config; state = left_a }
+    ∷ record { name = second_entry.name; config = second_entry.config; state = left_b }
+    ∷ []
+
+-- it ends these lists, and raises the number of each next one by a million
+abbrev pub worked_kept : List Repository
+worked_kept = ended_in 1_000_000 worked_left
+
+abbrev pub worked_checkpoint : List Entry
+worked_checkpoint = records_of (parts_in worked_kept)
+
+-- ---- the turns
+
+-- before the checkpoint
 abbrev pub worked_turns : List Turn
 worked_turns = turns_at worked_begun (first_deeds ++ held_deeds ++ second_deeds)
+
+-- after it
+abbrev pub later_turns : List Turn
+later_turns = turns_at worked_kept third_deeds
 
 abbrev pub worked_given_a : List Visit
 worked_given_a = whole_visits (own_given first_entry (calls_in worked_turns) (answers_in worked_turns))
@@ -129,12 +207,14 @@ worked_given_a = whole_visits (own_given first_entry (calls_in worked_turns) (an
 abbrev pub worked_given_b : List Visit
 worked_given_b = whole_visits (own_given second_entry (calls_in worked_turns) (answers_in worked_turns))
 
--- they are turns after those records, over a store that does not fail; a list is followed over three pages at the first repository, and three harvests
--- are made of the second, among visits of both lives
+-- they are turns over a store that does not fail, the later ones after the records of the checkpoint; before it a list
+-- is followed over three pages at the first repository, and three harvests are made of the second, among visits of both
+-- lives
 pub record AreWorkedTurns (first second last : Visit) (one two three : Harvest) : Type 0 where
   pub store : StoreState
   pub honest : IsTrue store.honest
-  pub turned : AreTurns worked_begun worked_checkpoint store worked_turns store
+  pub turned : AreTurns worked_begun [] store worked_turns store
+  pub later : AreTurns worked_begun worked_checkpoint store later_turns store
   pub following : IsFollowing worked_config worked_given_a all_records first (second ∷ last ∷ [])
   pub successive : AreSuccessive archive_b (flat_map (steps_of archive_b) worked_given_b) prefix one (two ∷ three ∷ [])
 
@@ -207,25 +287,29 @@ pub record HasLeft (life : ServerLife Wire HostState Memory) : Type 0 where
 
 -- ---- the lives of a server
 
--- three lives of a server: one, a checkpoint after it, and two more. The last two leave the records of the checkpoint,
--- followed by those of these turns. At the end of the first of them a client is connected, and a part of the answers to
--- its messages waits; and a crash leaves the records of messages whose answers were held back. In the last one a client
--- left after it was sent all of its answers
+-- three lives of a server: two, a checkpoint after them, and one more. The last one leaves the records of the
+-- checkpoint, followed by those of its turns. At the end of the first life a client is connected, and a part of the
+-- answers to its messages waits; and a crash leaves the records of messages whose answers were held back. In the second
+-- one a client left after it was sent all of its answers. At the checkpoint a list is open at each repository
 pub record AreWorkedLives : Type 0 where
   pub first : ServerEra Wire HostState Memory
-  pub one : length first.lives ≡ 1
-  pub second : ServerEra Wire HostState Memory
   pub before : ServerLife Wire HostState Memory
   pub last : ServerLife Wire HostState Memory
-  pub two : second.lives ≡ before ∷ last ∷ []
+  pub two : first.lives ≡ before ∷ last ∷ []
+  pub second : ServerEra Wire HostState Memory
+  pub one : length second.lives ≡ 1
   pub are : AreServerEras (hosting (λ (host : HostState). host)) saving in_memory written_to unread_of worked_begun None (first ∷ second ∷ [])
   pub honest : AreOverHonest store_of (first ∷ second ∷ [])
   pub numbers : AllByRecursion (λ (era : ServerEra Wire HostState Memory). AreNumbered (redone_all leaving worked_begun era.found)) (first ∷ second ∷ [])
-  pub told : List Told
-  pub received : AllZip (IsReceivedIn written_to unread_of) second.lives told
-  pub recorded : AllZip (IsRecordedIn store_of worked_begun) second.lives told
-  pub kept : AreKept worked_checkpoint second.lives told second.left
-  pub turns : all_turns told ≡ worked_turns
-  pub survive : flat_map (λ (t : Told). t.held) told ≢ []
+  pub raised : second.raise ≡ 1_000_000
+  pub ended : redone_all leaving worked_begun first.left ≡ worked_left
+  pub told : List (List Told)
+  pub received : AllZip (λ (era : ServerEra Wire HostState Memory) (t : List Told). AllZip (IsReceivedIn written_to unread_of) era.lives t)
+      (first ∷ second ∷ []) told
+  pub recorded : AllZip (λ (era : ServerEra Wire HostState Memory) (t : List Told). AllZip (IsRecordedIn store_of worked_begun) era.lives t)
+      (first ∷ second ∷ []) told
+  pub kept : AllZip (λ (era : ServerEra Wire HostState Memory) (t : List Told). AreKept era.found era.lives t era.left) (first ∷ second ∷ []) told
+  pub turns : map all_turns told ≡ worked_turns ∷ later_turns ∷ []
+  pub survive : flat_map (λ (t : List Told). flat_map (λ (life : Told). life.held) t) told ≢ []
   pub connected : IsConnected before
   pub left : HasLeft last

@@ -113,14 +113,15 @@ pub fn killed_law<S: Stream, D: Disk + Drop>()
         → IsServed store_of config S.contents S.remaining eras }
 {}
 
-/// The premises of the theorem can be met: three lives of a server of two repositories, one before a checkpoint and two
-/// after it. What these two serve is given. The first of them ends in the middle of a list and of a harvest; a deposit
-/// runs out of memory after its first line, and is repeated; at the first repository a list is followed over three
-/// pages, at the second three harvests are made, by the visits of both lives. The messages that are answered in a life
-/// come over one connection, as bytes that are given. In the first of the two lives it is open at the end, and a part
-/// of their answers was sent over it; others, whose answers are held back, come over a second one, and a crash leaves
-/// the records of the first of these. In the last life the client was sent all answers, and left. It is computed from
-/// the bytes of the records and messages; the function is empty.
+/// The premises of the theorem can be met: three lives of a server of two repositories, two before a checkpoint and one
+/// after it. What they serve is given. The first of them ends in the middle of a list and of a harvest; a deposit runs
+/// out of memory after its first line, and is repeated; at the first repository a list is followed over three pages, at
+/// the second three harvests are made, by the visits of both lives. At the checkpoint a list is open at each repository,
+/// and the numbers of the next ones are raised by a million. The messages that are answered in a life come over one
+/// connection, as bytes that are given. In the first life it is open at the end, and a part of their answers was sent
+/// over it; others, whose answers are held back, come over a second one, and a crash leaves the records of the first of
+/// these. In the others the client was sent all answers, and left. It is computed from the bytes of the records and
+/// messages; the function is empty.
 pub fn worked_lives_law()
     ensures lived { AreWorkedLives }
     ensures turned { (first : Visit) × (second : Visit) × (last : Visit) × (one : Harvest) × (two : Harvest) × (three : Harvest)

@@ -1,4 +1,4 @@
-use Rattle.oai_service.proofs.WorkedLemmas.{worked_turned}
+use Rattle.oai_service.proofs.WorkedEraLemmas.{worked_turned}
 use Rattle.oai_service.proofs.WorkedLifeLemmas.{worked_lived}
 use Rattle.oai_service.proofs.laws.worked_lives_law.Goals as goal
 
