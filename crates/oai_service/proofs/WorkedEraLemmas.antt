@@ -1,5 +1,5 @@
 -- What the worked lives before the checkpoint leave, the checkpoint of it, and what is true over both eras.
-use Rattle.std.proofs.Common.{◌≡◌, ◌∙◌, ℕ, List, [], ◌∷◌, ◌++◌, map, codes, refl, sym, ap, ap₂, subst}
+use Rattle.std.proofs.Common.{◌≡◌, ◌∙◌, ℕ, true, List, [], ◌∷◌, ◌++◌, map, codes, refl, sym, ap, ap₂, subst}
 use Rattle.std.specs.Fmt as fmt
 use Rattle.std.specs.List.{AllByRecursion, AllZip, flat_map, list_all}
 use Rattle.std.proofs.lemmas.List.{append_assoc}
@@ -10,31 +10,35 @@ use Rattle.oai_item.specs.Encoding.{encoded}
 use Rattle.oai_item.specs.Encoding as encoding
 use Rattle.oai_item.specs.Items.{placed, without}
 use Rattle.oai_settings.specs.Config.{Config}
+use Rattle.oai_repo.specs.Saved.{ended}
 use Rattle.oai_repo.specs.State.{RepoState, empty_state}
-use Rattle.oai_laws.specs.Eras.{left_behind}
+use Rattle.oai_laws.specs.Eras.{AreSuccessiveWithin, left_behind}
 use Rattle.oai_laws.specs.Harvests.{Harvest}
-use Rattle.oai_laws.specs.Runs.{Timed}
+use Rattle.oai_laws.specs.Runs.{Exchange, Timed}
 use Rattle.oai_laws.specs.Worked.{worked_commands, worked_config}
-use Rattle.oai_laws.specs.WorkedHarvests.{archive_b}
-use Rattle.oai_laws.proofs.WorkedEraLemmas.{last_commands, list_left}
-use Rattle.oai_laws.proofs.WorkedHarvestLemmas.{left_all}
+use Rattle.oai_laws.specs.WorkedHarvests.{archive_b, harvest_run, prefix}
+use Rattle.oai_laws.proofs.WorkedEraLemmas.{got_4, harvest_4, harvests_over, last_commands, later_run, list_left}
+use Rattle.oai_laws.proofs.WorkedHarvestLemmas.{harvest_1, harvest_2, harvest_3, left_all}
 use Rattle.oai_http.specs.declared.exchanges.Answer.{Answer}
 use Rattle.oai_http.specs.declared.exchanges.Call.{Call}
 use Rattle.oai_host.specs.Alone.{own_answers, own_calls}
 use Rattle.oai_host.specs.Hosts.{Repository, begun}
+use Rattle.oai_host.specs.Tasks.{task_of}
 use Rattle.oai_durable.specs.Records.{redone_all}
-use Rattle.oai_headline.specs.Throughout.{calls_done, left_by}
-use Rattle.oai_headline.specs.Visits.{Visit, commands_by, commands_in}
+use Rattle.oai_headline.specs.Eras.{VisitedEra, era_leaves, era_steps, steps_within, visits_within}
+use Rattle.oai_headline.specs.Throughout.{calls_done, is_asked, left_by, visits_given, whole_visits}
+use Rattle.oai_headline.specs.Visits.{Visit, commands_by, commands_in, steps_of, visits}
 use Rattle.oai_headline.specs.Worked.{first_entry, second_entry, worked_calls}
 use Rattle.oai_headline.proofs.CarriedLemmas.{calls_behind}
-use Rattle.oai_headline.proofs.WorkedCalls.{carried_a, carried_b, carried_last, last_calls}
+use Rattle.oai_headline.proofs.WorkedCalls.{carried_a, carried_b, carried_last, last_calls, later_calls}
+use Rattle.oai_headline.proofs.WorkedEraLemmas.{earlier_steps, later_steps, token_ended}
 use Rattle.oai_headline.proofs.WorkedLemmas.{worked_beside, worked_list}
 use Rattle.oai_service.specs.Hosting.{leaving}
 use Rattle.oai_service.specs.Turns.{AreTurns, Turn, answers_in, calls_in, records_in}
-use Rattle.oai_service.specs.WorkedLives.{AreWorkedTurns, Deed, first_deeds, held_deeds, later_turns, left_a, left_b, second_deeds, third_deeds, turns_at, worked_begun, worked_checkpoint, worked_kept, worked_left}
+use Rattle.oai_service.specs.WorkedLives.{AreOverCheckpoint, AreWorkedTurns, Deed, first_deeds, held_deeds, later_turns, left_a, left_b, second_deeds, third_deeds, turns_at, worked_begun, worked_checkpoint, worked_eras, worked_kept, worked_left}
 use Rattle.oai_service.proofs.MachineLemmas.{names_in, sound_store}
-use Rattle.oai_service.proofs.OwnLemmas.{IsOwnMet, turns_met, turns_once}
-use Rattle.oai_service.proofs.WorkedLemmas.{IsFit, all_fit, deeds_turned, done_planned, first_fit, held_fit, planned, same_a, same_b, second_fit, whole_b, with_deeds}
+use Rattle.oai_service.proofs.OwnLemmas.{IsMetAt, IsOwnMet, turns_met, turns_once}
+use Rattle.oai_service.proofs.WorkedLemmas.{IsFit, all_fit, are_whole, asked_b, call_of_deed, calls_are, deeds_turned, done_planned, first_fit, held_fit, none_of_deeds, planned, same_a, same_b, second_fit, whole_are, whole_b, with_deeds}
 
 -- ---- what is left of the first repository
 
@@ -119,3 +123,96 @@ worked_turned =
     let beside = worked_beside carried_b in
     let all = with_deeds (first_deeds ++ held_deeds ++ second_deeds) [] refl earlier_fit same_a same_b whole_b list.0 list.2 list.3 beside.0 beside.1 beside.2 list.4.following beside.3.successive in
     (list.0, list.2, list.3, beside.0, beside.1, beside.2, record { store = sound_store; honest = refl; turned = all.0; later = later_turned; following = all.1; successive = all.2 })
+
+-- ---- the second repository over both eras
+
+abbrev earlier_turns : List Turn
+earlier_turns = turns_at worked_begun (first_deeds ++ held_deeds ++ second_deeds)
+
+-- what is known of it
+record IsMetOf (calls : List Call) (answers : List Answer) (before : RepoState) : Type 0 where
+  pub state : RepoState
+  pub met : IsMetAt archive_b (codes "b") calls answers before state
+
+met_second : (calls : List Call) (answers : List Answer) (first second : RepoState) (after : List Repository)
+    → AllZip (IsOwnMet calls answers) (made (codes "a") worked_config first ∷ made (codes "b") archive_b second ∷ []) after → IsMetOf calls answers second
+met_second calls answers first second [] met = absurd met
+met_second calls answers first second (y ∷ []) met = absurd met.1
+met_second calls answers first second (y ∷ z ∷ after) met = record { state = z.state; met = met.1.0.met }
+
+earlier_met : IsMetOf (calls_in earlier_turns) (answers_in earlier_turns) (empty_state archive_b)
+earlier_met =
+    let turned : AreTurns worked_begun [] sound_store earlier_turns sound_store = deeds_turned worked_begun worked_begun [] (first_deeds ++ held_deeds ++ second_deeds) refl earlier_fit in
+    met_second (calls_in earlier_turns) (answers_in earlier_turns) (empty_state worked_config) (empty_state archive_b) (redone_all leaving worked_begun (records_in earlier_turns))
+    (turns_met worked_begun [] earlier_turns (turns_once worked_begun [] sound_store earlier_turns sound_store refl turned))
+
+later_met : IsMetOf (calls_in later_turns) (answers_in later_turns) (ended 1_000_000 left_b)
+later_met =
+    met_second (calls_in later_turns) (answers_in later_turns) (ended 1_000_000 left_a) (ended 1_000_000 left_b) (redone_all leaving worked_begun (worked_checkpoint ++ records_in later_turns))
+    (subst (λ (rs : List Repository). AllZip (IsOwnMet (calls_in later_turns) (answers_in later_turns)) rs (redone_all leaving worked_begun (worked_checkpoint ++ records_in later_turns))) checkpoint_leaves
+    (turns_met worked_begun worked_checkpoint later_turns (turns_once worked_begun worked_checkpoint sound_store later_turns sound_store refl later_turned)))
+
+-- all its visits are whole
+earlier_whole : whole_visits (visits_given archive_b (empty_state archive_b) (own_calls (codes "b") (calls_in earlier_turns)) (own_answers (codes "b") (calls_in earlier_turns) (answers_in earlier_turns)))
+    ≡ visits archive_b (empty_state archive_b) (own_calls (codes "b") worked_calls)
+earlier_whole =
+    let its : List Deed = first_deeds ++ held_deeds ++ second_deeds in
+    whole_are (empty_state archive_b) earlier_met.state (calls_in earlier_turns) (answers_in earlier_turns) (own_calls (codes "b") worked_calls) earlier_met.met
+    (none_of_deeds (codes "b") worked_begun its whole_b) (ap (own_calls (codes "b")) (calls_are worked_begun its) ∙ same_b) asked_b
+
+third_b : own_calls (codes "b") (map call_of_deed third_deeds) ≡ later_calls
+third_b = refl
+
+third_whole : are_whole (codes "b") third_deeds ≡ true
+third_whole = refl
+
+third_asked : list_all (λ (call : Call). is_asked (task_of call)) later_calls ≡ true
+third_asked = refl
+
+later_whole : whole_visits (visits_given archive_b (ended 1_000_000 left_b) (own_calls (codes "b") (calls_in later_turns)) (own_answers (codes "b") (calls_in later_turns) (answers_in later_turns)))
+    ≡ visits archive_b (ended 1_000_000 left_b) later_calls
+later_whole =
+    whole_are (ended 1_000_000 left_b) later_met.state (calls_in later_turns) (answers_in later_turns) later_calls later_met.met
+    (none_of_deeds (codes "b") worked_kept third_deeds third_whole) (ap (own_calls (codes "b")) (calls_are worked_kept third_deeds) ∙ third_b) third_asked
+
+-- what is left of it
+earlier_left : left_by archive_b (empty_state archive_b) (calls_done (own_calls (codes "b") (calls_in earlier_turns)) (own_answers (codes "b") (calls_in earlier_turns) (answers_in earlier_turns))) ≡ left_b
+earlier_left = ap (left_by archive_b (empty_state archive_b)) (done_planned (codes "b") worked_begun (first_deeds ++ held_deeds ++ second_deeds) ∙ planned_b) ∙ left_by_b
+
+both_within : visits_within archive_b (empty_state archive_b) worked_eras
+    ≡ visits archive_b (empty_state archive_b) (own_calls (codes "b") worked_calls) ∷ visits archive_b (ended 1_000_000 left_b) later_calls ∷ []
+both_within =
+    let calls : List Call = own_calls (codes "b") (calls_in later_turns) in
+    let answers : List Answer = own_answers (codes "b") (calls_in later_turns) (answers_in later_turns) in
+    ap₂ (λ (xs ys : List Visit). xs ∷ ys ∷ []) earlier_whole
+    (ap (λ (state : RepoState). whole_visits (visits_given archive_b (ended 1_000_000 state) calls answers)) earlier_left ∙ later_whole)
+
+-- steps are those of the visits
+steps_by_visits : (config : Config) (state : RepoState) (eras : List VisitedEra) → steps_within config state eras ≡ map (flat_map (steps_of config)) (visits_within config state eras)
+steps_by_visits config state [] = refl
+steps_by_visits config state (era ∷ eras) =
+    ap (λ (all : List (List Exchange)). era_steps config state era ∷ all) (steps_by_visits config (era_leaves config state era) eras)
+
+both_steps : steps_within archive_b (empty_state archive_b) worked_eras ≡ harvest_run ∷ later_run ∷ []
+both_steps =
+    steps_by_visits archive_b (empty_state archive_b) worked_eras ∙ ap (map (flat_map (steps_of archive_b))) both_within
+    ∙ ap₂ (λ (xs ys : List Exchange). xs ∷ ys ∷ []) earlier_steps later_steps
+
+pub worked_over : (one : Harvest) × (two : Harvest) × (three : Harvest) × (four : Harvest) × (before : Visit) × (after : Visit) × AreOverCheckpoint one two three four before after
+worked_over =
+    let token = token_ended in (
+      harvest_1,
+      harvest_2,
+      harvest_3,
+      harvest_4,
+      token.0,
+      token.1,
+      record {
+        successive = subst (λ (all : List (List Exchange)). AreSuccessiveWithin archive_b all prefix harvest_1 (harvest_2 ∷ harvest_3 ∷ harvest_4 ∷ [])) (sym both_steps) harvests_over;
+        got = got_4;
+        earlier = visits archive_b (empty_state archive_b) (own_calls (codes "b") worked_calls);
+        later = visits archive_b (ended 1_000_000 left_b) later_calls;
+        within = both_within;
+        ended = token.2;
+      },
+    )

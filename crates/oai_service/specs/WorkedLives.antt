@@ -8,10 +8,11 @@ use Rattle.slab.specs.Slab.{get}
 use Rattle.oai_names.specs.declared.list_verbs.ListVerb.TheVariants as list
 use Rattle.oai_item.specs.Item.{ItemState, live_item, tombstone_of}
 use Rattle.oai_item.specs.declared.faults.Fault.TheVariants.{NoMemory}
-use Rattle.oai_repo.specs.State.{FrozenList, RepoState}
-use Rattle.oai_laws.specs.Harvests.{AreSuccessive, Harvest}
+use Rattle.oai_repo.specs.State.{FrozenList, RepoState, empty_state}
+use Rattle.oai_laws.specs.Eras.{AreSuccessiveWithin}
+use Rattle.oai_laws.specs.Harvests.{AreSuccessive, Harvest, harvested}
 use Rattle.oai_laws.specs.Worked.{all_records, worked_config}
-use Rattle.oai_laws.specs.WorkedHarvests.{archive_b, prefix}
+use Rattle.oai_laws.specs.WorkedHarvests.{archive_b, prefix, told as items_told}
 use Rattle.oai_http.specs.Answers.{failed}
 use Rattle.oai_http.specs.Exchanges.{Asked}
 use Rattle.oai_http.specs.declared.exchanges.Call.{Call}
@@ -33,12 +34,13 @@ use Rattle.oai_durable.specs.Checkpoints.{records_of}
 use Rattle.oai_durable.specs.Lives.{Exchanged}
 use Rattle.oai_durable.specs.Records.{call_in, left_by, redone_all}
 use Rattle.oai_headline.specs.Chains.{IsFollowing}
+use Rattle.oai_headline.specs.Eras.{VisitedEra, steps_within, visits_within}
 use Rattle.oai_headline.specs.Throughout.{own_given, whole_visits}
 use Rattle.oai_headline.specs.Visits.{Visit, steps_of}
-use Rattle.oai_headline.specs.Worked.{delete_line, deposit_line, first_entry, post, second_entry, worked_host}
+use Rattle.oai_headline.specs.Worked.{IsTokenEnded, delete_line, deposit_line, first_entry, post, second_entry, worked_host}
 use Rattle.oai_service.specs.Hosting.{AreNumbered, hosting, leaving, saving}
 use Rattle.oai_service.specs.Lives.{AreServerEras, ServerEra, ServerLife}
-use Rattle.oai_service.specs.Service.{AreKept, AreOverHonest, IsReceivedIn, IsRecordedIn, Told, all_turns}
+use Rattle.oai_service.specs.Service.{AreKept, AreOverHonest, IsReceivedIn, IsRecordedIn, Told, all_turns, own_era}
 use Rattle.oai_service.specs.Turns.{AreTurns, Turn, answers_in, calls_in, was_performed}
 
 -- ---- what is done
@@ -217,6 +219,25 @@ pub record AreWorkedTurns (first second last : Visit) (one two three : Harvest) 
   pub later : AreTurns worked_begun worked_checkpoint store later_turns store
   pub following : IsFollowing worked_config worked_given_a all_records first (second ∷ last ∷ [])
   pub successive : AreSuccessive archive_b (flat_map (steps_of archive_b) worked_given_b) prefix one (two ∷ three ∷ [])
+
+-- ---- over both eras
+
+-- the eras, as the second repository has them
+abbrev pub worked_eras : List VisitedEra
+worked_eras =
+    own_era second_entry.name (record { raise = 0; calls = calls_in worked_turns; answers = answers_in worked_turns })
+    ∷ own_era second_entry.name (record { raise = 1_000_000; calls = calls_in later_turns; answers = answers_in later_turns })
+    ∷ []
+
+-- at the second repository four harvests are made, three before the checkpoint and one after it, of what was deposited
+-- since the third one began; and a token that an answer before the checkpoint printed comes after it, and is refused
+pub record AreOverCheckpoint (one two three four : Harvest) (before after : Visit) : Type 0 where
+  pub successive : AreSuccessiveWithin archive_b (steps_within archive_b (empty_state archive_b) worked_eras) prefix one (two ∷ three ∷ four ∷ [])
+  pub got : items_told (harvested four) ≡ (codes "oai:b:5", true) ∷ []
+  pub earlier : List Visit
+  pub later : List Visit
+  pub within : visits_within archive_b (empty_state archive_b) worked_eras ≡ earlier ∷ later ∷ []
+  pub ended : IsTokenEnded archive_b earlier later before after
 
 -- ---- what a server has
 

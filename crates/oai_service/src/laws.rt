@@ -16,7 +16,7 @@ ghost use Rattle.sqlite_disk.specs.declared.fuse.Fuse.{Fuse};
 ghost use Rattle.oai_service.specs.Hosting.{AreNumbered, hosting, leaving, saving};
 ghost use Rattle.oai_service.specs.Lives.{AreServerEras, ServerEra};
 ghost use Rattle.oai_service.specs.Service.{IsServed};
-ghost use Rattle.oai_service.specs.WorkedLives.{AreWorkedLives, AreWorkedTurns};
+ghost use Rattle.oai_service.specs.WorkedLives.{AreOverCheckpoint, AreWorkedLives, AreWorkedTurns};
 
 use oai_catalogue::Versions;
 use oai_device::PageDevice;
@@ -117,7 +117,8 @@ pub fn killed_law<S: Stream, D: Disk + Drop>()
 /// after it. What they serve is given. The first of them ends in the middle of a list and of a harvest; a deposit runs
 /// out of memory after its first line, and is repeated; at the first repository a list is followed over three pages, at
 /// the second three harvests are made, by the visits of both lives. At the checkpoint a list is open at each repository,
-/// and the numbers of the next ones are raised by a million. The messages that are answered in a life come over one
+/// and the numbers of the next ones are raised by a million. After it a token that was printed before it comes before it
+/// expires, and is refused; and a fourth harvest is made of the second repository. The messages that are answered in a life come over one
 /// connection, as bytes that are given. In the first life it is open at the end, and a part of their answers was sent
 /// over it; others, whose answers are held back, come over a second one, and a crash leaves the records of the first of
 /// these. In the others the client was sent all answers, and left. It is computed from the bytes of the records and
@@ -126,4 +127,6 @@ pub fn worked_lives_law()
     ensures lived { AreWorkedLives }
     ensures turned { (first : Visit) × (second : Visit) × (last : Visit) × (one : Harvest) × (two : Harvest) × (three : Harvest)
         × AreWorkedTurns first second last one two three }
+    ensures over { (one : Harvest) × (two : Harvest) × (three : Harvest) × (four : Harvest) × (before : Visit) × (after : Visit)
+        × AreOverCheckpoint one two three four before after }
 {}
