@@ -96,6 +96,13 @@ def ghosts(kind, trait):
                 yield path, member[0]
 
 
+def with_supertraits(trait):
+    """A trait and its supertraits, whose members a quote of it has too."""
+    heads = [re.search(rf"^pub trait {trait}: ([\w +]+) {{", it.read_text(encoding="utf-8"), re.M) for it in TOP.glob("crates/*/src/**/*.rt")]
+    names = {name for head in heads if head for name in head[1].split(" + ")}
+    return {trait}.union(*map(with_supertraits, names))
+
+
 def clause():
     """The text of the law's contract, with its bounds."""
     path = TOP / "crates" / LAWS
@@ -108,7 +115,7 @@ def needed():
     """The definitions that the statement names, and those that they name in turn: of each its module, name and text; and the names of the toolchain."""
     path, text = clause()
     left = deque([(path, text)])
-    for kind, trait in sorted(set(TRAIT_OF.findall(text))):
+    for kind, trait in sorted({(kind, it) for kind, trait in TRAIT_OF.findall(text) for it in with_supertraits(trait)}):
         left.extend(ghosts(kind, trait))
     for trait in sorted(set(BOUND.findall(text.split("ensures")[0]))):
         left.extend(ghosts(None, trait))

@@ -1,7 +1,11 @@
 -- A host as a handler that its journal replays. This repository's own.
-use Rattle.std.specs.Prelude.{◌≤◌, List}
+use Rattle.std.specs.Prelude.{◌≤◌, ℕ, ℤ, Bool, List}
 use Rattle.std.specs.List.{AllByRecursion}
 use Rattle.oai_lists.specs.declared.lists.TheConstants.{LAST_NUMBER}
+use Rattle.oai_http.specs.Exchanges.{Asked}
+use Rattle.oai_http.specs.Parts.{PartState}
+use Rattle.oai_http.specs.declared.exchanges.Answer.{Answer}
+use Rattle.oai_http.specs.declared.exchanges.Call.{Call}
 use Rattle.oai_durable.specs.Checkpoints.{Saving}
 use Rattle.oai_durable.specs.Journaled.{Replaying}
 use Rattle.oai_durable.specs.Records.{Leaving}
@@ -33,3 +37,39 @@ saving = record { leaving = leaving; reply = reply_all; parts = parts_in; ended 
 -- the number of each next list is one of 64 bits
 abbrev pub AreNumbered : List Repository → Type 0
 AreNumbered repositories = AllByRecursion (λ (repository : Repository). repository.state.open_lists.next ≤ LAST_NUMBER) repositories
+
+-- what the traits `Handler` and `Replayed` say of a handler
+abbrev pub Promised : Type 0 → Type 1
+Promised H = record {
+  step : H → ℤ → Asked → Answer → H → Type 0;
+  Kept : Type 0;
+  kept : H → Kept;
+  is_honest : H → Bool;
+  redone : Kept → Call → Kept;
+  reply : Kept → Call → Answer;
+  restored : Kept → PartState → Kept;
+  parts : Kept → List PartState;
+  ended : ℕ → Kept → Kept;
+  emptied : Kept → Kept;
+}
+
+-- the handler of which they say it, as its journal replays it
+abbrev pub promised : {H : Type 0} → Promised H → Replaying H
+promised p = record {
+  step = p.step;
+  Kept = p.Kept;
+  kept = p.kept;
+  is_honest = p.is_honest;
+  leaving = record { redone = p.redone; restored = p.restored };
+  reply = p.reply;
+}
+
+-- and how it is saved
+abbrev pub promised_saving : {H : Type 0} → (p : Promised H) → Saving p.Kept
+promised_saving p = record {
+  leaving = record { redone = p.redone; restored = p.restored };
+  reply = p.reply;
+  parts = p.parts;
+  ended = p.ended;
+  emptied = p.emptied;
+}

@@ -13,7 +13,7 @@ ghost use Rattle.oai_journal.specs.Records.{Entry};
 ghost use Rattle.oai_journal.specs.declared.file.FileJournal.{FileJournal};
 ghost use Rattle.sqlite_disk.specs.Fuse.{inner_of};
 ghost use Rattle.sqlite_disk.specs.declared.fuse.Fuse.{Fuse};
-ghost use Rattle.oai_service.specs.Hosting.{AreNumbered, hosting, leaving, saving};
+ghost use Rattle.oai_service.specs.Hosting.{AreNumbered, hosting, leaving, promised, promised_saving, saving};
 ghost use Rattle.oai_service.specs.Lives.{AreServerEras, ServerEra};
 ghost use Rattle.oai_service.specs.Service.{IsServed};
 ghost use Rattle.oai_service.specs.WorkedLives.{AreOverCheckpoint, AreWorkedLives, AreWorkedTurns};
@@ -21,7 +21,7 @@ ghost use Rattle.oai_service.specs.WorkedLives.{AreOverCheckpoint, AreWorkedLive
 use oai_catalogue::Versions;
 use oai_device::PageDevice;
 use oai_host::Host;
-use oai_http::{Handler, Replayed};
+use oai_http::Replayed;
 use oai_journal::{FileJournal, Journal};
 use oai_paged::PagedVersions;
 use oai_serving::Stream;
@@ -49,20 +49,8 @@ use sqlite_disk::{Disk, Fuse};
 /// checkpoints are an era; a checkpoint raises no number of a list beyond 64 bits. The function is empty.
 pub fn service_law<S: Stream, V: Versions + Drop, J: Journal>()
     ensures { (config : HostConfig) (eras : List (ServerEra S HostState J)) → HaveRules config
-        → AreServerEras (record {
-          step = ⟦<Host<V> as Handler>⟧.step;
-          Kept = ⟦<Host<V> as Replayed>⟧.Kept;
-          kept = ⟦<Host<V> as Replayed>⟧.kept;
-          is_honest = ⟦<Host<V> as Replayed>⟧.is_honest;
-          leaving = record { redone = ⟦<Host<V> as Replayed>⟧.redone; restored = ⟦<Host<V> as Replayed>⟧.restored };
-          reply = ⟦<Host<V> as Replayed>⟧.reply;
-        }) (record {
-          leaving = record { redone = ⟦<Host<V> as Replayed>⟧.redone; restored = ⟦<Host<V> as Replayed>⟧.restored };
-          reply = ⟦<Host<V> as Replayed>⟧.reply;
-          parts = ⟦<Host<V> as Replayed>⟧.parts;
-          ended = ⟦<Host<V> as Replayed>⟧.ended;
-          emptied = ⟦<Host<V> as Replayed>⟧.emptied;
-        }) J.Journal S.contents S.remaining (map begun config.repositories) None eras
+        → AreServerEras (promised ⟦<Host<V> as Replayed>⟧) (promised_saving ⟦<Host<V> as Replayed>⟧)
+        J.Journal S.contents S.remaining (map begun config.repositories) None eras
         → AllByRecursion (λ (era : ServerEra S HostState J). AreNumbered (redone_all leaving (map begun config.repositories) era.found)) eras
         → IsServed store_of config S.contents S.remaining eras }
 {}
@@ -71,26 +59,9 @@ pub fn service_law<S: Stream, V: Versions + Drop, J: Journal>()
 /// The function is empty.
 pub fn service_on_files_law<S: Stream, P: PageDevice, D: Disk + Drop>()
     ensures { (config : HostConfig) (eras : List (ServerEra S HostState _)) → HaveRules config
-        → AreServerEras (record {
-          step = ⟦<Host<PagedVersions<P>> as Handler>⟧.step;
-          Kept = ⟦<Host<PagedVersions<P>> as Replayed>⟧.Kept;
-          kept = ⟦<Host<PagedVersions<P>> as Replayed>⟧.kept;
-          is_honest = ⟦<Host<PagedVersions<P>> as Replayed>⟧.is_honest;
-          leaving = record {
-            redone = ⟦<Host<PagedVersions<P>> as Replayed>⟧.redone;
-            restored = ⟦<Host<PagedVersions<P>> as Replayed>⟧.restored;
-          };
-          reply = ⟦<Host<PagedVersions<P>> as Replayed>⟧.reply;
-        }) (record {
-          leaving = record {
-            redone = ⟦<Host<PagedVersions<P>> as Replayed>⟧.redone;
-            restored = ⟦<Host<PagedVersions<P>> as Replayed>⟧.restored;
-          };
-          reply = ⟦<Host<PagedVersions<P>> as Replayed>⟧.reply;
-          parts = ⟦<Host<PagedVersions<P>> as Replayed>⟧.parts;
-          ended = ⟦<Host<PagedVersions<P>> as Replayed>⟧.ended;
-          emptied = ⟦<Host<PagedVersions<P>> as Replayed>⟧.emptied;
-        }) ⟦<FileJournal<D> as Journal>⟧ S.contents S.remaining (map begun config.repositories) None eras
+        → AreServerEras (promised ⟦<Host<PagedVersions<P>> as Replayed>⟧)
+        (promised_saving ⟦<Host<PagedVersions<P>> as Replayed>⟧)
+        ⟦<FileJournal<D> as Journal>⟧ S.contents S.remaining (map begun config.repositories) None eras
         → AllByRecursion (λ (era : ServerEra S HostState _). AreNumbered (redone_all leaving (map begun config.repositories) era.found)) eras
         → IsServed store_of config S.contents S.remaining eras }
 {}
