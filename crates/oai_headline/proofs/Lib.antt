@@ -21,3 +21,5 @@ pub mod WorkedLemmas
 pub mod WorkedFaultLemmas
 pub mod HostRunLemmas
 pub mod ServedLemmas
+pub mod ConfigTexts
+pub mod XmlLemmas
