@@ -1,6 +1,6 @@
 -- Where the texts of the configuration and of all commands are legal, so are those of what a repository holds and answers.
-use Rattle.std.proofs.Common.{◌≡◌, ◌∙◌, ◌+◌, inl, inr, ℕ, ℤ, Bool, true, false, cond, ◌&&◌, not, List, [], ◌∷◌, ◌++◌, length, map, take, drop, Option, None, Some, is_some, refl, sym, ap, subst}
-use Rattle.std.specs.Prelude.{filter, find, nat_le, nat_lt}
+use Rattle.std.proofs.Common.{◌≡◌, ◌∙◌, ◌+◌, inl, inr, ℕ, ℤ, Bool, true, false, cond, ◌&&◌, not, List, [], ◌∷◌, length, map, take, drop, Option, None, Some, is_some, refl, sym, ap, subst}
+use Rattle.std.specs.Prelude.{find, nat_le, nat_lt}
 use Rattle.std.specs.List.{list_all}
 use Rattle.std.specs.Str.{bytes_eq}
 use Rattle.std.proofs.lemmas.Bool.{and_parts, cond_both}
@@ -14,7 +14,7 @@ use Rattle.oai_lists.specs.declared.tokens.Token.{Token}
 use Rattle.oai_item.specs.Formats.{format_named}
 use Rattle.oai_item.specs.Item.{ItemState, Metadata, emptied, has_record, live_item, tombstone_of}
 use Rattle.oai_item.specs.Items.{item_named, without}
-use Rattle.oai_item.specs.Membership.{distinct, is_above, reduced}
+use Rattle.oai_item.specs.Membership.{distinct, reduced}
 use Rattle.oai_item.specs.Selection.{Filter, passes, selected}
 use Rattle.oai_item.specs.declared.changes.Change.{Change}
 use Rattle.oai_item.specs.declared.changes.Change.TheVariants as change
@@ -26,16 +26,16 @@ use Rattle.oai_item.proofs.Named.{of_found as of_named}
 use Rattle.oai_item.proofs.OrderLemmas.{all-placed}
 use Rattle.oai_args.specs.Asks.{AskOrError, asks, bad_argument, bad_verb}
 use Rattle.oai_args.specs.declared.requests.Ask.TheVariants as ask
-use Rattle.oai_answers.specs.Answers.{Answer, Attributes, Document, Page, completes, is_offered, offered, remains}
+use Rattle.oai_answers.specs.Answers.{Attributes, Document, Page, completes, is_offered, offered, remains}
 use Rattle.oai_answers.specs.Documents.{document}
 use Rattle.oai_xml.specs.LegalTexts.{is_legal_text}
 use Rattle.oai_xml.specs.Documents.{tree_in}
 use Rattle.oai_settings.specs.Config.{Config, IsConfig}
 use Rattle.oai_repo.specs.Answers.{arguments_of_request, disseminated, filter_of, formats_answer, item_formats_answer, record_answer, sets_answer}
 use Rattle.oai_repo.specs.Changes.{after_deletion, after_purge, changed, is_past, limit_of, purged, refusal_of, stamp_at, with_new, with_tombstone}
-use Rattle.oai_repo.specs.Listing.{Response, answer_by_verb, carried_on_at, complete_answer, complete_page, continued_at, continued_response, extent_at, format_response, has_no_sets, is_continued, is_of_number, items_from, list_response, new_list, next_cursor, opens_list, part_answer, part_from, prolonged, request_response, retry_after, selection_response, token_response, wait_at, where_continued, with_answer, with_carried_on, with_new_list}
+use Rattle.oai_repo.specs.Listing.{Response, answer_by_verb, carried_on_at, complete_answer, complete_page, continued_response, extent_at, format_response, has_no_sets, is_continued, is_of_number, items_from, list_response, new_list, next_cursor, opens_list, part_answer, part_from, prolonged, request_response, retry_after, selection_response, token_response, wait_at, where_continued, with_answer}
 use Rattle.oai_repo.specs.Machine.{Command, Outcome, accepted, act, act_on_change, changing, documented, later, outcome_of, refused_with, rejecting, requesting}
-use Rattle.oai_repo.specs.State.{FrozenList, Holdings, NamedSet, OpenLists, RepoState, empty_state, is_open_at, moved}
+use Rattle.oai_repo.specs.State.{FrozenList, NamedSet, OpenLists, RepoState, empty_state, is_open_at, moved}
 use Rattle.oai_repo.proofs.KeptLemmas.{well-without}
 use Rattle.oai_laws.specs.Eras.{left_behind}
 use Rattle.oai_laws.specs.Runs.{Exchange, IsPart, Throughout, Timed, performed, run}
@@ -44,7 +44,7 @@ use Rattle.oai_laws.proofs.FollowLemmas.{part_items}
 use Rattle.oai_laws.proofs.StandLemmas.{of_found}
 use Rattle.oai_documents.specs.Answering.{have_namespaces}
 use Rattle.oai_documents.specs.DocumentTrees.{document_tree}
-use Rattle.oai_documents.specs.Texts.{are_legal_commands, have_legal_arguments, is_legal_change, is_legal_command, is_legal_config, is_legal_field, is_legal_format, is_legal_item, is_legal_record, is_legal_set}
+use Rattle.oai_documents.specs.Texts.{are_legal_commands, have_legal_arguments, is_legal_change, is_legal_command, is_legal_config, is_legal_format, is_legal_item, is_legal_record, is_legal_set}
 use Rattle.oai_documents.specs.WellFormed.{may_be_default}
 use Rattle.oai_documents.proofs.Answered.{IsGivenDocument, given_whole, some_answer}
 use Rattle.oai_documents.proofs.LegalTrees.{IsLegalAnswer, document_legal, is_legal_token, token_legal}

@@ -1,24 +1,24 @@
 -- The texts that requests and deposit lines carry are legal, whatever bytes they were read from.
-use Rattle.std.proofs.Common.{◌≡◌, ◌∙◌, ◌+◌, ◌<◌, ◌≤◌, inl, inr, ℕ, zero, suc, Bool, true, false, cond, ◌&&◌, ◌||◌, not, eqb, List, [], ◌∷◌, ◌++◌, length, map, take, drop, get_or, filter, codes, Option, None, Some, Result, Ok, Err, refl, sym, ap, subst, arith}
+use Rattle.std.proofs.Common.{◌≡◌, ◌∙◌, ◌+◌, ◌<◌, ◌≤◌, inl, inr, ℕ, zero, suc, Bool, true, false, cond, ◌&&◌, ◌||◌, not, eqb, List, [], ◌∷◌, ◌++◌, length, map, take, drop, get_or, codes, Option, None, Some, Result, Ok, Err, refl, sym, ap, subst, arith}
 use Rattle.std.specs.Prelude.{nat_le, nat_lt, slice_index}
 use Rattle.std.specs.Int.{is_in_range}
 use Rattle.std.specs.Option.{unwrap_or}
 use Rattle.std.specs.Char.{is_ascii_alphabetic, is_ascii_alphanumeric}
-use Rattle.std.specs.List.{after_first, before_first, list_all, list_any, onto_first, position_or_len, slice_split}
+use Rattle.std.specs.List.{after_first, before_first, list_all, onto_first, position_or_len, slice_split}
 use Rattle.std.specs.Ordering.{match_ordering, nat_cmp}
 use Rattle.std.specs.Cmp.Lexicographic.{slice_cmp}
 use Rattle.std.specs.declared.cmp.Ordering.{Ordering}
 use Rattle.std.specs.declared.cmp.Ordering.TheVariants.{Less, Equal, Greater}
 use Rattle.std.specs.Str.{IsUtf8, bytes_eq, is_utf8}
 use Rattle.std.specs.Str.Lossy.{after_first_chunk, error_len_after_one, error_len_after_two, error_len_of_some, replacement_bytes, second_byte_max, second_byte_min, utf8_error_len, utf8_invalid_len, utf8_lossy, utf8_valid_len, valid_len_up_to}
-use Rattle.std.proofs.lemmas.Bool.{and_from, and_parts, cases_Bool, cases_lt, cond-false, cond-true, eq-eqb, eqb-true, true≢false}
+use Rattle.std.proofs.lemmas.Bool.{and_parts, cases_Bool, cases_lt, cond-false, cond-true, eq-eqb, eqb-true, true≢false}
 use Rattle.std.proofs.lemmas.Bool.Decides.{nat_tests}
 use Rattle.std.proofs.lemmas.List.{length-drop, take_all}
 use Rattle.std.proofs.lemmas.List.Folds.{list_all-append}
 use Rattle.std.proofs.lemmas.List.Sums.{passes_at_first, split_at_first}
 use Rattle.std.proofs.lemmas.Str.{IsUtf8-append, IsUtf8-from_is_utf8, IsUtf8-nil, is_utf8-from_IsUtf8, utf8_lossy-IsUtf8, utf8_lossy_step, utf8_valid_len_le}
 use lib.Utf8.{encode}
-use Rattle.serde_json.specs.Data.{Data, Items, Members, array, boolean, item, member, no_items, no_members, null, number, object, string}
+use Rattle.serde_json.specs.Data.{Data, Members, array, boolean, member, no_members, null, number, object, string}
 use Rattle.serde_json.specs.Find.{get, get_member}
 use Rattle.serde_json.specs.Read.{read}
 use Rattle.oai_names.specs.Characters.{is_xml_text}
@@ -36,9 +36,9 @@ use Rattle.oai_item.specs.declared.changes.Change.TheVariants as change
 use Rattle.oai_item.specs.declared.fields.Field.{Field}
 use Rattle.oai_item.specs.declared.refusals.LineRefusal.{LineRefusal}
 use Rattle.oai_item.specs.declared.refusals.LineRefusal.TheVariants.{BadIdentifier, BadSetSpec, BadText}
-use Rattle.oai_deposit.specs.Json.{array_of, items_of, json_in, members_of, object_of}
+use Rattle.oai_deposit.specs.Json.{items_of, json_in, members_of}
 use Rattle.oai_deposit.specs.Lines.{Shape, adds_set, asked_change, change_asked, deletes, deposits, have_xml_texts, line_of, purges, shape_of, value_asked}
-use Rattle.oai_deposit.specs.Shapes.{IsDeposit, IsNewSet, IsShape, written_field, written_record, written_records}
+use Rattle.oai_deposit.specs.Shapes.{IsShape, written_field, written_record, written_records}
 use Rattle.oai_deposit.proofs.ShapeLemmas.{shape_law_holds}
 use Rattle.oai_args.specs.Arguments.{given, given_of}
 use Rattle.oai_args.specs.Asks.{AskOrError, IsAskOrError, asks, at_most_once, bad_argument, bad_verb}
@@ -50,7 +50,7 @@ use Rattle.oai_args.proofs.RequestLemmas.{gives_the_answer}
 use Rattle.oai_xml.specs.LegalTexts.{is_legal_text}
 use Rattle.oai_xml.proofs.LegalSpellings.{is_plain}
 use Rattle.oai_repo.specs.Answers.{arguments_of_request}
-use Rattle.oai_repo.specs.Machine.{Command, command_of, line, query}
+use Rattle.oai_repo.specs.Machine.{command_of, line, query}
 use Rattle.oai_documents.specs.Texts.{have_legal_arguments, is_legal_argument, is_legal_change, is_legal_command, is_legal_field, is_legal_record}
 use Rattle.oai_documents.proofs.JsonTexts.{are_text_elements, are_text_values, is_text_data, read_text}
 use Rattle.oai_documents.proofs.LegalTrees.{plain_text}

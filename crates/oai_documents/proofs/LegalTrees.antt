@@ -16,12 +16,11 @@ use Rattle.oai_lists.specs.Tokens.{token_text}
 use Rattle.oai_lists.specs.declared.tokens.Token.{Token}
 use Rattle.oai_item.specs.Formats.{dublin_core}
 use Rattle.oai_item.specs.Item.{ItemState, Metadata, fields_in, fields_of, record_named}
-use Rattle.oai_item.specs.Rules.{is_allowed}
 use Rattle.oai_item.specs.declared.deleted_record.DeletedRecord.{DeletedRecord}
 use Rattle.oai_item.specs.declared.deleted_record.DeletedRecord.TheVariants.{No, Transient, Persistent}
 use Rattle.oai_item.specs.declared.fields.Field.{Field}
 use Rattle.oai_item.specs.declared.formats.Format.{Format}
-use Rattle.oai_answers.specs.Answers.{Answer, Attributes, Continuation, Description, Document, Page, arguments_told, completes, fails, gives_record, identifies, lists_formats, lists_headers, lists_records, lists_sets, no_arguments, remains, whole}
+use Rattle.oai_answers.specs.Answers.{Answer, Attributes, Continuation, Description, Document, Page, arguments_told, completes, fails, gives_record, identifies, lists_formats, lists_headers, lists_records, lists_sets, remains, whole}
 use Rattle.oai_answers.specs.Documents.{code_of, deleted_text, granularity_text, message_of}
 use Rattle.oai_answers.specs.Seen.{IsGoodFormat, IsRegular, has_own_fields}
 use Rattle.oai_answers.specs.declared.errors.ErrorCode.{ErrorCode}

@@ -1,6 +1,6 @@
 -- Texts that XML allows, in the configuration of a repository, in what it holds, in commands and in answers: UTF-8, of XML's characters.
 -- XML 1.0 (fifth edition), sections 2.2 and 4.3.3.
-use Rattle.std.specs.Prelude.{◌≡◌, ℕ, Bool, true, ◌&&◌, List, Option, None, Some}
+use Rattle.std.specs.Prelude.{ℕ, Bool, true, ◌&&◌, List, Option, None, Some}
 use Rattle.std.specs.List.{list_all}
 use Rattle.oai_item.specs.Item.{ItemState, Metadata}
 use Rattle.oai_item.specs.declared.changes.Change.{Change}

@@ -163,8 +163,7 @@ in_xml_eras : (config : Config) (state : RepoState) (eras : List VisitedEra) →
     → AreAnsweredInXml config state eras
 in_xml_eras config state [] fit held numbers given = tt
 in_xml_eras config state (era ∷ eras) fit held numbers given =
-    let begun = holds_ended config era.raise state numbers.0 held in
-    (
+    let begun = holds_ended config era.raise state numbers.0 held in (
       in_xml_each config (era_begins state era) era.calls era.answers fit begun given.0.given,
       in_xml_eras config (era_leaves config state era) eras fit (holds_left config (era_begins state era) (calls_done era.calls era.answers) fit begun) numbers.1 given.1,
     )

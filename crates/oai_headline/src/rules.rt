@@ -1,11 +1,14 @@
 //! The rules that every accepted configuration satisfies.
+ghost use Rattle.std.specs.Prelude.{◌≡◌, true};
 ghost use Rattle.std.specs.List.{All};
+ghost use Rattle.oai_documents.specs.Texts.{is_legal_config};
 ghost use Rattle.oai_headline.specs.Headline.{HasRules, HaveRules};
 ghost use Rattle.oai_headline.specs.XmlAnswers.{HasTexts, HasUtf8Texts, HaveTexts, IsUtf8Text};
 
 use oai_config::{Config, NamedConfig};
 use oai_item::Format;
 use oai_names::Text;
+use oai_settings::RepoConfig;
 
 /// A configuration satisfies the rules that the theorem requires. It iterates over the repositories, since the
 /// invariant of the type of each one's configuration is known where that is read, and returns nothing.
@@ -51,11 +54,19 @@ fn have_texts(entries: &[NamedConfig])
 fn has_texts(entry: &NamedConfig)
     ensures { HasTexts entry.now }
 {
-    let _count = entry.config.formats().len();
-    is_text(entry.config.base());
-    is_text(entry.config.repository_name());
-    are_texts(entry.config.addresses());
-    are_formats(entry.config.formats().as_slice());
+    is_legal(&entry.config);
+}
+
+fn is_legal(config: &RepoConfig)
+    ensures { is_legal_config config.now ≡ true }
+{
+    let _count = config.formats().len();
+    let base = config.base();
+    let name = config.repository_name();
+    is_text(base);
+    is_text(name);
+    are_texts(config.addresses());
+    are_formats(config.formats().as_slice());
 }
 
 fn are_texts(texts: &[Text])
