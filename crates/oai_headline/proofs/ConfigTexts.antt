@@ -1,11 +1,9 @@
 -- The texts of a configuration that satisfies its rules are legal, if they are UTF-8.
-use Rattle.std.proofs.Common.{◌≡◌, ◌∙◌, ◌<◌, ℕ, zero, suc, Bool, true, ◌&&◌, not, eqb, List, [], ◌∷◌, length, codes, Option, None, Some, refl, sym, ap, subst, arith}
+use Rattle.std.proofs.Common.{◌≡◌, ◌∙◌, ℕ, suc, true, ◌&&◌, not, eqb, List, [], ◌∷◌, length, codes, None, Some, refl, ap, arith}
 use Rattle.std.specs.Prelude.{nat_le}
 use Rattle.std.specs.Int.{is_in_range}
 use Rattle.std.specs.List.{All, AllByRecursion, list_all, list_any}
-use Rattle.std.specs.Str.{is_utf8}
 use Rattle.std.proofs.lemmas.Bool.{and_parts}
-use Rattle.oai_names.specs.Characters.{is_xml_text}
 use Rattle.oai_names.specs.Names.{is_prefix, is_prefix_byte, may_be_prefix}
 use Rattle.oai_names.specs.declared.limits.TheConstants.{MAX_PREFIX_BYTES}
 use Rattle.oai_names.proofs.Lists.{all-weaker}
