@@ -50,9 +50,9 @@ pub fn read_law()
         → is_legal_tree (document_tree d) ≡ true → tree_in (document d) ≡ Some (document_tree d) }
 {}
 
-/// What a request or a deposit line asks for has texts in UTF-8 of characters that XML allows, whatever bytes it was read
-/// from: a request with other characters is a badArgument, a line with others is refused. A theorem, proved by an empty
-/// function.
+/// The texts that a request or a deposit line carries are UTF-8 of characters that XML allows, whatever bytes it was
+/// read from: a request with other characters is a badArgument, and a line with others is refused. A theorem, proved by
+/// an empty function.
 pub fn commands_law()
     ensures requests { (granularity : Granularity) (arguments : List ℕ)
         → is_legal_command (command_of granularity (query arguments)) ≡ true }
@@ -60,11 +60,12 @@ pub fn commands_law()
         → is_legal_command (command_of granularity (line (line_of text))) ≡ true }
 {}
 
-/// What a repository of an accepted configuration answers, whatever it was told before (any commands at any moments from
-/// its beginning on): the tree of each document is whole, and has the elements that the schema of OAI-PMH asks for. If
-/// the texts of the configuration and of the commands are UTF-8 of characters that XML allows, as those of each command
-/// that is read are ([`commands_law`]), so is each document, and an XML parser reads its tree (`read`). The premises are on the namespaces of the formats: none is that of `xml` or
-/// `xmlns`; and for the schema, none is that of OAI-PMH. A theorem, proved by an empty function.
+/// What a repository of an accepted configuration answers, whatever was deposited and requested before: after any
+/// commands at any moments from its beginning on, the tree of each document is whole, and has the elements that the
+/// schema of OAI-PMH asks for. If the texts of the configuration and of the commands are UTF-8 of characters that XML
+/// allows, as those of each command that is read are ([`commands_law`]), so is each document, and an XML parser reads
+/// its tree (`read`). The premises are on the namespaces of the formats: none is that of `xml` or `xmlns`; and for the
+/// schema, none is that of OAI-PMH. A theorem, proved by an empty function.
 pub fn answers_law()
     ensures whole { (config : Config) (d : Document) → IsConfig config → IsSomeAnswer config d
         → have_namespaces may_be_default config ≡ true → is_whole (document_tree d) ≡ true }
