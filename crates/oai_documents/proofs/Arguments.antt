@@ -1,12 +1,12 @@
 -- The request's tag: its arguments are attributes of different names, whichever of them were given.
-use Rattle.std.proofs.Common.{◌≡◌, ◌∙◌, ◌+◌, ◌≤◌, ℕ, Bool, true, false, ◌&&◌, not, cond, List, [], ◌∷◌, ◌++◌, length, codes, Option, None, Some, refl, sym, ap, arith}
+use Rattle.std.proofs.Common.{◌≡◌, ◌∙◌, ◌≤◌, ℕ, Bool, true, false, not, cond, List, [], ◌∷◌, ◌++◌, length, codes, Option, None, Some, refl, ap, arith}
 use Rattle.std.specs.Prelude.{nat_le}
 use Rattle.std.specs.List.{list_all}
 use Rattle.std.specs.Option.{is_some}
 use Rattle.std.proofs.lemmas.Bool.{and_parts}
 use Rattle.std.proofs.lemmas.Bool.Decides.{nat_tests}
 use Rattle.oai_answers.specs.Answers.{Attributes}
-use Rattle.oai_xml.specs.QNames.{local_of, prefix_of}
+use Rattle.oai_xml.specs.QNames.{prefix_of}
 use Rattle.oai_xml.specs.Trees.{Attribute}
 use Rattle.oai_xml.specs.Namespaces.{Scope, are_alike, are_unlike, is_declaring}
 use Rattle.oai_xml.specs.Whole.{names_of}

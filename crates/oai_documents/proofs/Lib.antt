@@ -9,3 +9,8 @@ pub mod Arguments
 pub mod WholeTrees
 pub mod SchemaLemmas
 pub mod ReadBack
+pub mod Answered
+pub mod LegalTrees
+pub mod LegalAnswers
+pub mod JsonTexts
+pub mod LegalCommands

@@ -1,5 +1,5 @@
 -- Names of ASCII are QNames, with a prefix or without.
-use Rattle.std.proofs.Common.{◌≡◌, ◌∙◌, ◌+◌, ◌<◌, ℕ, Bool, true, false, ◌&&◌, ◌||◌, not, eqb, cond, List, [], ◌∷◌, ◌++◌, length, take, drop, codes, refl, sym, ap, append_assoc, arith}
+use Rattle.std.proofs.Common.{◌≡◌, ◌∙◌, ◌+◌, ◌<◌, ℕ, Bool, true, false, ◌&&◌, ◌||◌, not, List, [], ◌∷◌, ◌++◌, length, drop, refl, sym, ap, append_assoc, arith}
 use Rattle.std.specs.Prelude.{nat_lt}
 use Rattle.std.specs.List.{list_all, position_or_len, prefix_len}
 use Rattle.std.proofs.lemmas.Bool.{and_from, and_parts, cond-true, cond-false, lt-ltb, or_left, or_right}
@@ -24,7 +24,7 @@ further_apart b is = grind (arith, nat_tests, is)
 further_byte : (b : ℕ) → is_ascii_further b ≡ true → is_name_byte b ≡ true
 further_byte b is = grind (arith, nat_tests, is)
 
-all_further : (name : List ℕ) → is_ascii_ncname name ≡ true → list_all is_ascii_further name ≡ true
+pub all_further : (name : List ℕ) → is_ascii_ncname name ≡ true → list_all is_ascii_further name ≡ true
 all_further [] is = cc
 all_further (b ∷ bytes) is =
     let parts = and_parts (is_ascii_start b) (list_all is_ascii_further bytes) is in

@@ -1,15 +1,14 @@
 -- The request, errors, Identify, formats and sets are the spellings of their trees.
 use Rattle.std.proofs.Common.{◌≡◌, ◌∙◌, ℕ, List, [], ◌∷◌, ◌++◌, map, codes, Option, None, Some, refl, sym, ap, append_assoc}
 use Rattle.std.specs.List.{flat_map}
-use Rattle.oai_names.specs.Escapes.{escaped_text}
 use Rattle.oai_time.specs.TimeTexts.{datestamp_text}
 use Rattle.oai_item.specs.declared.formats.Format.{Format}
-use Rattle.oai_xml.specs.Trees.{Attribute, Tree, spelled, spelled_attribute, start_tag}
+use Rattle.oai_xml.specs.Trees.{Attribute, Tree, spelled, spelled_attribute}
 use Rattle.oai_answers.specs.Answers.{Attributes, Description, Document, arguments_told}
 use Rattle.oai_answers.specs.Documents.{attributes, code_of, deleted_text, error_element, format_element, formats_element, given_attribute, granularity_text, identify_element, message_of, request_element, set_element, sets_element}
-use Rattle.oai_answers.specs.Markup.{element, end_tag, plain, spelled_attribute as marked_attribute, text_element}
+use Rattle.oai_answers.specs.Markup.{end_tag, plain, spelled_attribute as marked_attribute, text_element}
 use Rattle.oai_answers.specs.declared.errors.ErrorCode.{ErrorCode}
-use Rattle.oai_documents.specs.Elements.{attribute, bare_leaf, bare_parent, leaf}
+use Rattle.oai_documents.specs.Elements.{attribute, bare_leaf}
 use Rattle.oai_documents.specs.DocumentTrees.{arguments, error_tree, format_tree, formats_tree, given, identify_tree, request_tree, set_tree, sets_tree}
 use Rattle.oai_documents.proofs.Unescaped.{code_same, datestamp_free, deleted_same, free_text, granularity_same, message_same, version_same}
 use Rattle.oai_documents.proofs.Written.{attribute_as, attribute_written, bare_leaf_written, bare_parent_written, each_written, leaf_written, one_attribute, only, plain_leaf_written, start_written, then_attributes, then_more, then_one}

@@ -1,13 +1,12 @@
 -- The bytes of a document are read as its tree, by the productions of XML.
-use Rattle.std.proofs.Common.{◌≡◌, ◌∙◌, ◌<◌, ℕ, suc, Bool, true, false, ◌&&◌, not, cond, eqb, List, [], ◌∷◌, ◌++◌, Some, Ok, Err, length, take, codes, refl, sym, ap, subst, arith}
-use Rattle.std.specs.List.{flat_map, list_all, prefix_len}
+use Rattle.std.proofs.Common.{◌≡◌, ◌∙◌, ℕ, suc, true, false, not, eqb, List, [], ◌∷◌, ◌++◌, Some, Ok, length, take, codes, refl, ap, arith}
+use Rattle.std.specs.List.{flat_map, list_all}
 use Rattle.std.specs.Result.{result_ok}
-use Rattle.std.specs.Str.{chars, is_utf8}
-use Rattle.std.proofs.lemmas.Bool.{and_from, cond-false, cond-true, eq-eqb, ne_eqb}
+use Rattle.std.specs.Str.{chars}
+use Rattle.std.proofs.lemmas.Bool.{cond-false, cond-true, eq-eqb, ne_eqb}
 use Rattle.std.proofs.lemmas.List.{take_all}
-use Rattle.oai_names.specs.Characters.{is_xml_text}
-use Rattle.oai_xml.specs.Readings.{◌>>=◌, begins, behind, past}
-use Rattle.oai_xml.specs.Parts.{past_equals, past_space, past_spaces}
+use Rattle.oai_xml.specs.Readings.{◌>>=◌, begins, past}
+use Rattle.oai_xml.specs.Parts.{past_equals, past_spaces}
 use Rattle.oai_xml.specs.Trees.{Tree, spelled, spelled_attribute, spelled_content}
 use Rattle.oai_xml.specs.Whole.{is_whole}
 use Rattle.oai_xml.specs.LegalTexts.{is_legal_text, is_legal_tree}

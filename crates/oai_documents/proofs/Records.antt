@@ -1,5 +1,5 @@
 -- Records, lists, tokens and documents are the spellings of their trees.
-use Rattle.std.proofs.Common.{◌≡◌, ◌∙◌, ℕ, ℤ, Bool, true, false, cond, List, [], ◌∷◌, ◌++◌, map, codes, refl, sym, ap, append_assoc, append-nil}
+use Rattle.std.proofs.Common.{◌≡◌, ◌∙◌, ℕ, Bool, true, false, cond, List, [], ◌∷◌, ◌++◌, map, codes, refl, sym, ap, append_assoc, append-nil}
 use Rattle.std.specs.Fmt.{decimal}
 use Rattle.std.specs.List.{flat_map}
 use Rattle.std.specs.Str.{bytes_eq}
@@ -15,7 +15,7 @@ use Rattle.oai_answers.specs.Answers.{Answer, Continuation, Document, Page, comp
 use Rattle.oai_answers.specs.Documents.{answer_element, declared_metadata, declared_start, document, dublin_core_metadata, dublin_core_start, extent_attributes, field_element, get_record_element, head, header_element, header_start, identifiers_element, metadata, metadata_part, record_element, records_element, request_element, schema_location, token_element}
 use Rattle.oai_answers.specs.Markup.{attribute as text_attribute, element, end_tag, plain, spelled_attribute as marked_attribute, text_element}
 use Rattle.oai_answers.specs.declared.tokens.Extent.{Extent}
-use Rattle.oai_documents.specs.Elements.{attribute, bare_leaf, bare_parent, leaf, parent}
+use Rattle.oai_documents.specs.Elements.{attribute, bare_leaf, bare_parent, leaf}
 use Rattle.oai_documents.specs.DocumentTrees.{answer_tree, declared_attributes, declared_tree, document_tree, dublin_core_attributes, dublin_core_tree, extent, field_tree, header_tree, headers_tree, instance_namespace, line_end, metadata_parts, metadata_tree, record_tree, records_tree, request_tree, root_attributes, status, token_trees, xml_declaration}
 use Rattle.oai_documents.proofs.Parts.{error_written, formats_written, identify_written, request_written, sets_written}
 use Rattle.oai_documents.proofs.Unescaped.{datestamp_free, decimal_free, free_text, free_value, second_free}

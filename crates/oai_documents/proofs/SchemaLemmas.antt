@@ -1,6 +1,6 @@
 -- The tree of each document is as the schema asks.
-use Rattle.std.proofs.Common.{◌≡◌, ◌∙◌, inl, inr, ◌⊎◌, ℕ, Bool, true, false, ◌&&◌, ◌||◌, not, cond, List, [], ◌∷◌, ◌++◌, map, codes, Option, Some, refl, sym, ap, append-nil}
-use Rattle.std.specs.List.{list_all, list_any}
+use Rattle.std.proofs.Common.{◌≡◌, ◌∙◌, inl, inr, ℕ, Bool, true, false, ◌&&◌, ◌||◌, not, cond, List, [], ◌∷◌, ◌++◌, map, codes, Some, refl, sym, ap, append-nil}
+use Rattle.std.specs.List.{list_all}
 use Rattle.std.specs.Option.{unwrap_or}
 use Rattle.std.specs.Str.{bytes_eq}
 use Rattle.std.proofs.lemmas.Bool.{and_parts, not-true, true≢false}
@@ -9,7 +9,7 @@ use Rattle.oai_time.specs.TimeTexts.{datestamp_text, second_text}
 use Rattle.oai_time.specs.declared.granularity.Granularity.{Granularity}
 use Rattle.oai_time.specs.declared.granularity.Granularity.TheVariants.{Day, Second}
 use Rattle.oai_item.specs.Item.{ItemState, fields_in}
-use Rattle.oai_item.specs.Rules.{are_names, are_uris, has_fields, has_repeat, is_allowed, is_space, is_uri}
+use Rattle.oai_item.specs.Rules.{are_names, are_uris, has_fields, has_repeat, is_allowed, is_uri}
 use Rattle.oai_item.specs.ShortTexts.{is_short_text}
 use Rattle.oai_item.specs.declared.deleted_record.DeletedRecord.{DeletedRecord}
 use Rattle.oai_item.specs.declared.deleted_record.DeletedRecord.TheVariants.{No, Transient, Persistent}
@@ -18,7 +18,7 @@ use Rattle.oai_item.specs.declared.formats.Format.{Format}
 use Rattle.oai_xml.specs.Ascii.{is_ascii_ncname}
 use Rattle.oai_xml.specs.QNames.{local_of, prefix_of}
 use Rattle.oai_xml.specs.Roots.{named_so, root_of}
-use Rattle.oai_xml.specs.Trees.{Attribute, Tree}
+use Rattle.oai_xml.specs.Trees.{Tree}
 use Rattle.oai_xml.specs.Namespaces.{declared, is_declaring, namespace_of, xml_namespace, xmlns_namespace}
 use Rattle.oai_xml.specs.Whole.{names_of, within}
 use Rattle.oai_answers.specs.Answers.{Answer, Attributes, Continuation, Description, Document, Page, arguments_told, completes, fails, gives_record, identifies, lists_formats, lists_headers, lists_records, lists_sets, remains, whole}
@@ -26,9 +26,9 @@ use Rattle.oai_answers.specs.Documents.{code_of, deleted_text, granularity_text,
 use Rattle.oai_answers.specs.Seen.{IsGoodFormat, IsRegular}
 use Rattle.oai_answers.specs.declared.errors.ErrorCode.{ErrorCode}
 use Rattle.oai_answers.specs.declared.errors.ErrorCode.TheVariants.{BadVerb, BadArgument, BadResumptionToken, CannotDisseminateFormat, IdDoesNotExist, NoRecordsMatch, NoMetadataFormats, NoSetHierarchy}
-use Rattle.oai_documents.specs.Elements.{attribute, bare_leaf, bare_parent}
-use Rattle.oai_documents.specs.DocumentTrees.{answer_tree, arguments, declared_attributes, declared_tree, document_tree, dublin_core_attributes, dublin_core_tree, error_tree, extent, format_tree, formats_tree, header_tree, headers_tree, identify_tree, instance_namespace, metadata_parts, metadata_tree, record_tree, records_tree, request_tree, root_attributes, set_tree, sets_tree, status, token_trees}
-use Rattle.oai_documents.specs.Schema.{Any, IsAnswered, IsContainer, IsError, IsForeign, IsFormat, IsFormats, IsGetRecord, IsHeader, IsHeaders, IsIdentify, IsOfSchema, IsOneOf, IsRecord, IsRecords, IsRequest, IsSet, IsSets, IsText, IsToken, One, Optional, Several, ◌⨾◌, any_text, error_codes, oai_namespace}
+use Rattle.oai_documents.specs.Elements.{bare_leaf, bare_parent}
+use Rattle.oai_documents.specs.DocumentTrees.{answer_tree, declared_attributes, declared_tree, document_tree, dublin_core_attributes, dublin_core_tree, error_tree, extent, format_tree, formats_tree, header_tree, headers_tree, identify_tree, instance_namespace, metadata_parts, metadata_tree, record_tree, records_tree, request_tree, root_attributes, set_tree, sets_tree, status, token_trees}
+use Rattle.oai_documents.specs.Schema.{Any, IsAnswered, IsContainer, IsError, IsForeign, IsFormat, IsFormats, IsHeader, IsHeaders, IsIdentify, IsOfSchema, IsOneOf, IsRecord, IsRecords, IsRequest, IsSet, IsSets, IsText, IsToken, One, Optional, Several, ◌⨾◌, error_codes, oai_namespace}
 use Rattle.oai_documents.specs.WellFormed.{HasMembers, HasNamespace, IsFilled, is_foreign}
 use Rattle.oai_documents.proofs.Arguments.{all_chosen, are_given, argument_names, names_given}
 use Rattle.oai_documents.proofs.Names.{no_prefix, rule_name}

@@ -1,6 +1,5 @@
 -- The start tags that declare namespaces: of the root, of Dublin Core, and of a declared format.
-use Rattle.std.proofs.Common.{◌≡◌, ◌∙◌, ℕ, Bool, true, false, ◌&&◌, ◌||◌, not, eqb, List, [], ◌∷◌, ◌++◌, length, codes, refl, sym, ap, subst}
-use Rattle.std.specs.Prelude.{nat_le}
+use Rattle.std.proofs.Common.{◌≡◌, ◌∙◌, ℕ, Bool, true, false, ◌&&◌, ◌||◌, not, List, [], ◌∷◌, ◌++◌, codes, refl, sym, ap, subst}
 use Rattle.std.specs.List.{list_all}
 use Rattle.std.specs.Option.{is_some}
 use Rattle.std.specs.Str.{bytes_eq}
@@ -8,12 +7,10 @@ use Rattle.std.proofs.lemmas.Bool.{or_right}
 use Rattle.oai_item.specs.declared.formats.Format.{Format}
 use Rattle.oai_xml.specs.Ascii.{is_ascii_ncname}
 use Rattle.oai_xml.specs.QNames.{is_prefixed, is_qname, local_of, prefix_of}
-use Rattle.oai_xml.specs.Trees.{Attribute}
-use Rattle.oai_xml.specs.Namespaces.{Declaration, Scope, are_alike, are_unlike, declared, is_bound, is_declaring, is_legal, may_bind, namespace_of, xml_namespace, xmlns_namespace}
-use Rattle.oai_xml.specs.Whole.{are_names_whole, has_default, is_tag_whole, names_of, within}
-use Rattle.oai_xml.specs.declared.limits.TheConstants.{MAX_ATTRIBUTES, MAX_DECLARATIONS}
+use Rattle.oai_xml.specs.Namespaces.{Scope, are_alike, are_unlike, declared, is_bound, is_declaring, is_legal, may_bind, namespace_of, xml_namespace, xmlns_namespace}
+use Rattle.oai_xml.specs.Whole.{are_names_whole, is_tag_whole, names_of, within}
 use Rattle.oai_documents.specs.DocumentTrees.{declared_attributes, dublin_core_attributes, instance_namespace, root_attributes}
-use Rattle.oai_documents.proofs.Names.{no_prefix, plain_qname, prefix_is, prefixed_qname, unprefixed}
+use Rattle.oai_documents.proofs.Names.{no_prefix, plain_qname, prefix_is, prefixed_qname}
 use Rattle.oai_documents.proofs.Tags.{IsReady, both, own_bound}
 
 -- the namespace is one of those that `xml` and `xmlns` are bound to

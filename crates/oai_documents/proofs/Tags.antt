@@ -1,5 +1,5 @@
 -- When elements made of parts are whole.
-use Rattle.std.proofs.Common.{◌≡◌, ◌∙◌, ◌-◌, ℕ, Bool, true, false, ◌&&◌, ◌||◌, not, eqb, List, [], ◌∷◌, ◌++◌, length, map, codes, refl, sym, ap, append-nil}
+use Rattle.std.proofs.Common.{◌≡◌, ◌∙◌, ◌-◌, ℕ, Bool, true, ◌&&◌, not, eqb, List, [], ◌∷◌, ◌++◌, length, map, codes, refl, ap, append-nil}
 use Rattle.std.specs.Prelude.{filter, nat_le}
 use Rattle.std.specs.List.{list_all}
 use Rattle.std.specs.Str.{bytes_eq}
@@ -8,8 +8,8 @@ use Rattle.std.proofs.lemmas.List.Folds.{list_all-append}
 use Rattle.oai_names.proofs.Lists.{all-weaker}
 use Rattle.oai_xml.specs.Ascii.{is_ascii_ncname}
 use Rattle.oai_xml.specs.QNames.{is_prefixed, is_qname, prefix_of}
-use Rattle.oai_xml.specs.Trees.{Attribute, Content, Tree, nothing, byte, text_of}
-use Rattle.oai_xml.specs.Namespaces.{Declaration, Scope, are_unlike, declaration_of, declared, is_bound, is_declaring, is_legal}
+use Rattle.oai_xml.specs.Trees.{Attribute, Tree, text_of}
+use Rattle.oai_xml.specs.Namespaces.{Scope, are_unlike, declaration_of, declared, is_bound, is_declaring}
 use Rattle.oai_xml.specs.Whole.{are_names_whole, has_default, is_content_whole, is_tag_whole, is_whole_in, names_of, within}
 use Rattle.oai_xml.specs.declared.limits.TheConstants.{MAX_ATTRIBUTES, MAX_DECLARATIONS}
 use Rattle.oai_documents.specs.Elements.{bare_leaf, bare_parent, in_order, leaf, parent}

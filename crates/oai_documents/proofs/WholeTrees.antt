@@ -1,5 +1,5 @@
 -- The tree of each document is whole.
-use Rattle.std.proofs.Common.{◌≡◌, ◌∙◌, ◌-◌, inl, inr, ℕ, ℤ, Bool, true, false, ◌&&◌, ◌||◌, not, eqb, cond, List, [], ◌∷◌, ◌++◌, map, codes, refl, sym, ap, subst}
+use Rattle.std.proofs.Common.{◌≡◌, ◌∙◌, ◌-◌, inl, inr, ℕ, Bool, true, false, ◌&&◌, ◌||◌, not, eqb, cond, List, [], ◌∷◌, ◌++◌, map, codes, refl, ap}
 use Rattle.std.specs.List.{list_all}
 use Rattle.std.specs.Str.{bytes_eq}
 use Rattle.std.proofs.lemmas.Bool.{and_parts, not-true}
@@ -14,17 +14,17 @@ use Rattle.oai_item.specs.Rules.{are_names, are_uris, has_fields, has_repeat, is
 use Rattle.oai_item.specs.declared.fields.Field.{Field}
 use Rattle.oai_item.specs.declared.formats.Format.{Format}
 use Rattle.oai_xml.specs.Ascii.{is_ascii_ncname}
-use Rattle.oai_xml.specs.QNames.{local_of, prefix_of}
-use Rattle.oai_xml.specs.Trees.{Attribute, Tree}
+use Rattle.oai_xml.specs.QNames.{prefix_of}
+use Rattle.oai_xml.specs.Trees.{Tree}
 use Rattle.oai_xml.specs.Namespaces.{Scope, are_alike, are_unlike, is_declaring}
-use Rattle.oai_xml.specs.Whole.{is_whole, is_whole_in, within}
+use Rattle.oai_xml.specs.Whole.{is_whole, is_whole_in}
 use Rattle.oai_xml.specs.declared.limits.TheConstants.{MAX_DEPTH}
 use Rattle.oai_answers.specs.Answers.{Answer, Continuation, Description, Document, Page, arguments_told, completes, fails, gives_record, identifies, lists_formats, lists_headers, lists_records, lists_sets, remains, whole}
 use Rattle.oai_answers.specs.Documents.{code_of, deleted_text, granularity_text, message_of}
 use Rattle.oai_answers.specs.Seen.{IsGoodFormat, IsRegular, has_own_fields}
 use Rattle.oai_answers.specs.declared.errors.ErrorCode.{ErrorCode}
 use Rattle.oai_answers.specs.declared.tokens.Extent.{Extent}
-use Rattle.oai_documents.specs.Elements.{attribute, bare_leaf, bare_parent, leaf}
+use Rattle.oai_documents.specs.Elements.{attribute, bare_leaf, bare_parent}
 use Rattle.oai_documents.specs.DocumentTrees.{answer_tree, arguments, declared_attributes, declared_tree, document_tree, dublin_core_attributes, dublin_core_tree, error_tree, extent, field_tree, format_tree, formats_tree, header_tree, headers_tree, identify_tree, metadata_parts, metadata_tree, record_tree, records_tree, request_tree, root_attributes, set_tree, sets_tree, status, token_trees}
 use Rattle.oai_documents.specs.WellFormed.{HasNamespace, may_be_default}
 use Rattle.oai_documents.proofs.Names.{rule_name}
@@ -121,10 +121,10 @@ field_names : (format : Format) → IsGoodFormat format → list_all is_ascii_nc
 field_names format (inl same) = ap (λ (f : Format). list_all is_ascii_ncname f.fields) same ∙ dublin_core_names
 field_names format (inr allowed) = all-weaker is_name is_ascii_ncname rule_name format.fields (allowed_names format allowed).1
 
-abbrev is_named_field : Field → Bool
+abbrev pub is_named_field : Field → Bool
 is_named_field field = is_ascii_ncname field.name
 
-fields_named : (format : Format) (fields : List Field) → IsGoodFormat format → list_all (λ (field : Field). is_among format.fields field.name) fields ≡ true → list_all is_named_field fields ≡ true
+pub fields_named : (format : Format) (fields : List Field) → IsGoodFormat format → list_all (λ (field : Field). is_among format.fields field.name) fields ≡ true → list_all is_named_field fields ≡ true
 fields_named format fields good known =
     all-weaker (λ (field : Field). is_among format.fields field.name) is_named_field
     (λ field there. of_these is_ascii_ncname format.fields field.name (field_names format good) there) fields known

@@ -4,7 +4,7 @@ use Rattle.std.specs.List.{flat_map}
 use Rattle.std.proofs.lemmas.Grind.{flat_map-append}
 use Rattle.oai_names.specs.Escapes.{escaped_attribute, escaped_text}
 use Rattle.oai_answers.specs.Markup.{plain, text_element, attribute_start, attribute as text_attribute, element as marked, start_tag as marked_start, end_tag as marked_end, spelled_attribute as marked_attribute}
-use Rattle.oai_xml.specs.Trees.{Attribute, Tree, text_of, spelled, spelled_content, spelled_attribute, start_tag, end_tag}
+use Rattle.oai_xml.specs.Trees.{Attribute, Tree, spelled, spelled_content, spelled_attribute, start_tag, end_tag}
 use Rattle.oai_xml.proofs.Spellings.{element_spelled, nothing_spelled, text_spelled, tree_spelled}
 use Rattle.oai_documents.specs.Elements.{attribute, bare_leaf, bare_parent, in_order, leaf, parent}
 

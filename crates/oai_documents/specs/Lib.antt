@@ -2,3 +2,5 @@ pub mod Elements
 pub mod DocumentTrees
 pub mod Schema
 pub mod WellFormed
+pub mod Answering
+pub mod Texts

@@ -7,7 +7,7 @@ use Rattle.std.specs.List.{list_all}
 use Rattle.std.specs.Str.{bytes_eq}
 use Rattle.oai_names.specs.Names.{is_among}
 use Rattle.oai_xml.specs.Roots.{root_of}
-use Rattle.oai_xml.specs.Trees.{Attribute, Tree, text_of}
+use Rattle.oai_xml.specs.Trees.{Tree, text_of}
 use Rattle.oai_xml.specs.Whole.{names_of}
 use Rattle.oai_documents.specs.Elements.{attribute, in_order}
 

@@ -1,4 +1,4 @@
-ghost use Rattle.std.specs.Prelude.{◌≡◌, ◌++◌, true, Some};
+ghost use Rattle.std.specs.Prelude.{◌≡◌, ◌++◌, ℕ, List, true, Some};
 ghost use Rattle.oai_answers.specs.Answers.{Document};
 ghost use Rattle.oai_answers.specs.Documents.{document};
 ghost use Rattle.oai_answers.specs.Seen.{IsRegular};
@@ -6,8 +6,15 @@ ghost use Rattle.oai_xml.specs.Documents.{tree_in};
 ghost use Rattle.oai_xml.specs.LegalTexts.{is_legal_text, is_legal_tree};
 ghost use Rattle.oai_xml.specs.Trees.{spelled};
 ghost use Rattle.oai_xml.specs.Whole.{is_whole};
+ghost use Rattle.oai_time.specs.declared.granularity.Granularity.{Granularity};
+ghost use Rattle.oai_deposit.specs.Lines.{line_of};
+ghost use Rattle.oai_settings.specs.Config.{Config, IsConfig};
+ghost use Rattle.oai_repo.specs.Machine.{command_of, line, query};
+ghost use Rattle.oai_laws.specs.Shown.{IsSomeAnswer};
+ghost use Rattle.oai_documents.specs.Answering.{have_namespaces};
 ghost use Rattle.oai_documents.specs.DocumentTrees.{document_tree, line_end, xml_declaration};
 ghost use Rattle.oai_documents.specs.Schema.{IsOfSchema};
+ghost use Rattle.oai_documents.specs.Texts.{are_legal_commands, is_legal_command, is_legal_config};
 ghost use Rattle.oai_documents.specs.WellFormed.{HasNamespace, IsFilled, is_foreign, may_be_default};
 
 /// Each document is the XML declaration, a line end, the spelling of its tree, and a line end, whatever stands in it. A
@@ -41,4 +48,31 @@ pub fn read_law()
     ensures text { (d : Document) → is_legal_tree (document_tree d) ≡ true → is_legal_text (document d) ≡ true }
     ensures tree { (d : Document) → IsRegular d.answer → HasNamespace may_be_default d.answer
         → is_legal_tree (document_tree d) ≡ true → tree_in (document d) ≡ Some (document_tree d) }
+{}
+
+/// The texts that a request or a deposit line carries are UTF-8 of characters that XML allows, whatever bytes it was
+/// read from: a request with other characters is a badArgument, and a line with others is refused. A theorem, proved by
+/// an empty function.
+pub fn commands_law()
+    ensures requests { (granularity : Granularity) (arguments : List ℕ)
+        → is_legal_command (command_of granularity (query arguments)) ≡ true }
+    ensures lines { (granularity : Granularity) (text : List ℕ)
+        → is_legal_command (command_of granularity (line (line_of text))) ≡ true }
+{}
+
+/// What a repository of an accepted configuration answers, whatever was deposited and requested before: after any
+/// commands at any moments from its beginning on, the tree of each document is whole, and has the elements that the
+/// schema of OAI-PMH asks for. If the texts of the configuration and of the commands are UTF-8 of characters that XML
+/// allows, as those of each command that is read are ([`commands_law`]), so is each document, and an XML parser reads
+/// its tree (`read`). The premises are on the namespaces of the formats: none is that of `xml` or `xmlns`; and for the
+/// schema, none is that of OAI-PMH. A theorem, proved by an empty function.
+pub fn answers_law()
+    ensures whole { (config : Config) (d : Document) → IsConfig config → IsSomeAnswer config d
+        → have_namespaces may_be_default config ≡ true → is_whole (document_tree d) ≡ true }
+    ensures schema { (config : Config) (d : Document) → IsConfig config → IsSomeAnswer config d
+        → have_namespaces is_foreign config ≡ true → IsOfSchema (document_tree d) }
+    ensures read { (config : Config) (d : Document) (rules : IsConfig config) (some : IsSomeAnswer config d)
+        → have_namespaces may_be_default config ≡ true → is_legal_config config ≡ true
+        → are_legal_commands some.commands ≡ true
+        → (is_legal_text (document d) ≡ true) × (tree_in (document d) ≡ Some (document_tree d)) }
 {}

@@ -4,4 +4,4 @@
 
 mod laws;
 
-pub use laws::{read_law, schema_law, spelled_law, well_formed_law};
+pub use laws::{answers_law, commands_law, read_law, schema_law, spelled_law, well_formed_law};

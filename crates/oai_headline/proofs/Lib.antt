@@ -22,3 +22,5 @@ pub mod WorkedEraLemmas
 pub mod WorkedFaultLemmas
 pub mod HostRunLemmas
 pub mod ServedLemmas
+pub mod ConfigTexts
+pub mod XmlLemmas

@@ -8,3 +8,4 @@ pub mod WorkedFaults
 pub mod ClientHarvests
 pub mod HostRuns
 pub mod Served
+pub mod XmlAnswers

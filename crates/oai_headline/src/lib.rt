@@ -2,17 +2,19 @@
 //! what was selected, whatever memory was refused and whichever device calls failed.
 #![tactic(auto)]
 
+mod documents;
 mod harvests;
 mod laws;
 mod rules;
 mod runs;
 mod served;
 
+pub use documents::documents_law;
 pub use harvests::client_harvests_law;
 pub use laws::{
     carried_law, place_law, throughout_law, throughout_on_pages_law, throughout_runs_law,
     visits_law, worked_faults_law, worked_headline_law,
 };
-pub use rules::rules_law;
+pub use rules::{rules_law, texts_law};
 pub use runs::host_law;
 pub use served::pages_law;

@@ -1,0 +1,35 @@
+//! The answers to requests of OAI-PMH, as XML documents.
+ghost use Rattle.std.specs.Prelude.{◌≡◌, List, true};
+ghost use Rattle.std.specs.List.{AllByRecursion};
+ghost use Rattle.oai_documents.specs.Answering.{have_namespaces};
+ghost use Rattle.oai_documents.specs.WellFormed.{may_be_default};
+ghost use Rattle.oai_repo.specs.State.{RepoState, empty_state};
+ghost use Rattle.oai_config.specs.Configs.{NamedConfig};
+ghost use Rattle.oai_http.specs.declared.exchanges.Answer.{Answer};
+ghost use Rattle.oai_http.specs.declared.exchanges.Call.{Call};
+ghost use Rattle.oai_host.specs.Alone.{own_answers, own_calls};
+ghost use Rattle.oai_headline.specs.Eras.{AreTrueOver, HaveNumbersIn, VisitedEra};
+ghost use Rattle.oai_headline.specs.Headline.{HasRules};
+ghost use Rattle.oai_headline.specs.Throughout.{AreTrueFrom, own_given};
+ghost use Rattle.oai_headline.specs.XmlAnswers.{AreAnsweredInXml, HasTexts, IsAnsweredInXml};
+
+/// What is answered with status 200 to a request of OAI-PMH is a well-formed XML document (XML 1.0, fifth edition;
+/// Namespaces in XML 1.0, third edition), whatever bytes were deposited and requested before, and whatever failed. It is
+/// UTF-8 of XML's characters; an XML parser reads its tree; and this has the elements that the schema of OAI-PMH asks
+/// for, in its order, as often as it allows, and with its attributes. So it is at a repository whose answers are true
+/// ([`throughout_law`](crate::throughout_law)), and over eras, between which a checkpoint ends all open lists (`over`).
+///
+/// The texts of the configuration are UTF-8 of such characters, as those of each accepted one are
+/// ([`texts_law`](crate::texts_law)). None of the repository's formats has one of the two namespaces that Namespaces in
+/// XML reserves; and for the schema, none has that of OAI-PMH. The function is empty.
+pub fn documents_law()
+    ensures answered { (calls : List Call) (answers : List Answer) (entry : NamedConfig) (left : RepoState)
+        → HasRules entry → HasTexts entry → have_namespaces may_be_default entry.config ≡ true
+        → AreTrueFrom entry.config (empty_state entry.config) (own_calls entry.name calls)
+        (own_answers entry.name calls answers) left
+        → AllByRecursion (IsAnsweredInXml entry.config) (own_given entry calls answers) }
+    ensures over { (eras : List VisitedEra) (entry : NamedConfig) (left : RepoState) → HasRules entry
+        → HasTexts entry → have_namespaces may_be_default entry.config ≡ true
+        → AreTrueOver entry.config eras left → HaveNumbersIn entry.config (empty_state entry.config) eras
+        → AreAnsweredInXml entry.config (empty_state entry.config) eras }
+{}
