@@ -4,7 +4,6 @@
 
 mod harvests;
 mod laws;
-mod rules;
 mod runs;
 mod served;
 
@@ -13,6 +12,5 @@ pub use laws::{
     carried_law, place_law, throughout_law, throughout_on_pages_law, throughout_runs_law,
     visits_law, worked_faults_law, worked_headline_law,
 };
-pub use rules::rules_law;
 pub use runs::host_law;
 pub use served::pages_law;

@@ -1,16 +1,15 @@
 //! The rules that every accepted configuration satisfies.
 ghost use Rattle.std.specs.List.{All};
-ghost use Rattle.oai_headline.specs.Headline.{HasRules, HaveRules};
+ghost use Rattle.oai_startup.specs.Rules.{HasRules, HaveRules};
 
 use oai_config::{Config, NamedConfig};
 
-/// A configuration satisfies the rules that the theorem requires. It iterates over the repositories, since the
+/// The repositories of a configuration satisfy the rules that the theorems require. It iterates over them, since the
 /// invariant of the type of each one's configuration is known where that is read, and returns nothing.
-pub fn rules_law(config: Config)
-    ensures { HaveRules config }
+pub fn rules_law(config: &Config)
+    ensures { HaveRules config.now }
 {
-    let repositories = config.into_repositories();
-    have_rules(repositories.as_slice());
+    have_rules(config.repositories());
 }
 
 fn have_rules(entries: &[NamedConfig])
