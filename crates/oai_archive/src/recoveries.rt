@@ -15,7 +15,7 @@ pub(crate) struct Counted {
 }
 
 impl Progress for Counted {
-    fn note(&mut self, _record: &Record<'_>, number: u64, _position: usize, _len: usize) {
+    fn note(&mut self, _entry: &Record<'_>, number: u64, _position: usize, _len: usize) {
         self.records = number;
     }
 }

@@ -41,22 +41,22 @@ impl Dates {
 }
 
 impl Progress for Dates {
-    fn note(&mut self, record: &Record<'_>, _number: u64, position: usize, _len: usize) {
+    fn note(&mut self, entry: &Record<'_>, _number: u64, position: usize, _len: usize) {
         self.position = position;
-        match record.kind {
+        match entry.kind {
             Kind::Journal => {}
             Kind::Oai => {
-                self.see(record.moment);
+                self.see(entry.moment);
                 self.listed = self.last;
             }
-            Kind::Deposit => self.see(record.moment),
-            Kind::Tick => self.see(record.moment),
+            Kind::Deposit => self.see(entry.moment),
+            Kind::Tick => self.see(entry.moment),
             Kind::Begin => {
-                self.see(record.moment);
-                self.save(record.body.len());
+                self.see(entry.moment);
+                self.save(entry.body.len());
             }
-            Kind::Set => self.save(record.body.len()),
-            Kind::Item => self.save(record.body.len()),
+            Kind::Set => self.save(entry.body.len()),
+            Kind::Item => self.save(entry.body.len()),
         }
     }
 }

@@ -37,8 +37,8 @@ struct Meter<'a, P, C> {
 }
 
 impl<P: Place, C: Clock> Progress for Meter<'_, P, C> {
-    fn note(&mut self, record: &Record<'_>, number: u64, position: usize, len: usize) {
-        self.dates.note(record, number, position, len);
+    fn note(&mut self, entry: &Record<'_>, number: u64, position: usize, len: usize) {
+        self.dates.note(entry, number, position, len);
         let second = second_of(self.clock);
         if second > self.last {
             self.last = second;

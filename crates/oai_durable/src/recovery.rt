@@ -34,7 +34,7 @@ pub enum RecoverFault {
 pub trait Progress {
     /// The record with that number was read and replayed, counted from 1 after the first one. That many bytes of `len`
     /// were read then.
-    fn note(&mut self, record: &Record<'_>, number: u64, position: usize, len: usize);
+    fn note(&mut self, entry: &Record<'_>, number: u64, position: usize, len: usize);
 }
 
 /// Replays the records of the journal after its first one, one by one, and restores those that are parts; returns how
@@ -70,8 +70,8 @@ pub fn note_last<D: Disk + Drop, P: Progress>(
     recovery: &Recovery<D>,
     number: u64,
 ) {
-    if let Some(record) = recovery.record() {
-        progress.note(&record, number, recovery.position(), recovery.file_len());
+    if let Some(entry) = recovery.record() {
+        progress.note(&entry, number, recovery.position(), recovery.file_len());
     }
 }
 
