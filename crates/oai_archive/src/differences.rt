@@ -1,18 +1,15 @@
 //! What two configurations of one archive must have in common.
 use crate::stop::{Aspect, Difference, Stop};
-use oai_config::NamedConfig;
+use oai_config::{Config, NamedConfig};
 use oai_settings::RepoConfig;
-use oai_startup::config_in;
 use std::alloc::Global;
 
-/// Whether an archive with the one configuration may continue with the other, as far as the two texts show it: it has a
-/// repository with the name of each of the journal's, with its granularity, earliestDatestamp and deletedRecord. The
-/// error is the first difference in the order of the journal's repositories; or out of memory.
-pub fn check_differences(alloc: Global, before: &[u8], text: &[u8]) -> Result<(), Stop> {
-    let old = config_in(alloc, before)?.into_repositories();
-    let new = config_in(alloc, text)?.into_repositories();
-    for repository in old.as_slice() {
-        if let Some(aspect) = difference(repository, new.as_slice()) {
+/// Whether an archive with the one configuration may continue with the other, as far as the two show it: the other has a
+/// repository with the name of each of the first, with its granularity, earliestDatestamp and deletedRecord. The error
+/// is the first difference in the order of the first's repositories; or out of memory.
+pub fn check_differences(alloc: Global, old: &Config, new: &Config) -> Result<(), Stop> {
+    for repository in old.repositories() {
+        if let Some(aspect) = difference(repository, new.repositories()) {
             return Err(Stop::OtherConfig(Difference {
                 repository: String::from_str(alloc, repository.name.as_str())?,
                 aspect,

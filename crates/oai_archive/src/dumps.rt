@@ -2,6 +2,7 @@
 use crate::journals::{begin_reading, config_text, stop_of_reading};
 use crate::recoveries::{Counted, stop_of_recovery};
 use crate::stop::Stop;
+use oai_config::Config;
 use oai_device::MemoryDevice;
 use oai_dump::{deletion_line, deposit_line, set_line};
 use oai_durable::{RecoverFault, recover};
@@ -26,9 +27,9 @@ pub fn dump_repository<D: Disk + Drop, W: Write>(
     writer: &mut W,
 ) -> Result<(), Stop> {
     let recovery = begin_reading(alloc, disk)?;
-    let text = config_text(alloc, &recovery)?;
-    check_name(alloc, &text, name)?;
-    let host = host_on(alloc, config_in(alloc, &text)?, MemoryDevice::new(alloc))?;
+    let config = config_in(alloc, &config_text(alloc, &recovery)?)?;
+    check_name(&config, name)?;
+    let host = host_on(alloc, config, MemoryDevice::new(alloc))?;
     dump_replayed(alloc, host, recovery, name, writer)
 }
 
@@ -93,12 +94,10 @@ fn read_again<D: Disk + Drop>(recovery: &mut Recovery<D>, at: usize) -> Result<(
     Err(Stop::Common(Other::InputFault))
 }
 
-/// Whether the configuration in the text has a repository with that name. The error is `NoRepository`, or out of
-/// memory.
-fn check_name(alloc: Global, text: &[u8], name: &str) -> Result<(), Stop> {
-    let repositories = config_in(alloc, text)?.into_repositories();
-    if repositories
-        .as_slice()
+/// Whether the configuration has a repository with that name. The error is `NoRepository`.
+fn check_name(config: &Config, name: &str) -> Result<(), Stop> {
+    if config
+        .repositories()
         .iter()
         .any(|it| it.name.as_str() == name)
     {

@@ -1,5 +1,5 @@
 //! The journal of an archive: begun, and read up to its first record.
-ghost use Rattle.oai_archive.specs.Readings.{HasBegun, IsReadBack, IsVerified};
+ghost use Rattle.oai_archive.specs.Readings.{HasBegun, HasBegunFor};
 ghost use Rattle.oai_archive.specs.Firsts.{IsOf, first_body, program};
 ghost use Rattle.oai_journal.specs.Kept.{HoldsFirst};
 ghost use Rattle.oai_journal.specs.Records.{Entry};
@@ -43,6 +43,7 @@ pub fn create_journal<D: Disk + Drop>(
 pub fn begin_reading<D: Disk + Drop>(alloc: Global, disk: D) -> Result<Recovery<D>, Stop>
     ensures begun { IfOk result (λ recovery. IsTrue (D.Disk.is_clean (disk_of recovery))
         → HasBegun D.Disk.seen D.Disk.may_leave recovery) }
+    ensures seen { IfOk result (λ recovery. D.Disk.seen (disk_of recovery) ≡ D.Disk.seen disk) }
 {
     let mut recovery = Recovery::new(alloc, disk);
     match recovery.begin() {
@@ -51,20 +52,18 @@ pub fn begin_reading<D: Disk + Drop>(alloc: Global, disk: D) -> Result<Recovery<
     }
 }
 
-/// The journal on the disk, which has no record after its first one, and was read to its end. The errors are those of
-/// `begin_reading`, and `CannotWrite` if it has one.
-pub fn read_begun<D: Disk + Drop>(alloc: Global, disk: D) -> Result<Recovery<D>, Stop>
-    ensures whole { IfOk result (λ begun. IsTrue (D.Disk.is_clean (disk_of begun))
-        → IsReadBack D.Disk.seen D.Disk.may_leave begun) }
-    ensures none { IfOk result (λ begun. IsTrue (D.Disk.is_clean (disk_of begun))
-        → IsVerified D.Disk.seen begun 0) }
+/// The journal on the disk, whose first record is read, and has the configuration in the text, ignoring the size of the
+/// cache. The errors are those of `begin_reading` and of `has_config`, and `NotOurs` if it has another one.
+pub fn begin_for<D: Disk + Drop>(alloc: Global, disk: D, text: &[u8]) -> Result<Recovery<D>, Stop>
+    ensures begun { IfOk result (λ recovery. IsTrue (D.Disk.is_clean (disk_of recovery))
+        → HasBegunFor D.Disk.seen D.Disk.may_leave text.now recovery) }
+    ensures seen { IfOk result (λ recovery. D.Disk.seen (disk_of recovery) ≡ D.Disk.seen disk) }
 {
-    let mut recovery = begin_reading(alloc, disk)?;
-    match recovery.advance() {
-        Ok(false) => Ok(recovery),
-        Ok(true) => Err(Stop::CannotWrite),
-        Err(fault) => Err(stop_of_reading(fault)),
+    let recovery = begin_reading(alloc, disk)?;
+    if has_config(alloc, &recovery, text)? {
+        return Ok(recovery);
     }
+    Err(Stop::NotOurs)
 }
 
 /// Whether the first record, which was read, has the configuration in the text, ignoring the size of the cache. The

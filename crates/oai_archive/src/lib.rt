@@ -12,11 +12,11 @@ mod recoveries;
 mod stop;
 mod verify;
 
-pub use checkpoints::{read_checkpoint, write_checkpoint};
+pub use checkpoints::write_checkpoint;
 pub use differences::check_differences;
 pub use dumps::dump_repository;
-pub use journals::{begin_reading, config_text, create_journal, has_config, read_begun};
+pub use journals::{begin_for, begin_reading, config_text, create_journal, has_config};
 pub use read_files::ReadFile;
-pub use recoveries::stop_of_recovery;
+pub use recoveries::{stop_of_checkpoint, stop_of_recovery};
 pub use stop::{Aspect, Difference, Second, Stop, fault_word};
-pub use verify::verify_journal;
+pub use verify::{read_over, verify_journal};

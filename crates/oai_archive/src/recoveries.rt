@@ -1,7 +1,12 @@
-//! Replays an archive's journal, without a report of its progress.
+//! Why a replay of an archive's journal failed.
 use crate::journals::stop_of_reading;
-use crate::stop::Stop;
+use crate::stop::{Aspect, Difference, Stop};
 use oai_durable::{Progress, RecoverFault};
+use oai_item::Fault;
+use oai_journal::{Record, Recovery};
+use oai_startup::Stop as Other;
+use sqlite_disk::Disk;
+use std::alloc::Global;
 
 /// A progress that is not reported, with the number of records that were replayed.
 #[derive(Drop)]
@@ -10,8 +15,8 @@ pub(crate) struct Counted {
 }
 
 impl Progress for Counted {
-    fn note(&mut self, _position: usize, _len: usize, records: u64) {
-        self.records = records;
+    fn note(&mut self, _entry: &Record<'_>, number: u64, _position: usize, _len: usize) {
+        self.records = number;
     }
 }
 
@@ -21,5 +26,35 @@ pub fn stop_of_recovery(fault: RecoverFault) -> Stop {
         RecoverFault::Journal(fault) => stop_of_reading(fault),
         RecoverFault::Kind(_) => Stop::NotOurs,
         RecoverFault::Performing(number, fault) => Stop::Performing(number, fault),
+    }
+}
+
+/// Why the program stops if a checkpoint that was just written could not be read back. If the handler rejects the part
+/// that was read last, the configuration does not allow it, and the error has the name of its repository.
+pub fn stop_of_checkpoint<D: Disk + Drop>(
+    alloc: Global,
+    fault: RecoverFault,
+    recovery: &Recovery<D>,
+) -> Stop {
+    match fault {
+        RecoverFault::Performing(_, Fault::Damaged) => unfit(alloc, recovery),
+        _ => stop_of_recovery(fault),
+    }
+}
+
+/// The error that the configuration does not allow the part that was read last.
+fn unfit<D: Disk + Drop>(alloc: Global, recovery: &Recovery<D>) -> Stop {
+    let Some(part) = recovery.record() else {
+        return Stop::NotOurs;
+    };
+    let Ok(name) = str::from_utf8(part.name) else {
+        return Stop::NotOurs;
+    };
+    match String::from_str(alloc, name) {
+        Ok(repository) => Stop::OtherConfig(Difference {
+            repository,
+            aspect: Aspect::Contents,
+        }),
+        Err(_) => Stop::Common(Other::NoMemory),
     }
 }

@@ -8,6 +8,7 @@ ghost use Rattle.std.specs.Prelude.{◌≡◌, ◌++◌, ◌∷◌, [], List, So
 use crate::firsts::config_of;
 use crate::journals::stop_of_reading;
 use crate::stop::Stop;
+use oai_durable::{Progress, note_last};
 use oai_journal::Recovery;
 use oai_startup::Stop as Other;
 use sqlite_disk::Disk;
@@ -84,6 +85,24 @@ fn read_next<D: Disk + Drop>(recovery: &mut Recovery<D>) -> Result<bool, Stop>
 {
     match recovery.advance() {
         Ok(more) => Ok(more),
+        Err(fault) => Err(stop_of_reading(fault)),
+    }
+}
+
+/// Reads the records after the first one, which was read, reports each, and reads the first one again. The errors are
+/// those of `verify_journal`, but none of what is written.
+pub fn read_over<D: Disk + Drop, P: Progress>(
+    recovery: &mut Recovery<D>,
+    progress: &mut P,
+) -> Result<(), Stop> {
+    for count in 0..u64::MAX {
+        if !read_next(recovery)? {
+            break;
+        }
+        note_last(progress, recovery, count + 1);
+    }
+    match recovery.begin() {
+        Ok(()) => Ok(()),
         Err(fault) => Err(stop_of_reading(fault)),
     }
 }

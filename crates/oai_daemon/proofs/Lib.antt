@@ -1,3 +1,3 @@
+mod FileLemmas
 mod LifeLemmas
-mod RecoveryLemmas
 mod StartLemmas

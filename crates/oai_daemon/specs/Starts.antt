@@ -1,7 +1,8 @@
 -- How far a startup has come, with which a life begins. This repository's own.
-use Rattle.std.specs.Prelude.{◌≡◌, ℕ, Bool, IsTrue, List, [], length, map, Option, Result, Ok}
+use Rattle.std.specs.Prelude.{◌≡◌, ℕ, Bool, IfSome, IsTrue, List, [], length, map, Option, Result, Ok}
 use Rattle.oai_config.specs.Configs.{HostConfig}
 use Rattle.oai_config.specs.Reading.{IsRead}
+use Rattle.oai_startup.specs.Rules.{HaveRules}
 use Rattle.oai_archive.specs.Firsts.{IsOf}
 use Rattle.oai_host.specs.Hosts.{HostState, begun}
 use Rattle.oai_journal.specs.Records.{Entry}
@@ -17,22 +18,26 @@ use Rattle.oai_durable.specs.Journaled.{IsExchange, IsHeld, IsSettled, Parts, Re
 use Rattle.oai_durable.specs.Records.{Leaving}
 use Rattle.oai_durable.specs.Recovered.{HasRedone, IsRecovered}
 use Rattle.oai_daemon.specs.Archives.{archived}
+use Rattle.oai_daemon.specs.declared.origins.Origin.{Origin}
+use Rattle.oai_daemon.specs.declared.origins.Origin.TheVariants.{Begun}
 
--- all records of the journal after its first one were read and replayed, from that beginning
-abbrev pub HasRedoneAll : {H K D : Type 0} → (H → K) → (H → Bool) → Leaving K → (D → List ℕ) → (D → List ℕ → Type 0) → K → H → Recovery D → Entry → Type 0
-HasRedoneAll kept is_honest leaving seen may_leave begun handler recovery first =
-    (count : ℕ) × IsRecovered kept is_honest leaving seen may_leave begun handler recovery first count
+-- all records of the journal after its first one, that many, were read and replayed, from that beginning, and it is of
+-- the configuration in the text; one that was begun has none; and if the bytes of the file are known, it is their
+-- journal
+pub record HasReplayed {H K D : Type 0} (kept : H → K) (is_honest : H → Bool) (leaving : Leaving K) (seen : D → List ℕ) (may_leave : D → List ℕ → Type 0) (is_clean : D → Bool)
+    (held : Option (List ℕ)) (text : List ℕ) (begun : K) (origin : Origin) (count : ℕ) (handler : H) (recovery : Recovery D) : Type 0 where
+  pub file : IfSome held (λ file. seen (disk_of recovery) ≡ file)
+  pub fresh : origin ≡ Begun → count ≡ 0
+  pub redone : IsTrue (is_clean (disk_of recovery)) → (first : Entry) × IsOf first.name first.body text
+      × IsRecovered kept is_honest leaving seen may_leave begun handler recovery first count
 
--- the host is of the configuration in the text, in its initial state
-abbrev pub IsHostOf : List ℕ → HostState → Type 0
-IsHostOf text host = (config : HostConfig) × IsRead text (Ok config) × (host.repositories ≡ map begun config.repositories)
-
--- the host of the configuration in the text has replayed all records of the journal, which is of that configuration
-pub record HasStarted {D : Type 0} (seen : D → List ℕ) (may_leave : D → List ℕ → Type 0) (is_clean : D → Bool) (text : List ℕ) (host : HostState) (recovery : Recovery D) : Type 0 where
+-- the host of the configuration in the text has done so, from its initial state
+pub record HasStarted {D : Type 0} (seen : D → List ℕ) (may_leave : D → List ℕ → Type 0) (is_clean : D → Bool)
+    (held : Option (List ℕ)) (text : List ℕ) (origin : Origin) (count : ℕ) (host : HostState) (recovery : Recovery D) : Type 0 where
   pub config : HostConfig
   pub read : IsRead text (Ok config)
-  pub redone : IsTrue (is_clean (disk_of recovery)) → (first : Entry) × IsOf first.name first.body text
-      × HasRedoneAll archived.kept archived.is_honest archived.leaving seen may_leave (map begun config.repositories) host recovery first
+  pub rules : HaveRules config
+  pub replayed : HasReplayed archived.kept archived.is_honest archived.leaving seen may_leave is_clean held text (map begun config.repositories) origin count host recovery
 
 -- a server with that handler and no connection served, from when those streams were accepted, until it ended so, in
 -- that world

@@ -1,7 +1,8 @@
 //! Replaces a journal by a checkpoint: a command.
 use crate::places::Place;
-use crate::renewals::renew;
-use oai_archive::{Stop, verify_journal};
+use crate::renewals::{Renewal, renew};
+use crate::starts::keep_checkpoint;
+use oai_archive::{Stop, begin_reading, verify_journal};
 use oai_startup::config_in;
 use std::alloc::Global;
 use std::io::Write;
@@ -22,11 +23,19 @@ pub fn checkpoint_folder<P: Place, C: Clock, W: Write>(
     text: &[u8],
     writer: &mut W,
 ) -> Result<(), Stop> {
-    drop(config_in(alloc, text)?);
+    let config = config_in(alloc, text)?;
     place.lock()?;
     if !place.find_journal()? {
         return Err(Stop::CannotOpen);
     }
-    renew(alloc, place, clock, text, RAISE)?;
-    verify_journal(alloc, place.open_journal()?, writer)
+    let renewal = Renewal {
+        text,
+        config: &config,
+        raise: RAISE,
+    };
+    let mut old = begin_reading(alloc, place.read_journal()?)?;
+    renew(alloc, place, clock, &renewal, &mut old)?;
+    drop(old);
+    keep_checkpoint(alloc, place, clock, text, config)?;
+    verify_journal(alloc, place.read_journal()?, writer)
 }

@@ -1,7 +1,7 @@
 //! The folder, the port and the streams of the system.
 ghost use Rattle.oai_archive.specs.Readings.{IsReadBack};
 ghost use Rattle.oai_journal.specs.Recovered.{disk_of};
-ghost use Rattle.std.specs.Prelude.{IsTrue};
+ghost use Rattle.std.specs.Prelude.{◌≡◌, IfOk, IsTrue};
 
 use crate::notes::Note;
 use crate::places::Place;
@@ -26,22 +26,27 @@ const FILE_MODE: u32 = 0o640;
 /// A folder by its path, a port of 127.0.0.1, and the standard streams. In the folder are `lock`, which is locked from
 /// the first call to the last and never renamed, `journal`, `journal-wal`, which the file layer keeps beside it and
 /// which is empty, and `pages`; while a journal is begun also `journal.new` and `journal.new-wal`.
+///
+/// `S` stands for the bytes of the file of the journal that is served, as it is opened for that. Its value is used up
+/// then, so that no second file is opened as that one.
 #[derive(Drop)]
-pub struct HostPlace<'a> {
+pub struct HostPlace<'a, S> {
     rt: &'a HostRuntime,
     folder: &'a str,
     port: u16,
     lock: Option<File>,
+    start: Option<S>,
 }
 
-impl<'a> HostPlace<'a> {
+impl<'a, S: Start> HostPlace<'a, S> {
     /// The folder at that path, and that port; port 0 means a free one. Nothing is opened.
-    pub fn new(rt: &'a HostRuntime, folder: &'a str, port: u16) -> HostPlace<'a> {
+    pub fn new(rt: &'a HostRuntime, folder: &'a str, port: u16, start: S) -> HostPlace<'a, S> {
         HostPlace {
             rt,
             folder,
             port,
             lock: None,
+            start: Some(start),
         }
     }
 
@@ -100,13 +105,35 @@ impl<'a> HostPlace<'a> {
         }
     }
 
-    /// The disk over the file with that name, whose contents are those of `S`.
-    fn disk<S: Start>(&self, name: &str, start: S) -> Result<FileFrom<S>, Stop> {
-        match open(self.rt, self.path(name)?.as_str(), start) {
-            Ok(Files { log: _, db }) => Ok(db),
-            Err(error) => Err(stop_of_opening(error)),
+    /// The disk over the file with that name, whose contents are those of `S`. The error is `InUse` if one was opened
+    /// before.
+    fn served_disk(&mut self, name: &str) -> Result<FileFrom<S>, Stop>
+        ensures { IfOk result (λ disk. ⟦<FileFrom<S> as Disk>⟧.seen disk ≡ S.Start.db) }
+    {
+        let path = self.path(name)?;
+        match self.start.take() {
+            Some(start) => disk_at(self.rt, path.as_str(), start),
+            None => Err(Stop::InUse),
         }
     }
+}
+
+/// The disk over the file at the path, whose contents are those of `S`.
+fn disk_at<S: Start>(rt: &HostRuntime, path: &str, start: S) -> Result<FileFrom<S>, Stop>
+    ensures { IfOk result (λ disk. ⟦<FileFrom<S> as Disk>⟧.seen disk ≡ S.Start.db) }
+{
+    match open(rt, path, start) {
+        Ok(files) => Ok(database_of(files)),
+        Err(error) => Err(stop_of_opening(error)),
+    }
+}
+
+/// The database file of the two; the log is closed.
+fn database_of<S: Start>(files: Files<FileFrom<S>>) -> FileFrom<S>
+    ensures { result ≡ files.db }
+{
+    let Files { db, .. } = files;
+    db
 }
 
 /// Why the server stops if the file of a journal could not be opened.
@@ -127,8 +154,12 @@ fn stop_of(error: io::Error) -> Stop {
     }
 }
 
-impl Place for HostPlace<'_> {
-    type Disk = FileFrom<Wary>;
+impl<S: Start> Place for HostPlace<'_, S> {
+    ghost use Rattle.std.specs.Prelude.{Some};
+
+    type Disk = FileFrom<S>;
+
+    type OldDisk = FileFrom<Wary>;
 
     type NewDisk = FileFrom<Unknown>;
 
@@ -137,6 +168,8 @@ impl Place for HostPlace<'_> {
     type Link = Socket;
 
     type Port = Listener;
+
+    ghost held = { Some S.Start.db };
 
     fn lock(&mut self) -> Result<(), Stop> {
         self.make_folder()?;
@@ -172,32 +205,13 @@ impl Place for HostPlace<'_> {
         }
     }
 
+    fn read_journal(&mut self) -> Result<FileFrom<Wary>, Stop> {
+        disk_at(self.rt, self.path("journal")?.as_str(), Wary)
+    }
+
     fn begin_journal(&mut self) -> Result<FileFrom<Unknown>, Stop> {
         drop(self.open_file("journal.new", true)?);
-        self.disk("journal.new", Unknown)
-    }
-
-    fn open_begun(&mut self) -> Result<FileFrom<Wary>, Stop> {
-        self.disk("journal.new", Wary)
-    }
-
-    fn keep_journal(&mut self, begun: Recovery<FileFrom<Wary>>) -> Result<(), Stop>
-        requires synced { IsTrue (⟦<FileFrom<Wary> as Disk>⟧.is_clean (disk_of begun))
-            → IsReadBack ⟦<FileFrom<Wary> as Disk>⟧.seen ⟦<FileFrom<Wary> as Disk>⟧.may_leave begun }
-    {
-        drop(begun);
-        let new = self.path("journal.new")?;
-        let kept = self.path("journal")?;
-        if fs::rename(self.rt, new.as_str(), kept.as_str()).is_err() {
-            return Err(Stop::CannotWrite);
-        }
-        self.remove("journal.new-wal")?;
-        self.sync(".")?;
-        self.sync("..")
-    }
-
-    fn open_journal(&mut self) -> Result<FileFrom<Wary>, Stop> {
-        self.disk("journal", Wary)
+        disk_at(self.rt, self.path("journal.new")?.as_str(), Unknown)
     }
 
     fn empty_pages(&mut self) -> Result<FileDevice<File>, Stop> {
@@ -206,6 +220,28 @@ impl Place for HostPlace<'_> {
             Err(Stop::CannotOpen) => Err(Stop::Common(Other::DeviceFault)),
             Err(stop) => Err(stop),
         }
+    }
+
+    fn open_journal(&mut self) -> Result<FileFrom<S>, Stop> {
+        self.served_disk("journal")
+    }
+
+    fn open_begun(&mut self) -> Result<FileFrom<S>, Stop> {
+        self.served_disk("journal.new")
+    }
+
+    fn keep_journal(&mut self, _begun: &Recovery<FileFrom<S>>) -> Result<(), Stop>
+        requires synced { IsTrue (⟦<FileFrom<S> as Disk>⟧.is_clean (disk_of _begun.now))
+            → IsReadBack ⟦<FileFrom<S> as Disk>⟧.seen ⟦<FileFrom<S> as Disk>⟧.may_leave _begun.now }
+    {
+        let new = self.path("journal.new")?;
+        let kept = self.path("journal")?;
+        if fs::rename(self.rt, new.as_str(), kept.as_str()).is_err() {
+            return Err(Stop::CannotWrite);
+        }
+        self.remove("journal.new-wal")?;
+        self.sync(".")?;
+        self.sync("..")
     }
 
     fn announce(&mut self, port: &Listener) -> Result<(), Stop> {

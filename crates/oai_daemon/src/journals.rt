@@ -1,76 +1,123 @@
 //! The journal of a folder, found or begun.
-ghost use Rattle.oai_archive.specs.Readings.{HasBegun, HasBegunFor};
+ghost use Rattle.oai_archive.specs.Readings.{IsReadBack};
+ghost use Rattle.oai_daemon.specs.declared.origins.Origin.TheVariants.{Begun};
 ghost use Rattle.oai_journal.specs.Recovered.{disk_of};
-ghost use Rattle.std.specs.Prelude.{IfOk, IsTrue};
+ghost use Rattle.std.specs.Prelude.{◌≡◌, IsTrue, OnOk};
 
 use crate::clocks::moment_of;
+use crate::dates::Dates;
 use crate::notes::Note;
+use crate::origins::Origin;
 use crate::places::Place;
-use crate::renewals::renew;
-use oai_archive::{Stop, begin_reading, create_journal, has_config, read_begun};
+use crate::renewals::{Renewal, renew};
+use oai_archive::{Stop, begin_reading, create_journal, has_config, read_over};
+use oai_host::Config;
 use oai_journal::Recovery;
+use sqlite_disk::Disk;
 use std::alloc::Global;
 use std::rt::Clock;
 
-/// The journal of the place, whose first record is read: it has the configuration in the text, ignoring the size of the
-/// cache. If there is none it is begun; if it has another configuration with which the archive can continue, it is
-/// replaced by a checkpoint, and the open lists have ended.
-pub(crate) fn open_journal<P: Place, C: Clock>(
+/// A startup replaces a journal by a checkpoint if it is longer than twice its last checkpoint and this many bytes: 64
+/// MiB.
+const MAX_TAIL: usize = 67_108_864;
+
+/// Sees to it that there is a journal of the configuration, which was read from the text; returns where it comes from.
+/// One that was found is the folder's. Any other stands beside it: it was begun, if there was none; or a checkpoint was
+/// written, if the folder's has another configuration with which the archive can continue, or is long while no list is
+/// open.
+pub(crate) fn prepare<P: Place, C: Clock>(
     alloc: Global,
     place: &mut P,
     clock: &C,
     text: &[u8],
-) -> Result<Recovery<P::Disk>, Stop>
-    ensures { IfOk result (λ recovery. IsTrue (P.Disk.Disk.is_clean (disk_of recovery))
-        → HasBegunFor P.Disk.Disk.seen P.Disk.Disk.may_leave text.now recovery) }
-{
+    config: &Config,
+) -> Result<Origin, Stop> {
     if !place.find_journal()? {
-        begin_journal(alloc, place, clock, text)?;
+        let disk = place.begin_journal()?;
+        drop(create_journal(alloc, disk, moment_of(clock)?, text)?);
+        return Ok(Origin::Begun);
     }
-    let recovery = read_first(alloc, place)?;
-    if has_config(alloc, &recovery, text)? {
-        return Ok(recovery);
+    let mut old = begin_reading(alloc, place.read_journal()?)?;
+    let renewal = Renewal {
+        text,
+        config,
+        raise: 0,
+    };
+    let origin = origin_of(alloc, clock, &renewal, &mut old)?;
+    if origin != Origin::Found {
+        renew(alloc, place, clock, &renewal, &mut old)?;
     }
-    drop(recovery);
-    renew(alloc, place, clock, text, 0)?;
-    place.tell(Note::OtherConfig);
-    reopen_journal(alloc, place, text)
+    Ok(origin)
 }
 
-/// The journal of the place, which was replaced by a checkpoint with the configuration in the text; its first record is
-/// read. The error is `NotOurs` if it has another one.
-pub(crate) fn reopen_journal<P: Place>(
+/// Whether the journal, whose first record is read, can go on, or why it is replaced by a checkpoint. Its first record
+/// is read then too.
+fn origin_of<D: Disk + Drop, C: Clock>(
     alloc: Global,
-    place: &mut P,
-    text: &[u8],
-) -> Result<Recovery<P::Disk>, Stop>
-    ensures { IfOk result (λ recovery. IsTrue (P.Disk.Disk.is_clean (disk_of recovery))
-        → HasBegunFor P.Disk.Disk.seen P.Disk.Disk.may_leave text.now recovery) }
-{
-    let recovery = read_first(alloc, place)?;
-    if has_config(alloc, &recovery, text)? {
-        return Ok(recovery);
-    }
-    Err(Stop::NotOurs)
-}
-
-/// The journal of the place, whose first record is read.
-pub(crate) fn read_first<P: Place>(alloc: Global, place: &mut P) -> Result<Recovery<P::Disk>, Stop>
-    ensures { IfOk result (λ recovery. IsTrue (P.Disk.Disk.is_clean (disk_of recovery))
-        → HasBegun P.Disk.Disk.seen P.Disk.Disk.may_leave recovery) }
-{
-    begin_reading(alloc, place.open_journal()?)
-}
-
-/// Begins the journal of the place, with the configuration in the text.
-fn begin_journal<P: Place, C: Clock>(
-    alloc: Global,
-    place: &mut P,
     clock: &C,
-    text: &[u8],
-) -> Result<(), Stop> {
-    let disk = place.begin_journal()?;
-    drop(create_journal(alloc, disk, moment_of(clock)?, text)?);
-    let begun = read_begun(alloc, place.open_begun()?)?;
-    place.keep_journal(begun)
+    renewal: &Renewal<'_>,
+    journal: &mut Recovery<D>,
+) -> Result<Origin, Stop> {
+    if !has_config(alloc, journal, renewal.text)? {
+        return Ok(Origin::Reconfigured);
+    }
+    if is_due(clock, renewal.config, journal)? {
+        return Ok(Origin::Shortened);
+    }
+    Ok(Origin::Found)
+}
+
+/// Whether the journal is long, and no list of the configuration can still be open. The journal is only read if its
+/// file is long; its first record is read then.
+fn is_due<D: Disk + Drop, C: Clock>(
+    clock: &C,
+    config: &Config,
+    journal: &mut Recovery<D>,
+) -> Result<bool, Stop> {
+    if journal.file_len() <= MAX_TAIL {
+        return Ok(false);
+    }
+    let mut dates = Dates::new();
+    read_over(journal, &mut dates)?;
+    if dates.position <= dates.saved.saturating_mul(2).saturating_add(MAX_TAIL) {
+        return Ok(false);
+    }
+    Ok(match dates.listed {
+        Some(last) => moment_of(clock)? > last.saturating_add(longest_lifetime(config)),
+        None => true,
+    })
+}
+
+/// The longest time in seconds that a list of the configuration stays open without a request.
+fn longest_lifetime(config: &Config) -> i64 {
+    let mut longest = 0;
+    for repository in config.repositories() {
+        longest = repository.config.lifetime().max(longest);
+    }
+    i64::try_from(longest).unwrap_or(i64::MAX)
+}
+
+/// Makes the journal that was begun, and was read to its end, the folder's, and reports it if the configuration is
+/// another one.
+pub(crate) fn keep<P: Place>(
+    place: &mut P,
+    origin: Origin,
+    records: u64,
+    begun: &Recovery<P::Disk>,
+) -> Result<(), Stop>
+    requires synced { IsTrue (P.Disk.Disk.is_clean (disk_of begun.now))
+        → IsReadBack P.Disk.Disk.seen P.Disk.Disk.may_leave begun.now }
+    ensures fresh { OnOk result (origin ≡ Begun → records ≡ 0) }
+{
+    match (origin, records) {
+        (Origin::Found, _) => Ok(()),
+        (Origin::Begun, 0) => place.keep_journal(begun),
+        (Origin::Begun, _) => Err(Stop::CannotWrite),
+        (Origin::Shortened, _) => place.keep_journal(begun),
+        (Origin::Reconfigured, _) => {
+            place.keep_journal(begun)?;
+            place.tell(Note::OtherConfig);
+            Ok(())
+        }
+    }
 }

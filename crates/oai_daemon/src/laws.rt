@@ -1,11 +1,24 @@
-//! What holds of every archive that this program serves, over all its lives (a life is one run of the server): a
-//! theorem, by an empty function.
+//! What holds of every archive that this program serves, over all its lives (a life is one run of the server), and of
+//! the file of its journal: theorems, by empty functions.
 ghost use Rattle.oai_daemon.specs.Archives.{archive};
+ghost use Rattle.oai_daemon.specs.Lives.{BeginsWithAll, HasLived};
+ghost use Rattle.oai_daemon.specs.declared.origins.Origin.{Origin as From};
 ghost use Rattle.oai_durable.specs.Checkpoints.{AreStages, IsHistory, Stage};
-ghost use Rattle.oai_host.specs.Hosts.{Repository};
+ghost use Rattle.oai_durable.specs.Journaled.{Parts};
+ghost use Rattle.oai_host.specs.Hosts.{HostState, Repository};
 ghost use Rattle.oai_host.specs.Saved.{emptied_in};
 ghost use Rattle.oai_journal.specs.Records.{Entry};
-ghost use Rattle.std.specs.Prelude.{◌≡◌, [], List};
+ghost use Rattle.oai_journal.specs.Recovered.{disk_of};
+ghost use Rattle.oai_journal.specs.declared.file.FileJournal.{FileJournal as Filed};
+ghost use Rattle.oai_serving.specs.Accepted.{Known};
+ghost use Rattle.oai_serving.specs.Rounds.{World};
+ghost use Rattle.oai_serving.specs.declared.faults.ServeFault.{ServeFault as Fault};
+ghost use Rattle.std.specs.Prelude.{◌≡◌, [], ℕ, IsTrue, List, Result, Some};
+
+use oai_journal::{FileJournal, Journal};
+use oai_serving::Stream;
+use sqlite_disk::Disk;
+use sqlite_std_file::{FileFrom, Start};
 
 /// `stages_law` of a host of repositories. Any number of lives, with checkpoints between them, is one history, which
 /// leaves the states that the last journal leaves. Every answer that was sent has its place in it, in order over all
@@ -17,4 +30,15 @@ pub fn archive_law()
         → emptied_in begun ≡ begun
         → AreStages archive begun [] stages left
         → IsHistory archive begun stages left }
+{}
+
+/// What `serve` promises at a `HostPlace<S>`, of the file that `S` stands for: provided that the file returned what was
+/// written to it as the journal was read, the life began with all log records in it. A theorem, proved by an empty
+/// function.
+pub fn whole_file_law<L: Stream, S: Start>()
+    ensures { (text : List ℕ) (origin : From) (later : Known L) (result : Result Unit Fault) (new : World L (Parts HostState (Filed _)))
+        (lived : HasLived ⟦<FileJournal<FileFrom<S>> as Journal>⟧ ⟦<FileFrom<S> as Disk>⟧.seen ⟦<FileFrom<S> as Disk>⟧.is_clean L.contents L.remaining
+        (Some S.Start.db) text origin later result new)
+        → IsTrue (⟦<FileFrom<S> as Disk>⟧.is_clean (disk_of lived.recovery))
+        → BeginsWithAll ⟦<FileJournal<FileFrom<S>> as Journal>⟧ S.Start.db text origin lived.config lived.old.handler }
 {}

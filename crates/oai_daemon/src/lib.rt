@@ -4,11 +4,12 @@
 
 mod checkpoints;
 mod clocks;
-mod dated;
+mod dates;
 mod host_places;
 mod journals;
 mod laws;
 mod notes;
+mod origins;
 mod places;
 mod recoveries;
 mod renewals;
@@ -18,8 +19,9 @@ mod watched;
 
 pub use checkpoints::checkpoint_folder;
 pub use host_places::HostPlace;
-pub use laws::archive_law;
+pub use laws::{archive_law, whole_file_law};
 pub use notes::Note;
+pub use origins::Origin;
 pub use places::Place;
 pub use service::{Ended, Hosting, serve};
 pub use watched::Watched;

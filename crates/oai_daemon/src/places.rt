@@ -2,7 +2,7 @@
 ghost use Rattle.oai_archive.specs.Readings.{IsReadBack};
 ghost use Rattle.oai_journal.specs.Recovered.{disk_of};
 ghost use Rattle.oai_serving.specs.Accepted.{PassesNone, known_of};
-ghost use Rattle.std.specs.Prelude.{IfOk, IsTrue};
+ghost use Rattle.std.specs.Prelude.{◌≡◌, ℕ, IfOk, IfSome, IsTrue, List, None, Option};
 
 use crate::notes::Note;
 use oai_archive::Stop;
@@ -11,13 +11,17 @@ use oai_journal::Recovery;
 use oai_serving::{Sockets, Stream};
 use sqlite_disk::Disk;
 
-/// A folder, a port, and the streams on which a server reports. The calls are made in the order of the methods here; if
-/// a journal is replaced by a checkpoint, those from `begin_journal` to `empty_pages` are made again.
+/// A folder, a port, and the streams on which a server reports. A startup makes the calls in the order of the methods
+/// here. If a checkpoint replaces the journal, the pages are emptied twice: before `begin_journal`, for the replay of the
+/// old journal, and after it. The journal that is served is opened once, by `open_journal` or `open_begun`. Its disk, the
+/// old journal's, and that of a journal that is written have three types, since a disk's clauses about its contents are
+/// about one file.
 pub trait Place {
-    /// The disk of the journal.
+    /// The disk of the journal that is served.
     type Disk: Disk + Drop;
-    /// The disk of a journal that is begun. It is another type, since a disk's clauses about its contents are about one
-    /// file.
+    /// The disk of the journal that was found, on which it is looked at, and replayed if a checkpoint replaces it.
+    type OldDisk: Disk + Drop;
+    /// The disk of a journal that is begun.
     type NewDisk: Disk + Drop;
     /// The device of the pages.
     type Pages: PageDevice + Drop;
@@ -25,6 +29,9 @@ pub trait Place {
     type Link: Stream + Drop;
     /// What accepts connections.
     type Port: Sockets<Self::Link> + Drop;
+
+    /// The bytes of the file of the journal that is served, as it is opened for that, if they are known.
+    ghost held: { Option (List ℕ) } = { None };
 
     /// Opens the folder, or creates it, and locks it until the end. The errors are `CannotOpen` and `InUse`.
     fn lock(&mut self) -> Result<(), Stop>;
@@ -37,23 +44,28 @@ pub trait Place {
     /// Removes what an earlier startup left of a journal that it began, and returns whether there is a journal.
     fn find_journal(&mut self) -> Result<bool, Stop>;
 
+    /// The disk of the folder's journal, to be read.
+    fn read_journal(&mut self) -> Result<Self::OldDisk, Stop>;
+
     /// The disk of a journal that is begun beside the folder's: it is empty.
     fn begin_journal(&mut self) -> Result<Self::NewDisk, Stop>;
 
-    /// The disk of the journal that was begun and written, to be read back.
-    fn open_begun(&mut self) -> Result<Self::Disk, Stop>;
+    /// The device of the pages, empty.
+    fn empty_pages(&mut self) -> Result<Self::Pages, Stop>;
+
+    /// The disk of the folder's journal, to be served.
+    fn open_journal(&mut self) -> Result<Self::Disk, Stop>
+        ensures { IfOk result (λ disk. IfSome held (λ file. Self.Disk.Disk.seen disk ≡ file)) };
+
+    /// The disk of the journal that was begun and written, to be read back and served.
+    fn open_begun(&mut self) -> Result<Self::Disk, Stop>
+        ensures { IfOk result (λ disk. IfSome held (λ file. Self.Disk.Disk.seen disk ≡ file)) };
 
     /// Replaces the folder's journal, if there is one, by the journal that was begun. It was read to its end, and all
     /// its bytes are synced.
-    fn keep_journal(&mut self, begun: Recovery<Self::Disk>) -> Result<(), Stop>
-        requires synced { IsTrue (Self.Disk.Disk.is_clean (disk_of begun))
-            → IsReadBack Self.Disk.Disk.seen Self.Disk.Disk.may_leave begun };
-
-    /// The disk of the folder's journal.
-    fn open_journal(&mut self) -> Result<Self::Disk, Stop>;
-
-    /// The device of the pages, empty.
-    fn empty_pages(&mut self) -> Result<Self::Pages, Stop>;
+    fn keep_journal(&mut self, begun: &Recovery<Self::Disk>) -> Result<(), Stop>
+        requires synced { IsTrue (Self.Disk.Disk.is_clean (disk_of begun.now))
+            → IsReadBack Self.Disk.Disk.seen Self.Disk.Disk.may_leave begun.now };
 
     /// Writes to standard output at which port it listens. The error is `OutputFault`, or `SocketFault` if the port is
     /// not known.

@@ -1,18 +1,20 @@
 //! Replays what a server performed before.
-ghost use Rattle.oai_daemon.specs.Starts.{HasRedoneAll};
 ghost use Rattle.oai_durable.specs.Recovered.{IsRecovered};
 ghost use Rattle.oai_journal.specs.Records.{Entry};
 ghost use Rattle.oai_journal.specs.Recovered.{HasRecovered, disk_of};
-ghost use Rattle.std.specs.Prelude.{[], IfOk, IsTrue};
+ghost use Rattle.std.specs.Prelude.{◌≡◌, [], IfOk, IsTrue};
 
 use crate::clocks::{moment_of, second_of};
-use crate::dated::Dated;
+use crate::dates::Dates;
 use crate::notes::Note;
+use crate::origins::Origin;
 use crate::places::Place;
-use oai_archive::{Stop, stop_of_recovery};
-use oai_durable::{Progress, recover};
+use oai_archive::{Stop, stop_of_checkpoint, stop_of_recovery};
+use oai_durable::{Progress, RecoverFault, recover};
 use oai_http::Replayed;
-use oai_journal::Recovery;
+use oai_journal::{Record, Recovery};
+use sqlite_disk::Disk;
+use std::alloc::Global;
 use std::rt::Clock;
 
 /// How many seconds the clock may be ahead of the last record without a warning: 366 days.
@@ -26,71 +28,93 @@ const MAX_BEHIND: i64 = 3_600;
 struct Meter<'a, P, C> {
     place: &'a mut P,
     clock: &'a C,
+    /// The second at which the recovery began.
+    begun: u64,
     /// The second of the last report.
     last: u64,
+    /// What is known of the records.
+    dates: Dates,
 }
 
 impl<P: Place, C: Clock> Progress for Meter<'_, P, C> {
-    fn note(&mut self, position: usize, len: usize, records: u64) {
+    fn note(&mut self, entry: &Record<'_>, number: u64, position: usize, len: usize) {
+        self.dates.note(entry, number, position, len);
         let second = second_of(self.clock);
         if second > self.last {
             self.last = second;
-            self.place.tell(Note::Recovering(position, len, records));
+            self.place.tell(Note::Recovering(position, len, number));
         }
     }
 }
 
-/// Replays the records of the journal after its first one. It reports its progress each second, at its end the totals,
-/// and whether the clock is far from the last record. The handler then has its state again. The errors are `Damaged`,
-/// `NotOurs`, `Performing`, `InputFault` and `NoMemory`.
-pub(crate) fn recover_all<P: Place, H: Replayed + Drop, C: Clock>(
-    place: &mut P,
-    clock: &C,
-    handler: H,
-    recovery: &mut Recovery<P::Disk>,
-) -> Result<Dated<H>, Stop>
-    ensures recovered { IfOk result (λ dated. IsTrue (P.Disk.Disk.is_clean (disk_of recovery.new)) → (first : Entry)
-        → HasRecovered P.Disk.Disk.seen P.Disk.Disk.may_leave recovery.old first []
-        → HasRedoneAll H.kept H.is_honest (record { redone = H.redone; restored = H.restored })
-        P.Disk.Disk.seen P.Disk.Disk.may_leave (H.kept handler) dated.handler recovery.new first) }
-    ensures clean { IsTrue (P.Disk.Disk.is_clean (disk_of recovery.new))
-        → IsTrue (P.Disk.Disk.is_clean (disk_of recovery.old)) }
-{
-    let begun = second_of(clock);
-    let mut dated = Dated::new(handler);
-    let records = recover_dated(place, clock, &mut dated, recovery)?;
-    let seconds = second_of(clock).saturating_sub(begun);
-    place.tell(Note::Recovered(records, recovery.position(), seconds));
-    tell_clock(place, moment_of(clock)?, dated.last);
-    Ok(dated)
-}
+impl<'a, P: Place, C: Clock> Meter<'a, P, C> {
+    /// Of a recovery that begins.
+    fn new(place: &'a mut P, clock: &'a C) -> Meter<'a, P, C> {
+        let begun = second_of(clock);
+        Meter {
+            place,
+            clock,
+            begun,
+            last: begun,
+            dates: Dates::new(),
+        }
+    }
 
-/// Replays the records of the journal after its first one; returns how many there are.
-fn recover_dated<P: Place, H: Replayed, C: Clock>(
-    place: &mut P,
-    clock: &C,
-    handler: &mut H,
-    recovery: &mut Recovery<P::Disk>,
-) -> Result<u64, Stop>
-    ensures recovered { IfOk result (λ count. IsTrue (P.Disk.Disk.is_clean (disk_of recovery.new)) → (first : Entry)
-        → HasRecovered P.Disk.Disk.seen P.Disk.Disk.may_leave recovery.old first []
-        → IsRecovered H.kept H.is_honest (record { redone = H.redone; restored = H.restored })
-        P.Disk.Disk.seen P.Disk.Disk.may_leave (H.kept handler.old) handler.new recovery.new first count) }
-    ensures clean { IsTrue (P.Disk.Disk.is_clean (disk_of recovery.new))
-        → IsTrue (P.Disk.Disk.is_clean (disk_of recovery.old)) }
-{
-    let last = second_of(clock);
-    match recover(handler, recovery, &mut Meter { place, clock, last }) {
-        Ok(records) => Ok(records),
-        Err(fault) => Err(stop_of_recovery(fault)),
+    /// Reports the totals of the recovery, and whether the clock is far from the last record. The error is
+    /// `InputFault` if the clock cannot be read.
+    fn end(&mut self, records: u64, position: usize) -> Result<(), Stop> {
+        let seconds = second_of(self.clock).saturating_sub(self.begun);
+        self.place.tell(Note::Recovered(records, position, seconds));
+        let moment = moment_of(self.clock)?;
+        match self.dates.last {
+            Some(last) if is_far(moment, last) => self.place.tell(Note::Clock(moment, last)),
+            _ => {}
+        }
+        Ok(())
     }
 }
 
-/// Reports if the moment is more than 366 days ahead of the last record, or more than an hour behind it.
-fn tell_clock<P: Place>(place: &mut P, moment: i64, last: Option<i64>) {
-    match last {
-        Some(last) if is_far(moment, last) => place.tell(Note::Clock(moment, last)),
-        _ => {}
+/// Replays the records of the journal after its first one; returns how many there are. It reports its progress each
+/// second, at its end the totals, and whether the clock is far from the last record. The handler then has its state
+/// again. The errors are `Damaged`, `NotOurs`, `Performing`, `InputFault` and `NoMemory`; and `OtherConfig` if a part of
+/// a checkpoint that was just written does not fit the handler.
+pub(crate) fn recover_all<D: Disk + Drop, P: Place, H: Replayed, C: Clock>(
+    alloc: Global,
+    place: &mut P,
+    clock: &C,
+    origin: Origin,
+    handler: &mut H,
+    recovery: &mut Recovery<D>,
+) -> Result<u64, Stop>
+    ensures recovered { IfOk result (λ count. IsTrue (D.Disk.is_clean (disk_of recovery.new)) → (first : Entry)
+        → HasRecovered D.Disk.seen D.Disk.may_leave recovery.old first []
+        → IsRecovered H.kept H.is_honest (record { redone = H.redone; restored = H.restored })
+        D.Disk.seen D.Disk.may_leave (H.kept handler.old) handler.new recovery.new first count) }
+    ensures seen { D.Disk.seen (disk_of recovery.new) ≡ D.Disk.seen (disk_of recovery.old) }
+    ensures clean { IsTrue (D.Disk.is_clean (disk_of recovery.new)) → IsTrue (D.Disk.is_clean (disk_of recovery.old)) }
+{
+    let mut meter = Meter::new(place, clock);
+    match recover(handler, recovery, &mut meter) {
+        Ok(records) => match meter.end(records, recovery.position()) {
+            Ok(()) => Ok(records),
+            Err(stop) => Err(stop),
+        },
+        Err(fault) => Err(stop_of(alloc, origin, fault, recovery)),
+    }
+}
+
+/// Why the server stops if the replay failed at the record that was read last.
+fn stop_of<D: Disk + Drop>(
+    alloc: Global,
+    origin: Origin,
+    fault: RecoverFault,
+    recovery: &Recovery<D>,
+) -> Stop {
+    match origin {
+        Origin::Found => stop_of_recovery(fault),
+        Origin::Begun => stop_of_recovery(fault),
+        Origin::Shortened => stop_of_checkpoint(alloc, fault, recovery),
+        Origin::Reconfigured => stop_of_checkpoint(alloc, fault, recovery),
     }
 }
 

@@ -6,14 +6,15 @@ ghost use Rattle.oai_serving.specs.Accepted.{PassesNone, known_of};
 ghost use Rattle.std.specs.Prelude.{◌≡◌, IfOk};
 
 use crate::clocks::{GuardedClock, to_moment};
+use crate::origins::Origin;
 use crate::places::Place;
-use crate::starts::start;
+use crate::starts::{Started, start};
 use crate::watched::Watched;
 use oai_archive::Stop;
 use oai_durable::{Journaled, resume};
 use oai_host::Host;
 use oai_http::{Replayed, Settled};
-use oai_journal::{FileJournal, Journal, Recovery};
+use oai_journal::{FileJournal, Journal};
 use oai_paged::PagedVersions;
 use oai_serving::{ServeFault, Server, Sockets, Stream};
 use oai_startup::{Stop as Other, config_in};
@@ -31,6 +32,8 @@ pub struct Ended<S, K, H> {
     pub result: Result<(), ServeFault>,
     /// The second from 1970 on to which the system's clock jumped, if it did.
     pub jumped: Option<u64>,
+    /// Where its journal came from.
+    pub origin: Origin,
 }
 
 impl<S, K, H> Ended<S, K, H> {
@@ -58,9 +61,9 @@ pub type Hosting<'a, P> = Watched<
 /// is killed or cannot continue. What is performed is logged in the journal, and synced, before it is answered. The
 /// error is why it stopped before it served; the value is what its service ended with.
 ///
-/// A startup goes in this order, and stops at the first fault: the configuration, the folder, the port, the journal and
-/// its first record, the pages, all other records, and the report of where the server listens. A journal with another
-/// configuration, and one that is long while no list is open, is replaced by a checkpoint before that.
+/// A startup goes in this order, and stops at the first fault: the configuration, the folder, the port, the journal that
+/// is found and its first record, the pages, all other records, and the report of where the server listens. A journal
+/// with another configuration, and one that is long while no list is open, is replaced by a checkpoint before that.
 pub fn serve<'a, P: Place, C: Clock>(
     alloc: Global,
     place: &'a mut P,
@@ -68,20 +71,19 @@ pub fn serve<'a, P: Place, C: Clock>(
     text: &[u8],
 ) -> Result<Ended<P::Link, P::Port, Hosting<'a, P>>, Stop>
     ensures { IfOk result (λ ended. HasLived ⟦<FileJournal<P::Disk> as Journal>⟧ P.Disk.Disk.seen P.Disk.Disk.is_clean
-        P.Link.Stream.contents P.Link.Stream.remaining text.now
+        P.Link.Stream.contents P.Link.Stream.remaining P.held text.now ended.origin
         (known_of (P.Port.Sockets.accepted ended.port) (P.Port.Sockets.gone ended.port)) ended.result ended.server) }
 {
-    let port = open(alloc, place, text)?;
-    let started = start(alloc, place, clock, text)?;
-    let (recovery, recovered) = started;
-    serve_over(alloc, place, clock, recovered.handler, recovery, port)
+    let config = config_in(alloc, text)?;
+    let port = open(place)?;
+    let started = start(alloc, place, clock, text, config)?;
+    serve_over(alloc, place, clock, started, port)
 }
 
-/// Reads the configuration, opens the folder, and listens.
-fn open<P: Place>(alloc: Global, place: &mut P, text: &[u8]) -> Result<P::Port, Stop>
+/// Opens the folder, and listens.
+fn open<P: Place>(place: &mut P) -> Result<P::Port, Stop>
     ensures { IfOk result (λ port. PassesNone (known_of (P.Port.Sockets.accepted port) (P.Port.Sockets.gone port))) }
 {
-    drop(config_in(alloc, text)?);
     place.lock()?;
     place.listen()
 }
@@ -91,11 +93,10 @@ fn serve_over<'a, P: Place, H: Replayed + Drop, C: Clock>(
     alloc: Global,
     place: &'a mut P,
     clock: &C,
-    handler: H,
-    recovery: Recovery<P::Disk>,
+    started: Started<P::Disk, H>,
     port: P::Port,
 ) -> Result<Ended<P::Link, P::Port, Watched<'a, Journaled<H, FileJournal<P::Disk>>, P>>, Stop>
-    ensures { IfOk result (λ ended. HasResumed (record {
+    ensures resumed { IfOk result (λ ended. HasResumed (record {
       step = H.step;
       Kept = H.Kept;
       kept = H.kept;
@@ -103,27 +104,36 @@ fn serve_over<'a, P: Place, H: Replayed + Drop, C: Clock>(
       leaving = record { redone = H.redone; restored = H.restored };
       reply = H.reply;
     }) ⟦<FileJournal<P::Disk> as Journal>⟧ P.Disk.Disk.seen P.Disk.Disk.may_leave
-        P.Link.Stream.contents P.Link.Stream.remaining handler recovery
+        P.Link.Stream.contents P.Link.Stream.remaining started.handler started.recovery
         (known_of (P.Port.Sockets.accepted port) (P.Port.Sockets.gone port))
         (known_of (P.Port.Sockets.accepted ended.port) (P.Port.Sockets.gone ended.port)) ended.result ended.server) }
+    ensures origin { IfOk result (λ ended. ended.origin ≡ started.origin) }
 {
+    let Started {
+        handler,
+        recovery,
+        origin,
+        ..
+    } = started;
     let Some(journaled) = resume(alloc, handler, recovery) else {
         return Err(Stop::Common(Other::InputFault));
     };
     place.announce(&port)?;
     let watched = Watched::new(journaled, place);
-    serve_at(alloc, &GuardedClock::new(clock), watched, port)
+    serve_at(alloc, &GuardedClock::new(clock), origin, watched, port)
 }
 
 /// Serves the handler until it is killed or cannot continue. The error is out of memory, before it served.
 fn serve_at<S: Stream + Drop, K: Sockets<S> + Drop, H: Settled + Drop, C: Clock>(
     alloc: Global,
     clock: &GuardedClock<'_, C>,
+    origin: Origin,
     handler: H,
     mut port: K,
 ) -> Result<Ended<S, K, H>, Stop>
-    ensures { IfOk result (λ ended. HasServed H.step H.settled S.contents S.remaining handler
+    ensures served { IfOk result (λ ended. HasServed H.step H.settled S.contents S.remaining handler
         (known_of (K.accepted port) (K.gone port)) (known_of (K.accepted ended.port) (K.gone ended.port)) ended.result ended.server) }
+    ensures origin { IfOk result (λ ended. ended.origin ≡ origin) }
 {
     let Ok(mut server) = Server::new(alloc, handler) else {
         return Err(Stop::Common(Other::NoMemory));
@@ -134,6 +144,7 @@ fn serve_at<S: Stream + Drop, K: Sockets<S> + Drop, H: Settled + Drop, C: Clock>
         port,
         result,
         jumped: clock.jumped(),
+        origin,
     })
 }
 

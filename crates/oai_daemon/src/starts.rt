@@ -1,125 +1,123 @@
 //! A host that has replayed a journal.
-ghost use Rattle.oai_archive.specs.Readings.{HasBegunFor};
-ghost use Rattle.oai_daemon.specs.Starts.{HasStarted, IsHostOf};
-ghost use Rattle.oai_journal.specs.Recovered.{disk_of};
-ghost use Rattle.std.specs.Prelude.{IfOk, IsTrue};
+ghost use Rattle.oai_config.specs.Reading.{IsRead};
+ghost use Rattle.oai_startup.specs.Rules.{HaveRules};
+ghost use Rattle.oai_daemon.specs.Starts.{HasReplayed, HasStarted};
+ghost use Rattle.oai_host.specs.Hosts.{begun};
+ghost use Rattle.std.specs.Prelude.{◌≡◌, IfOk, IfSome, Ok, map};
 
-use crate::clocks::moment_of;
-use crate::dated::Dated;
-use crate::journals::{open_journal, reopen_journal};
+use crate::journals::{keep, prepare};
+use crate::origins::Origin;
 use crate::places::Place;
 use crate::recoveries::recover_all;
-use crate::renewals::replace_journal;
-use oai_archive::Stop;
-use oai_host::Host;
+use oai_archive::{Stop, begin_for};
+use oai_host::{Config, Host};
+use oai_http::Replayed;
 use oai_journal::Recovery;
 use oai_paged::PagedVersions;
-use oai_startup::{config_in, host_on};
+use oai_startup::host_on;
+use sqlite_disk::Disk;
 use std::alloc::Global;
 use std::rt::Clock;
 
-/// A startup replaces a journal by a checkpoint if it is longer than twice its last checkpoint and this many bytes: 64
-/// MiB.
-const MAX_TAIL: usize = 67_108_864;
+/// A handler that has replayed a journal.
+#[derive(Drop)]
+pub(crate) struct Started<D: Disk, H> {
+    /// It has the state that the records leave.
+    pub(crate) handler: H,
+    /// All of them were read.
+    pub(crate) recovery: Recovery<D>,
+    /// How many there are after the first one.
+    pub(crate) records: u64,
+    /// Where the journal comes from.
+    pub(crate) origin: Origin,
+}
 
-/// A host over the pages of a place, recovered from the journal of the place.
-pub(crate) type Started<P> = (
-    Recovery<<P as Place>::Disk>,
-    Dated<Host<PagedVersions<<P as Place>::Pages>>>,
-);
-
-/// The host of the configuration in the text, in the state that the journal of the place gives. A journal with another
-/// configuration, and one that is long while no list is open, is replaced by a checkpoint before that.
+/// The host of the configuration, which was read from the text, in the state that the journal of the place gives. If
+/// there is none, it is begun; one with another configuration, and one that is long while no list is open, is replaced
+/// by a checkpoint, and the host is the one that read that back.
 pub(crate) fn start<P: Place, C: Clock>(
     alloc: Global,
     place: &mut P,
     clock: &C,
     text: &[u8],
-) -> Result<Started<P>, Stop>
-    ensures { IfOk result (λ started. HasStarted P.Disk.Disk.seen P.Disk.Disk.may_leave P.Disk.Disk.is_clean text.now
-        started.1.handler started.0) }
+    config: Config,
+) -> Result<Started<P::Disk, Host<PagedVersions<P::Pages>>>, Stop>
+    requires read { IsRead text.now (Ok config) }
+    requires rules { HaveRules config }
+    ensures { IfOk result (λ started. HasStarted P.Disk.Disk.seen P.Disk.Disk.may_leave P.Disk.Disk.is_clean P.held
+        text.now started.origin started.records started.handler started.recovery) }
 {
-    let recovery = open_journal(alloc, place, clock, text)?;
-    let started = recovered_host(alloc, place, clock, text, recovery)?;
-    if is_due::<P, C>(alloc, clock, text, &started)? {
-        return restart(alloc, place, clock, text, started);
-    }
-    Ok(started)
+    let origin = prepare(alloc, place, clock, text, &config)?;
+    let host = host_in(alloc, place, config)?;
+    start_by(alloc, place, clock, text, origin, host)
 }
 
-/// The host with its state, except that its lists have ended, after a checkpoint replaced the journal.
-fn restart<P: Place, C: Clock>(
+/// The handler, after it replayed all records of the journal of the place, which has that origin and the configuration
+/// in the text. One that was not found replaces the folder's then.
+fn start_by<P: Place, H: Replayed + Drop, C: Clock>(
     alloc: Global,
     place: &mut P,
     clock: &C,
     text: &[u8],
-    started: Started<P>,
-) -> Result<Started<P>, Stop>
-    ensures { IfOk result (λ started. HasStarted P.Disk.Disk.seen P.Disk.Disk.may_leave P.Disk.Disk.is_clean text.now
-        started.1.handler started.0) }
+    origin: Origin,
+    mut handler: H,
+) -> Result<Started<P::Disk, H>, Stop>
+    ensures { IfOk result (λ started. HasReplayed H.kept H.is_honest (record { redone = H.redone; restored = H.restored })
+        P.Disk.Disk.seen P.Disk.Disk.may_leave P.Disk.Disk.is_clean P.held text.now (H.kept handler)
+        started.origin started.records started.handler started.recovery) }
 {
-    replace_journal(alloc, place, clock, text, started, 0)?;
-    let recovery = reopen_journal(alloc, place, text)?;
-    recovered_host(alloc, place, clock, text, recovery)
-}
-
-/// The host of the configuration in the text, over emptied pages, after it replayed the whole journal. The first record
-/// of the journal is read.
-pub(crate) fn recovered_host<P: Place, C: Clock>(
-    alloc: Global,
-    place: &mut P,
-    clock: &C,
-    text: &[u8],
-    mut recovery: Recovery<P::Disk>,
-) -> Result<Started<P>, Stop>
-    requires { IsTrue (P.Disk.Disk.is_clean (disk_of recovery))
-        → HasBegunFor P.Disk.Disk.seen P.Disk.Disk.may_leave text.now recovery }
-    ensures { IfOk result (λ started. HasStarted P.Disk.Disk.seen P.Disk.Disk.may_leave P.Disk.Disk.is_clean text.now
-        started.1.handler started.0) }
-{
-    let host = host_in(alloc, place, text)?;
-    let recovered = recover_all(place, clock, host, &mut recovery)?;
-    Ok((recovery, recovered))
-}
-
-/// The host of the configuration in the text over emptied pages, in its initial state.
-#[tactic(auto, using(crate::proofs::StartLemmas::host_of))]
-pub(crate) fn host_in<P: Place>(
-    alloc: Global,
-    place: &mut P,
-    text: &[u8],
-) -> Result<Host<PagedVersions<P::Pages>>, Stop>
-    ensures { IfOk result (IsHostOf text.now) }
-{
-    let config = config_in(alloc, text)?;
-    let pages = place.empty_pages()?;
-    Ok(host_on(alloc, config, pages)?)
-}
-
-/// Whether the journal is long, and no list can still be open.
-fn is_due<P: Place, C: Clock>(
-    alloc: Global,
-    clock: &C,
-    text: &[u8],
-    started: &Started<P>,
-) -> Result<bool, Stop> {
-    let (recovery, recovered) = started;
-    let least = recovered.saved.saturating_mul(2).saturating_add(MAX_TAIL);
-    if recovery.position() <= least {
-        return Ok(false);
-    }
-    let lifetime = longest_lifetime(alloc, text)?;
-    Ok(match recovered.listed {
-        Some(last) => moment_of(clock)? > last.saturating_add(lifetime),
-        None => true,
+    let disk = open_for(place, origin)?;
+    let mut recovery = begin_for(alloc, disk, text)?;
+    let records = recover_all(alloc, place, clock, origin, &mut handler, &mut recovery)?;
+    keep(place, origin, records, &recovery)?;
+    Ok(Started {
+        handler,
+        recovery,
+        records,
+        origin,
     })
 }
 
-/// The longest time in seconds that a list of the configuration in the text stays open without a request.
-fn longest_lifetime(alloc: Global, text: &[u8]) -> Result<i64, Stop> {
-    let mut longest = 0;
-    for repository in config_in(alloc, text)?.into_repositories().as_slice() {
-        longest = repository.config.lifetime().max(longest);
+/// The disk of the journal with that origin, to be served.
+fn open_for<P: Place>(place: &mut P, origin: Origin) -> Result<P::Disk, Stop>
+    ensures { IfOk result (λ disk. IfSome P.held (λ file. P.Disk.Disk.seen disk ≡ file)) }
+{
+    match origin {
+        Origin::Found => place.open_journal(),
+        Origin::Begun => place.open_begun(),
+        Origin::Shortened => place.open_begun(),
+        Origin::Reconfigured => place.open_begun(),
     }
-    Ok(i64::try_from(longest).unwrap_or(i64::MAX))
+}
+
+/// Replaces the journal of the place by the checkpoint beside it, which has the configuration, read from the text.
+pub(crate) fn keep_checkpoint<P: Place, C: Clock>(
+    alloc: Global,
+    place: &mut P,
+    clock: &C,
+    text: &[u8],
+    config: Config,
+) -> Result<(), Stop> {
+    let host = host_in(alloc, place, config)?;
+    dropped(start_by(alloc, place, clock, text, Origin::Shortened, host))
+}
+
+/// Whether it started.
+fn dropped<D: Disk + Drop, H: Drop>(started: Result<Started<D, H>, Stop>) -> Result<(), Stop> {
+    match started {
+        Ok(_) => Ok(()),
+        Err(stop) => Err(stop),
+    }
+}
+
+/// The host of the configuration over emptied pages, in its initial state.
+pub(crate) fn host_in<P: Place>(
+    alloc: Global,
+    place: &mut P,
+    config: Config,
+) -> Result<Host<PagedVersions<P::Pages>>, Stop>
+    ensures { IfOk result (λ host. host.repositories ≡ map begun config.repositories) }
+{
+    let pages = place.empty_pages()?;
+    Ok(host_on(alloc, config, pages)?)
 }

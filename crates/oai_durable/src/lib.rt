@@ -11,4 +11,4 @@ mod recovery;
 pub use checkpoints::{CheckpointFault, checkpoint};
 pub use journaled::Journaled;
 pub use laws::{life_law, recovery_law, restart_law, service_law, stages_law};
-pub use recovery::{Progress, RecoverFault, recover, resume};
+pub use recovery::{Progress, RecoverFault, note_last, recover, resume};

@@ -32,8 +32,9 @@ pub enum RecoverFault {
 
 /// Receives the progress of a recovery.
 pub trait Progress {
-    /// That many bytes of `len` were read, and that many records were performed.
-    fn note(&mut self, position: usize, len: usize, records: u64);
+    /// The record with that number was read and replayed, counted from 1 after the first one. That many bytes of `len`
+    /// were read then.
+    fn note(&mut self, entry: &Record<'_>, number: u64, position: usize, len: usize);
 }
 
 /// Replays the records of the journal after its first one, one by one, and restores those that are parts; returns how
@@ -60,12 +61,23 @@ pub fn recover<H: Replayed, D: Disk + Drop, P: Progress>(
 {
     for count in 0..u64::MAX {
         match redo_next(handler, recovery, count + 1) {
-            Ok(true) => progress.note(recovery.position(), recovery.file_len(), count + 1),
+            Ok(true) => note_last(progress, recovery, count + 1),
             Ok(false) => return Ok(count),
             Err(fault) => return Err(fault),
         }
     }
     Err(RecoverFault::Kind(u64::MAX))
+}
+
+/// Reports the record that was read last, which has that number.
+pub fn note_last<D: Disk + Drop, P: Progress>(
+    progress: &mut P,
+    recovery: &Recovery<D>,
+    number: u64,
+) {
+    if let Some(entry) = recovery.record() {
+        progress.note(&entry, number, recovery.position(), recovery.file_len());
+    }
 }
 
 /// The handler with the journal whose records it replayed; `None` before all of them were read.

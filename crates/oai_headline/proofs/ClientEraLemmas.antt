@@ -26,7 +26,7 @@ use Rattle.oai_host.specs.Answers.{answer_of}
 use Rattle.oai_headline.specs.Chains.{IsPrinted, IsRequest}
 use Rattle.oai_headline.specs.ClientHarvests.{AreClientHarvestsWithin, AreSuccessiveByClientWithin, ClientHarvest, IsClientHarvestWithin, IsWholeClientCopy, all_visits, client_copy, datestamp_in, last_client_harvest}
 use Rattle.oai_headline.specs.Eras.{AreTokensEnded, AreTokensRefused, AreTrueEach, AreTrueOver, FollowListsOver, HaveNumbersIn, IsTokenRefused, MissNothingOver, VisitedEra, era_begins, era_leaves, era_visits, visits_within}
-use Rattle.oai_headline.specs.Headline.{HasRules}
+use Rattle.oai_startup.specs.Rules.{HasRules}
 use Rattle.oai_headline.specs.Throughout.{calls_done}
 use Rattle.oai_headline.specs.Visits.{Visit, commands_in, found_by, steps_of, visits}
 use Rattle.oai_headline.proofs.CarriedLemmas.{steps_run}

@@ -41,7 +41,7 @@ use Rattle.oai_http.specs.declared.exchanges.Answer.{Answer as HttpAnswer}
 use Rattle.oai_http.specs.declared.exchanges.Call.{Call}
 use Rattle.oai_host.specs.Tasks.{asking}
 use Rattle.oai_headline.specs.ClientHarvests.{AreClientHarvests, AreNextSeen, AreSuccessiveByClient, ClientHarvest, IsClientHarvest, IsNextSeen, IsRecordIn, IsSeenVisit, IsWholeClientCopy, SeenVisit, client_copy, datestamp_in, is_harvest_end, last_client_harvest, last_of_each, last_visit, records_of, records_seen, visits_of}
-use Rattle.oai_headline.specs.Headline.{HasRules}
+use Rattle.oai_startup.specs.Rules.{HasRules}
 use Rattle.oai_host.specs.Alone.{own_answers, own_calls}
 use Rattle.oai_headline.specs.Throughout.{AreTrueFrom, own_calls_done, own_given, whole_visits}
 use Rattle.oai_headline.specs.Visits.{Visit, commands_in, found_by, visits}

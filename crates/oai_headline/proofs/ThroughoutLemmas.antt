@@ -15,7 +15,8 @@ use Rattle.oai_host.specs.Performed.{StoreState}
 use Rattle.oai_host.specs.Tasks.{asking, task_of}
 use Rattle.oai_host.proofs.RunLemmas.{all_answered, alone_from}
 use Rattle.oai_startup.specs.Begun.{IsBegunOn}
-use Rattle.oai_headline.specs.Headline.{HasRules, HaveRules, IsMadeOf}
+use Rattle.oai_startup.specs.Rules.{HasRules, HaveRules}
+use Rattle.oai_headline.specs.Headline.{IsMadeOf}
 use Rattle.oai_headline.specs.Throughout.{IsTrueVisit, IsTrueBy, IsThroughout, IsThroughoutAt, left_by, own_given, own_calls_done, calls_done, calls_done_in, calls_done_by, visits_given, whole_visits}
 use Rattle.oai_headline.specs.Visits.{Visit, commands_in, steps_of, visits}
 use Rattle.oai_headline.proofs.GivenLemmas.{all_met}

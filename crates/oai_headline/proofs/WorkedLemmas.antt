@@ -32,7 +32,8 @@ use Rattle.oai_host.specs.Alone.{own_calls}
 use Rattle.oai_host.specs.Answers.{answer_of}
 use Rattle.oai_headline.specs.Visits.{Visit, commands_in, steps_of}
 use Rattle.oai_headline.specs.Chains.{IsStepOf}
-use Rattle.oai_headline.specs.Headline.{HasRules, HaveRules, own_steps, own_visits}
+use Rattle.oai_startup.specs.Rules.{HasRules, HaveRules}
+use Rattle.oai_headline.specs.Headline.{own_steps, own_visits}
 use Rattle.oai_headline.specs.Worked.{AreMadeBeside, IsTold, IsWorkedList, first_entry, second_entry, worked_calls, worked_host}
 use Rattle.oai_headline.proofs.CarriedLemmas.{steps_run}
 use Rattle.oai_headline.proofs.FoundLemmas.{AreFound, IsAsked, found, without_second}

@@ -1,10 +1,9 @@
 -- What the laws of a host require, and what holds of harvests of its repositories. OAI-PMH 2.0, sections 2.7 and 3.5;
 -- many repositories behind one interface are this repository's own.
 use Rattle.std.specs.Prelude.{◌≡◌, ℕ, Bool, List, [], ◌∷◌, map}
-use Rattle.std.specs.List.{All, flat_map}
+use Rattle.std.specs.List.{flat_map}
 use Rattle.oai_item.specs.declared.deleted_record.DeletedRecord.TheVariants.{Persistent}
-use Rattle.oai_item.specs.Formats.{AreRepositoryFormats}
-use Rattle.oai_settings.specs.Config.{Config, IsConfig}
+use Rattle.oai_settings.specs.Config.{Config}
 use Rattle.oai_repo.specs.State.{empty_state}
 use Rattle.oai_laws.specs.Runs.{Exchange}
 use Rattle.oai_config.specs.Configs.{HostConfig, NamedConfig}
@@ -16,14 +15,6 @@ use Rattle.oai_laws.specs.Harvests.{AreSuccessive, Harvest, IsWholeCopy, harvest
 use Rattle.oai_headline.specs.Visits.{Visit, steps_of, visits}
 
 -- ---- the premises
-
--- each repository's configuration satisfies the rules
-pub record HasRules (entry : NamedConfig) : Type 0 where
-  pub rules : IsConfig entry.config
-  pub formats : AreRepositoryFormats entry.config.formats
-
-abbrev pub HaveRules : HostConfig → Type 0
-HaveRules config = All HasRules config.repositories
 
 -- a host as it is made of the configuration over a store, which is that honest: each of its repositories is in its
 -- initial state

@@ -13,9 +13,9 @@ ghost use Rattle.oai_http.specs.declared.exchanges.Answer.{Answer};
 ghost use Rattle.oai_http.specs.declared.exchanges.Call.{Call};
 ghost use Rattle.oai_host.specs.Alone.{own_answers, own_calls};
 ghost use Rattle.oai_headline.specs.Chains.{IsStepOf};
+ghost use Rattle.oai_startup.specs.Rules.{HasRules};
 ghost use Rattle.oai_headline.specs.ClientHarvests.{AreSuccessiveByClient, AreSuccessiveByClientWithin, ClientHarvest, IsSeen, IsSomeClientHarvest, IsWholeClientCopy, client_copy, last_client_harvest};
 ghost use Rattle.oai_headline.specs.Eras.{AreTrueOver, HaveNumbersIn, VisitedEra, visits_within};
-ghost use Rattle.oai_headline.specs.Headline.{HasRules};
 ghost use Rattle.oai_headline.specs.Throughout.{AreTrueFrom, own_given, whole_visits};
 ghost use Rattle.oai_headline.specs.Visits.{Visit, commands_in, found_by, visits};
 

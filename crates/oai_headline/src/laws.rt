@@ -14,7 +14,8 @@ ghost use Rattle.oai_host.specs.Hosts.{AreAnswered, AreExchanged, HostState};
 ghost use Rattle.oai_host.specs.Tasks.{asking, task_of};
 ghost use Rattle.oai_startup.specs.Begun.{IsBegunOn};
 ghost use Rattle.oai_headline.specs.Chains.{AreReached, IsFollowing, IsStepOf};
-ghost use Rattle.oai_headline.specs.Headline.{HaveRules, IsMadeOf};
+ghost use Rattle.oai_startup.specs.Rules.{HaveRules};
+ghost use Rattle.oai_headline.specs.Headline.{IsMadeOf};
 ghost use Rattle.oai_headline.specs.Throughout.{IsTrueVisit, IsThroughout, left_by, calls_done, visits_given};
 ghost use Rattle.oai_headline.specs.Visits.{IsWrittenVisit, Visit, commands_in, steps_of, visits};
 ghost use Rattle.oai_headline.specs.Worked.{AreMadeBeside, IsWorkedList, worked_host};
@@ -68,9 +69,9 @@ pub fn visits_law()
 /// are kept; and if no answer of a repository has a fault, they are those of the one-repository machine given that
 /// repository's commands alone.
 ///
-/// The configuration is one that satisfies its rules, as each accepted one does ([`rules_law`]). The host is made of it
-/// by `Host::new`, over a store that satisfies the contract of a store of versions and returns what was written to it.
-/// The function is empty.
+/// The configuration is one that satisfies its rules, as each accepted one does (`rules_law` of oai_startup). The host is
+/// made of it by `Host::new`, over a store that satisfies the contract of a store of versions and returns what was
+/// written to it. The function is empty.
 pub fn throughout_law<V: Versions>()
     ensures { (config : HostConfig) (store : V) (first last : HostState) (calls : List Call)
         (answers : List Answer) → HaveRules config → IsMadeOf config (V.honest store) first

@@ -5,9 +5,9 @@
 mod documents;
 mod harvests;
 mod laws;
-mod rules;
 mod runs;
 mod served;
+mod texts;
 
 pub use documents::documents_law;
 pub use harvests::client_harvests_law;
@@ -15,6 +15,6 @@ pub use laws::{
     carried_law, place_law, throughout_law, throughout_on_pages_law, throughout_runs_law,
     visits_law, worked_faults_law, worked_headline_law,
 };
-pub use rules::{rules_law, texts_law};
 pub use runs::host_law;
 pub use served::pages_law;
+pub use texts::texts_law;

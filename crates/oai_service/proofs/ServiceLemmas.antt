@@ -15,7 +15,7 @@ use Rattle.oai_journal.specs.declared.journals.Journal as journal
 use Rattle.oai_durable.specs.Records.{redone_all}
 use Rattle.oai_durable.proofs.CheckpointLemmas.{checkpoint_left}
 use Rattle.oai_headline.specs.Eras.{AreTrueOver, FollowListsOver, HaveNumbersIn, MissNothingOver, VisitedEra, era_leaves, eras_leave}
-use Rattle.oai_headline.specs.Headline.{HasRules, HaveRules}
+use Rattle.oai_startup.specs.Rules.{HasRules, HaveRules}
 use Rattle.oai_headline.proofs.ClientEraLemmas.{followed_over, harvested_over}
 use Rattle.oai_headline.proofs.EraLemmas.{AreMetEach, true_each}
 use Rattle.oai_service.specs.Hosting.{AreNumbered, hosting, leaving, saving}

@@ -3,7 +3,7 @@
 ghost use Rattle.std.specs.Prelude.{List, None, map};
 ghost use Rattle.std.specs.List.{AllByRecursion};
 ghost use Rattle.oai_config.specs.Configs.{HostConfig};
-ghost use Rattle.oai_headline.specs.Headline.{HaveRules};
+ghost use Rattle.oai_startup.specs.Rules.{HaveRules};
 ghost use Rattle.oai_headline.specs.Visits.{Visit};
 ghost use Rattle.oai_host.specs.Hosts.{HostState, begun, store_of};
 ghost use Rattle.oai_laws.specs.Harvests.{Harvest};

@@ -4,10 +4,12 @@ ghost use Rattle.std.specs.Io.KnownBytes.{Appends};
 ghost use Rattle.std.specs.String.{string_bytes};
 ghost use Rattle.oai_host.specs.Hosts.{begun};
 ghost use Rattle.oai_config.specs.Reading.{IsRead};
+ghost use Rattle.oai_startup.specs.Rules.{HaveRules};
 ghost use Rattle.oai_startup.specs.Configurations as spec;
 ghost use Rattle.oai_startup.specs.declared.stop.Stop.TheVariants.{NoMemory, OutputFault};
 
 use crate::limits::{MAX_READS, READ_BYTES};
+use crate::rules::rules_law;
 use crate::stop::Stop;
 use oai_catalogue::Versions;
 use oai_config::write_warnings;
@@ -38,10 +40,14 @@ pub fn read_file(rt: &(impl Files + AllocGlobal), path: &str) -> Result<Vec<u8>,
 /// The configuration in the text. The errors are `BadConfig`, with the fault that `Config::read` returns, and
 /// `NoMemory`.
 pub fn config_in(alloc: Global, text: &[u8]) -> Result<Config, Stop>
-    ensures { spec.IsConfigIn text.now result }
+    ensures read { spec.IsConfigIn text.now result }
+    ensures rules { IfOk result HaveRules }
 {
     match Config::read(alloc, text) {
-        Ok(config) => Ok(config),
+        Ok(config) => {
+            rules_law(&config);
+            Ok(config)
+        }
         Err(ReadFault::NoMemory) => Err(Stop::NoMemory),
         Err(fault) => Err(Stop::BadConfig(fault)),
     }

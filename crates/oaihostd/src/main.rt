@@ -8,6 +8,7 @@ ghost use Rattle.oai_archive.specs.Stops as spec;
 use oai_archive::{ReadFile, Stop, dump_repository, verify_journal};
 use oai_daemon::{Ended, HostPlace, checkpoint_folder, serve};
 use oai_startup::{Stop as Other, read_file, read_number};
+use sqlite_std_file::Wary;
 use std::env;
 use std::fs::File;
 use std::io::{self, BufWriter, ErrorKind};
@@ -99,7 +100,7 @@ fn read_port(text: &[u8]) -> Option<u16> {
 /// Serves the configuration in the file on the port, with the journal in the folder.
 fn run_serve<'a>(rt: &'a HostRuntime, path: &str, port: u16, folder: &'a str) -> Result<(), Stop> {
     let text = read_file(rt, path)?;
-    let mut place = HostPlace::new(rt, folder, port);
+    let mut place = HostPlace::new(rt, folder, port, Wary);
     outcome_of(serve(rt.alloc(), &mut place, rt, &text))
 }
 
@@ -149,7 +150,7 @@ fn open_to_read(
 /// Replaces the journal in the folder by a checkpoint, with the configuration in the file.
 fn run_checkpoint(rt: &HostRuntime, path: &str, folder: &str) -> Result<(), Stop> {
     let text = read_file(rt, path)?;
-    let mut place = HostPlace::new(rt, folder, 0);
+    let mut place = HostPlace::new(rt, folder, 0, Wary);
     checkpoint_folder(rt.alloc(), &mut place, rt, &text, &mut io::writer(rt))
 }
 

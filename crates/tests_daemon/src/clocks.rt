@@ -90,8 +90,8 @@ fn assert_calls(rt: &impl Abort, alloc: Global, moment: i64, calls: &str) {
 /// A clock that is more than 366 days ahead of the last record, or more than an hour behind it, is reported, and ends nothing.
 #[test]
 fn clock_is_far_from_the_journal(rt: HostRuntime) {
-    let near = "lock listen find open pages recovered announce ";
-    let far = "lock listen find open pages recovered clock announce ";
+    let near = "lock listen find read pages open recovered announce ";
+    let far = "lock listen find read pages open recovered clock announce ";
     assert_calls(&rt, rt.alloc(), 1_672_444_799, far);
     assert_calls(&rt, rt.alloc(), 1_672_444_800, near);
     assert_calls(&rt, rt.alloc(), 1_704_070_800, near);

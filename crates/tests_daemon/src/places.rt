@@ -66,6 +66,8 @@ pub(crate) struct MemoryPlace {
     pub(crate) other: Option<String>,
     /// The moment of a tick of the repository behind the first record, if there is one.
     pub(crate) tick: Option<i64>,
+    /// The moment of a tick behind the first record of a journal that was begun, which has none in fact.
+    pub(crate) behind: Option<i64>,
     /// How many times its port can be waited for.
     pub(crate) rounds: u32,
 }
@@ -82,6 +84,7 @@ impl MemoryPlace {
             body: first_body(),
             other: None,
             tick: None,
+            behind: None,
             rounds: 0,
         })
     }
@@ -102,22 +105,27 @@ impl MemoryPlace {
         Ok(())
     }
 
-    /// A disk with a journal of the first record, and of the tick.
+    /// A disk with the folder's journal: the first record, and the tick.
     fn journal(&self) -> Result<Memory, Stop> {
+        match &self.other {
+            Some(other) => self.journal_of(other.as_bytes(), self.tick),
+            None => self.journal_of(self.body, self.tick),
+        }
+    }
+
+    /// A disk with a journal of a first record with that body, and of the tick.
+    fn journal_of(&self, body: &[u8], tick: Option<i64>) -> Result<Memory, Stop> {
         let first = Record {
             moment: 1_704_067_200,
             kind: Kind::Journal,
             name: self.name,
-            body: match &self.other {
-                Some(other) => other.as_bytes(),
-                None => self.body,
-            },
+            body,
         };
         if !first.is_fit() {
             return Err(Stop::NotOurs);
         }
         match FileJournal::create(self.alloc, Memory::new(self.alloc), &first) {
-            Ok(journal) => with_tick(journal, self.tick),
+            Ok(journal) => with_tick(journal, tick),
             Err(_) => Err(Stop::CannotWrite),
         }
     }
@@ -161,6 +169,8 @@ pub(crate) fn add_record<J: Journal>(journal: &mut J, record: &Record<'_>) -> Re
 impl Place for MemoryPlace {
     type Disk = Memory;
 
+    type OldDisk = Memory;
+
     type NewDisk = Memory;
 
     type Pages = MemoryDevice;
@@ -185,6 +195,11 @@ impl Place for MemoryPlace {
         Ok(self.found)
     }
 
+    fn read_journal(&mut self) -> Result<Memory, Stop> {
+        self.call("read")?;
+        self.journal()
+    }
+
     fn begin_journal(&mut self) -> Result<Memory, Stop> {
         self.call("begin")?;
         Ok(Memory::new(self.alloc))
@@ -192,14 +207,13 @@ impl Place for MemoryPlace {
 
     fn open_begun(&mut self) -> Result<Memory, Stop> {
         self.call("begun")?;
-        self.journal()
+        self.journal_of(self.body, self.behind)
     }
 
-    fn keep_journal(&mut self, begun: Recovery<Memory>) -> Result<(), Stop>
-        requires synced { IsTrue (⟦<Memory as Disk>⟧.is_clean (disk_of begun))
-            → IsReadBack ⟦<Memory as Disk>⟧.seen ⟦<Memory as Disk>⟧.may_leave begun }
+    fn keep_journal(&mut self, _begun: &Recovery<Memory>) -> Result<(), Stop>
+        requires synced { IsTrue (⟦<Memory as Disk>⟧.is_clean (disk_of _begun.now))
+            → IsReadBack ⟦<Memory as Disk>⟧.seen ⟦<Memory as Disk>⟧.may_leave _begun.now }
     {
-        drop(begun);
         self.call("keep")?;
         self.other = None;
         Ok(())

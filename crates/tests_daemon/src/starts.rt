@@ -8,9 +8,9 @@ use std::panic::Expect;
 use std::process::Abort;
 
 /// The calls at startup with a journal, and without one.
-const FOUND: &str = "lock listen find open pages recovered announce ";
+const FOUND: &str = "lock listen find read pages open recovered announce ";
 
-const BEGUN: &str = "lock listen find begin begun keep open pages recovered announce ";
+const BEGUN: &str = "lock listen find begin pages begun recovered keep announce ";
 
 /// A start in that place, or the service behind it, stops so, after these calls.
 fn assert_start(rt: &impl Abort, place: &mut MemoryPlace, wanted: Stop, calls: &str) {
@@ -42,10 +42,20 @@ fn starts(rt: HostRuntime) {
     assert_start(&rt, &mut place, Stop::Common(Other::SocketFault), BEGUN);
 }
 
+/// A journal that was begun and has a record when it is read back is not kept.
+#[test]
+fn begun_journal_has_a_record(rt: HostRuntime) {
+    let mut place = MemoryPlace::new(rt.alloc(), 100).expect(&rt, "place");
+    place.found = false;
+    place.behind = Some(1_704_067_200);
+    let calls = "lock listen find begin pages begun recovered ";
+    assert_start(&rt, &mut place, Stop::CannotWrite, calls);
+}
+
 /// A fault at any step ends a start there, but one of a report.
 #[test]
 fn faults_at_each_step(rt: HostRuntime) {
-    for count in [0u32, 1, 2, 3, 4, 5, 6, 7, 9] {
+    for count in [0u32, 1, 2, 3, 4, 5, 7, 8] {
         let mut place = MemoryPlace::new(rt.alloc(), count).expect(&rt, "place");
         place.found = false;
         let stop = served(&mut place, &Standing, configuration());
@@ -58,7 +68,7 @@ fn faults_at_each_step(rt: HostRuntime) {
 /// Another program, another version.
 #[test]
 fn other_journals(rt: HostRuntime) {
-    let begun = "lock listen find open ";
+    let begun = "lock listen find read ";
     let mut place = MemoryPlace::new(rt.alloc(), 100).expect(&rt, "place");
     place.name = b"other";
     assert_start(&rt, &mut place, Stop::NotOurs, begun);
@@ -126,7 +136,7 @@ fn other_configurations(rt: HostRuntime) {
     );
     let waits = Stop::Common(Other::SocketFault);
     let by_a_checkpoint =
-        "lock listen find open open pages recovered begin begun pages keep other open pages recovered announce ";
+        "lock listen find read pages recovered begin pages begun recovered keep other announce ";
     assert_other(
         &rt,
         alloc,
@@ -140,7 +150,7 @@ fn other_configurations(rt: HostRuntime) {
         alloc,
         body_of(alloc, "b", 1, "seconds", "A"),
         stop,
-        "lock listen find open open ",
+        "lock listen find read ",
     );
     let stop = differs(alloc, "a", Aspect::Granularity).expect(&rt, "memory");
     assert_other(
@@ -148,7 +158,7 @@ fn other_configurations(rt: HostRuntime) {
         alloc,
         body_of(alloc, "a", 1, "days", "A"),
         stop,
-        "lock listen find open open ",
+        "lock listen find read ",
     );
 }
 

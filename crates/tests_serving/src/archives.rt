@@ -38,7 +38,7 @@ pub(crate) type Archive<D> = Journaled<Pages<D>, FileJournal<Memory>>;
 struct Quiet;
 
 impl Progress for Quiet {
-    fn note(&mut self, _position: usize, _len: usize, _records: u64) {}
+    fn note(&mut self, _entry: &Record<'_>, _number: u64, _position: usize, _len: usize) {}
 }
 
 /// The first record of a journal.

@@ -102,7 +102,7 @@ fn checkpoint_has_these_bytes(rt: HostRuntime) {
 struct Quiet;
 
 impl Progress for Quiet {
-    fn note(&mut self, _position: usize, _len: usize, _records: u64) {}
+    fn note(&mut self, _entry: &Record<'_>, _number: u64, _position: usize, _len: usize) {}
 }
 
 /// The handler replays the journal that a crash left.

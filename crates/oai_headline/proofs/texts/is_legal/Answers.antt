@@ -4,7 +4,7 @@ use Rattle.oai_item.specs.Formats.{AreRepositoryFormats}
 use Rattle.oai_item.specs.declared.formats.Format.{Format}
 use Rattle.oai_headline.specs.XmlAnswers.{HasUtf8Texts, IsUtf8Text}
 use Rattle.oai_headline.proofs.ConfigTexts.{config_legal}
-use Rattle.oai_headline.proofs.rules.is_legal.Goals as goal
+use Rattle.oai_headline.proofs.texts.is_legal.Goals as goal
 
 pub returns : goal.returns
 returns c =

@@ -1,38 +1,13 @@
-//! The rules that every accepted configuration satisfies.
+//! The texts that every accepted configuration has.
 ghost use Rattle.std.specs.Prelude.{◌≡◌, true};
 ghost use Rattle.std.specs.List.{All};
 ghost use Rattle.oai_documents.specs.Texts.{is_legal_config};
-ghost use Rattle.oai_headline.specs.Headline.{HasRules, HaveRules};
 ghost use Rattle.oai_headline.specs.XmlAnswers.{HasTexts, HasUtf8Texts, HaveTexts, IsUtf8Text};
 
 use oai_config::{Config, NamedConfig};
 use oai_item::Format;
 use oai_names::Text;
 use oai_settings::RepoConfig;
-
-/// A configuration satisfies the rules that the theorem requires. It iterates over the repositories, since the
-/// invariant of the type of each one's configuration is known where that is read, and returns nothing.
-pub fn rules_law(config: Config)
-    ensures { HaveRules config }
-{
-    let repositories = config.into_repositories();
-    have_rules(repositories.as_slice());
-}
-
-fn have_rules(entries: &[NamedConfig])
-    ensures { All HasRules entries.now }
-{
-    for entry in entries {
-        has_rules(entry);
-    }
-}
-
-fn has_rules(entry: &NamedConfig)
-    ensures { HasRules entry.now }
-{
-    let _base = entry.config.base();
-    let _formats = entry.config.formats().len();
-}
 
 /// The texts of a configuration are UTF-8, of characters that XML allows, as [`documents_law`](crate::documents_law)
 /// requires. It iterates over them, since that a text is UTF-8 is known of its type, and returns nothing.
