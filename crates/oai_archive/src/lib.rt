@@ -15,6 +15,7 @@ mod verify;
 pub use checkpoints::{read_checkpoint, write_checkpoint};
 pub use differences::check_differences;
 pub use dumps::dump_repository;
+pub use firsts::VERSION;
 pub use journals::{begin_reading, config_text, create_journal, has_config, read_begun};
 pub use read_files::ReadFile;
 pub use recoveries::stop_of_recovery;
