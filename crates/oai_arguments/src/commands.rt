@@ -21,7 +21,11 @@ pub(crate) fn serve<'a>(alloc: Global) -> Result<Command<'a>, AllocError> {
         .long("listen")
         .value_name("ADDRESS")
         .help("Listen at this IP address, and not at 127.0.0.1");
-    let folder = wanted(alloc, "FOLDER", "The folder of the journal; it is created if it does not exist");
+    let folder = wanted(
+        alloc,
+        "FOLDER",
+        "The folder of the journal; it is created if it does not exist",
+    );
     Command::new(alloc, "serve")
         .about("Serve the repositories of a configuration")
         .after_help(SERVE_END)

@@ -1,7 +1,7 @@
 //! Why a line of JSON is no command, or one with an identifier, a setSpec or a text that may not be.
 use crate::causes::Cause;
 use crate::records::{report_bad_texts, report_records};
-use crate::values::{elements_at, kind_of, text_at, text_of};
+use crate::values::{elements_at, is_among, kind_of, text_at, text_of};
 use oai_item::is_short_text;
 use oai_names::may_be_set_spec;
 use serde_json::Value;
@@ -29,7 +29,10 @@ pub(crate) fn report_command(cause: &mut Cause<'_>, value: &Value) {
 fn report_new_set(cause: &mut Cause<'_>, value: &Value) {
     if value.get("set").is_none() {
         let start = cause.start();
-        cause.add(start, &["it has no member \"deposit\", \"delete\", \"purge\" or \"set\""]);
+        cause.add(
+            start,
+            &["it has no member \"deposit\", \"delete\", \"purge\" or \"set\""],
+        );
     }
     report_names(cause, value, &["set", "name"]);
     report_kind(cause, value, "set", "a text");
@@ -43,7 +46,10 @@ fn report_deposit(cause: &mut Cause<'_>, value: &Value) {
     for (number, set) in elements_at(value, "sets").iter().enumerate() {
         if !matches!(set, Value::String(_)) {
             let place = set_place(cause, number);
-            cause.add(place, &["it is ", kind_of(set), ", and a setSpec is a text"]);
+            cause.add(
+                place,
+                &["it is ", kind_of(set), ", and a setSpec is a text"],
+            );
         }
     }
     report_kind(cause, value, "records", "an object");
@@ -60,9 +66,12 @@ fn report_names(cause: &mut Cause<'_>, value: &Value, names: &[&str]) {
     }
     if let Value::Object(members) = value {
         for (name, _member) in members.iter() {
-            if !names.contains(&name.as_str()) {
+            if !is_among(name.as_str(), names) {
                 let place = cause.member(cause.start(), name.as_str());
-                cause.add(place, &["\"", name.as_str(), "\" is no member of this command"]);
+                cause.add(
+                    place,
+                    &["\"", name.as_str(), "\" is no member of this command"],
+                );
             }
         }
     }
@@ -73,10 +82,12 @@ fn report_kind(cause: &mut Cause<'_>, value: &Value, name: &str, kind: &str) {
     let Some(member) = value.get(name) else {
         return;
     };
-    let found = kind_of(member);
-    if found != kind {
+    if kind_of(member) != kind {
         let place = cause.member(cause.start(), name);
-        cause.add(place, &["\"", name, "\" is ", found, ", and not ", kind]);
+        cause.add(
+            place,
+            &["\"", name, "\" is ", kind_of(member), ", and not ", kind],
+        );
     }
 }
 
@@ -87,7 +98,11 @@ pub(crate) fn set_place(cause: &Cause<'_>, number: usize) -> Option<usize> {
 
 /// Reports that the identifier is none: refusal 3.
 pub(crate) fn report_identifier(cause: &mut Cause<'_>, value: &Value) {
-    let name = if value.get("deposit").is_some() { "deposit" } else { "delete" };
+    let name = if value.get("deposit").is_some() {
+        "deposit"
+    } else {
+        "delete"
+    };
     let place = cause.member(cause.start(), name);
     let why = "is not a scheme, a colon and characters of a URI, of at most 512 bytes";
     cause.add(place, &["\"", text_at(value, name), "\" ", why]);
@@ -107,7 +122,8 @@ pub(crate) fn report_set_spec(cause: &mut Cause<'_>, value: &Value) {
 
 /// Reports that the text is no setSpec.
 fn report_no_set_spec(cause: &mut Cause<'_>, place: Option<usize>, text: &str) {
-    let why = "is not parts of letters, digits and -_.!~*'() joined by colons, of at most 256 bytes";
+    let why =
+        "is not parts of letters, digits and -_.!~*'() joined by colons, of at most 256 bytes";
     cause.add(place, &["\"", text, "\" ", why]);
 }
 

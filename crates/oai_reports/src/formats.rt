@@ -89,7 +89,9 @@ fn is_name(text: &str) -> bool {
         Some(first) => {
             (first.is_ascii_alphabetic() || *first == b'_')
                 && bytes.len() <= MAX_NAME_BYTES
-                && bytes.iter().all(|b| b.is_ascii_alphanumeric() || b"-_.".contains(b))
+                && bytes
+                    .iter()
+                    .all(|b| b.is_ascii_alphanumeric() || b"-_.".contains(b))
         }
         None => false,
     }

@@ -1,6 +1,6 @@
 //! The lines of a file of deposit lines, each accepted or refused as in the first deposits to a repository.
 use crate::causes::Cause;
-use crate::commands::{set_place, report_command, report_identifier, report_set_spec, report_text};
+use crate::commands::{report_command, report_identifier, report_set_spec, report_text, set_place};
 use crate::places::{bad_place, column_at, utf8_length, why_bad};
 use crate::records::{has_field, report_formats, report_unknown_fields};
 use crate::values::{elements_at, text_of};
@@ -95,7 +95,10 @@ impl<'a> LineFile<'a> {
         if !sets.iter().all(|set| self.sets.has(set)) {
             return Some(ChangeRefusal::UnknownSet);
         }
-        if !records.iter().all(|record| formats.find_named(record.0.as_str()).is_some()) {
+        if !records
+            .iter()
+            .all(|record| formats.find_named(record.0.as_str()).is_some())
+        {
             return Some(ChangeRefusal::UnknownFormat);
         }
         if !records.iter().any(|record| record.0.as_str() == "oai_dc") {
@@ -110,7 +113,9 @@ impl<'a> LineFile<'a> {
     /// Whether the format with that prefix has all the fields.
     fn has_fields(&self, prefix: &str, fields: &[Field]) -> bool {
         let formats = self.config.formats();
-        fields.iter().all(|field| has_field(formats, prefix, field.name.as_str()))
+        fields
+            .iter()
+            .all(|field| has_field(formats, prefix, field.name.as_str()))
     }
 
     /// Why the purge is refused, if it is.
@@ -131,7 +136,9 @@ impl<'a> LineFile<'a> {
         let name = refused.name();
         let Ok(text) = str::from_utf8(line) else {
             let column = column_at(line, utf8_length(line));
-            return Ok(Some(format!(in self.alloc; "lines:{number}:{column}: {name}: here the text is not in UTF-8")?));
+            return Ok(Some(format!(in self.alloc;
+                "lines:{number}:{column}: {name}: here the text is not in UTF-8"
+            )?));
         };
         let mut cause = Cause::new(self.alloc, text);
         self.explain(&mut cause, text, refused);
@@ -161,10 +168,22 @@ impl<'a> LineFile<'a> {
             ChangeRefusal::UnknownFormat => report_formats(cause, value, formats),
             ChangeRefusal::UnknownField => report_unknown_fields(cause, value, formats),
             ChangeRefusal::NoDc => report_at(cause, "records", "there is no record in \"oai_dc\""),
-            ChangeRefusal::NotTransient => report_at(cause, "purge", "\"deletedRecord\" is not \"transient\""),
-            ChangeRefusal::BadDate => report_at(cause, "purge", "it is no day or second, or finer than the datestamps"),
+            ChangeRefusal::NotTransient => report_at(
+                cause,
+                "purge",
+                "\"deletedRecord\" is not \"transient\"",
+            ),
+            ChangeRefusal::BadDate => report_at(
+                cause,
+                "purge",
+                "it is no day or second, or finer than the datestamps",
+            ),
             ChangeRefusal::SetExists => report_at(cause, "set", "a line before adds the same set"),
-            ChangeRefusal::NoParent => report_at(cause, "set", "no line before adds the set above it"),
+            ChangeRefusal::NoParent => report_at(
+                cause,
+                "set",
+                "no line before adds the set above it",
+            ),
             _ => report_at(cause, "set", "there are 10000 sets"),
         }
     }
@@ -174,7 +193,10 @@ impl<'a> LineFile<'a> {
         for (number, set) in elements_at(value, "sets").iter().enumerate() {
             if self.sets.find(text_of(set)).is_none() {
                 let place = set_place(cause, number);
-                cause.add(place, &["no line before adds the set \"", text_of(set), "\""]);
+                cause.add(
+                    place,
+                    &["no line before adds the set \"", text_of(set), "\""],
+                );
             }
         }
     }

@@ -11,7 +11,12 @@ pub(crate) fn member_place(alloc: Global, text: &str, object: usize, name: &str)
 }
 
 /// The byte at which the list's element with that number begins, counted from 0. The list begins at a byte of the text.
-pub(crate) fn element_place(alloc: Global, text: &str, list: usize, number: usize) -> Option<usize> {
+pub(crate) fn element_place(
+    alloc: Global,
+    text: &str,
+    list: usize,
+    number: usize,
+) -> Option<usize> {
     let rest = text.get(list..)?;
     let place = element_in(alloc, rest, number)?;
     Some(list.saturating_add(place))
@@ -120,7 +125,11 @@ fn count_between(rest: &[u8]) -> usize {
 /// The line of the byte, counted from 1.
 pub(crate) fn line_at(text: &[u8], place: usize) -> usize {
     match text.get(..place) {
-        Some(before) => before.iter().filter(|b| **b == b'\n').count().saturating_add(1),
+        Some(before) => before
+            .iter()
+            .filter(|b| **b == b'\n')
+            .count()
+            .saturating_add(1),
         None => 0,
     }
 }

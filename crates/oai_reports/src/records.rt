@@ -21,7 +21,16 @@ pub(crate) fn report_records(cause: &mut Cause<'_>, value: &Value) {
 fn report_fields(cause: &mut Cause<'_>, prefix: &str, fields: &Value) {
     if !fields.is_array() {
         let place = record_place(cause, prefix);
-        cause.add(place, &["\"", prefix, "\" is ", kind_of(fields), ", and not a list of fields"]);
+        cause.add(
+            place,
+            &[
+                "\"",
+                prefix,
+                "\" is ",
+                kind_of(fields),
+                ", and not a list of fields",
+            ],
+        );
     }
     for (number, field) in elements_of(fields).iter().enumerate() {
         if !is_field(field) {
@@ -39,7 +48,10 @@ fn is_field(value: &Value) -> bool {
 /// Reports that the value at that place is no field.
 fn report_no_field(cause: &mut Cause<'_>, place: Option<usize>, value: &Value) {
     match value {
-        Value::String(text) => cause.add(place, &["\"", text.as_str(), "\" is a text, and ", FIELD]),
+        Value::String(text) => cause.add(
+            place,
+            &["\"", text.as_str(), "\" is a text, and ", FIELD],
+        ),
         Value::Array(_) => cause.add(place, &["it is another list, and ", FIELD]),
         _ => cause.add(place, &["it is ", kind_of(value), ", and ", FIELD]),
     }
@@ -60,7 +72,14 @@ fn report_bad_text(cause: &mut Cause<'_>, prefix: &str, fields: &Value) {
         if !is_xml_text(part_of(field, 1)) {
             let place = cause.element(field_place(cause, prefix, number), 1);
             let name = part_of(field, 0);
-            cause.add(place, &["the text of \"", name, "\" has a character that XML forbids"]);
+            cause.add(
+                place,
+                &[
+                    "the text of \"",
+                    name,
+                    "\" has a character that XML forbids",
+                ],
+            );
         }
     }
 }
@@ -79,7 +98,10 @@ pub(crate) fn report_formats(cause: &mut Cause<'_>, value: &Value, formats: &For
         for (prefix, _fields) in records.iter() {
             if formats.find_named(prefix.as_str()).is_none() {
                 let place = record_place(cause, prefix.as_str());
-                cause.add(place, &["the repository has no format \"", prefix.as_str(), "\""]);
+                cause.add(
+                    place,
+                    &["the repository has no format \"", prefix.as_str(), "\""],
+                );
             }
         }
     }
@@ -100,7 +122,10 @@ fn report_unknown_field(cause: &mut Cause<'_>, prefix: &str, fields: &Value, for
         let name = part_of(field, 0);
         if !has_field(formats, prefix, name) {
             let place = cause.element(field_place(cause, prefix, number), 0);
-            cause.add(place, &["the format \"", prefix, "\" has no field \"", name, "\""]);
+            cause.add(
+                place,
+                &["the format \"", prefix, "\" has no field \"", name, "\""],
+            );
         }
     }
 }
@@ -108,7 +133,11 @@ fn report_unknown_field(cause: &mut Cause<'_>, prefix: &str, fields: &Value, for
 /// Whether the format with that prefix has a field with that name.
 pub(crate) fn has_field(formats: &Formats, prefix: &str, name: &str) -> bool {
     match formats.find_named(prefix) {
-        Some(format) => format.fields.as_slice().iter().any(|field| field.as_str() == name),
+        Some(format) => format
+            .fields
+            .as_slice()
+            .iter()
+            .any(|field| field.as_str() == name),
         None => false,
     }
 }

@@ -95,7 +95,13 @@ impl<'a> Report<'a> {
     }
 
     /// Adds that an element of the list in the object's member with that name is wrong, by its number from 0 on.
-    pub(crate) fn add_element(&mut self, object: Object<'_>, member: &str, number: usize, why: &[&str]) {
+    pub(crate) fn add_element(
+        &mut self,
+        object: Object<'_>,
+        member: &str,
+        number: usize,
+        why: &[&str],
+    ) {
         let place = place_of_element(self.alloc, self.text, object, member, number);
         if self.begin(object, place) {
             self.put_all(&[member]);

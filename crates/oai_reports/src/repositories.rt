@@ -46,9 +46,23 @@ fn report_repository(report: &mut Report<'_>, object: Object<'_>, value: &Value)
     report_addresses(report, object, value);
     report_kind(report, object, value, "earliestDatestamp", "a text");
     let policies = "\"no\", \"transient\" and \"persistent\"";
-    report_word(report, object, value, "deletedRecord", &["no", "transient", "persistent"], policies);
+    report_word(
+        report,
+        object,
+        value,
+        "deletedRecord",
+        &["no", "transient", "persistent"],
+        policies,
+    );
     let words = "\"days\" and \"seconds\"";
-    report_word(report, object, value, "granularity", &["days", "seconds"], words);
+    report_word(
+        report,
+        object,
+        value,
+        "granularity",
+        &["days", "seconds"],
+        words,
+    );
     for name in &["chunk", "lifetime", "lists", "items"] {
         report_kind(report, object, value, name, "a number");
     }

@@ -1,7 +1,7 @@
 //! Fault 2, BadShape: members that are missing, unknown or of another kind, and texts of another length or character.
 use crate::reports::{Object, Report};
 use crate::repositories::report_repositories;
-use crate::values::{elements_of, kind_of, text_at, text_of};
+use crate::values::{elements_of, is_among, kind_of, text_at, text_of};
 use oai_item::is_short_text;
 use serde_json::Value;
 
@@ -54,7 +54,7 @@ fn report_missing(report: &mut Report<'_>, object: Object<'_>, value: &Value, na
 fn report_unknown(report: &mut Report<'_>, object: Object<'_>, value: &Value, names: &[&str]) {
     if let Value::Object(members) = value {
         for (name, _member) in members.iter() {
-            if !names.contains(&name.as_str()) {
+            if !is_among(name.as_str(), names) {
                 report.add_member(object, name.as_str(), &["is no member that is known here"]);
             }
         }
@@ -72,11 +72,10 @@ pub(crate) fn report_kind(
     let Some(member) = value.get(name) else {
         return false;
     };
-    let found = kind_of(member);
-    if found == kind {
+    if kind_of(member) == kind {
         return true;
     }
-    report.add_member(object, name, &["is ", found, ", and not ", kind]);
+    report.add_member(object, name, &["is ", kind_of(member), ", and not ", kind]);
     false
 }
 
@@ -101,7 +100,9 @@ pub(crate) fn report_word(
     words: &[&str],
     listed: &str,
 ) {
-    if report_kind(report, object, value, name, "a text") && !words.contains(&text_at(value, name)) {
+    if report_kind(report, object, value, name, "a text")
+        && !is_among(text_at(value, name), words)
+    {
         report.add_member(object, name, &["is none of ", listed]);
     }
 }
@@ -120,7 +121,12 @@ pub(crate) fn report_texts(
     };
     for (number, element) in elements_of(member).iter().enumerate() {
         if !matches!(element, Value::String(_)) {
-            report.add_element(object, name, number, &["is ", kind_of(element), ", and not a text"]);
+            report.add_element(
+                object,
+                name,
+                number,
+                &["is ", kind_of(element), ", and not a text"],
+            );
         } else if are_short && !is_short_text(text_of(element)) {
             report.add_element(object, name, number, &[NO_SHORT_TEXT]);
         }

@@ -2,7 +2,7 @@
 use serde_json::Value;
 
 /// The kind of the value.
-pub(crate) fn kind_of(value: &Value) -> &'static str {
+pub(crate) fn kind_of(value: &Value) -> &str {
     match value {
         Value::Null => "null",
         Value::Bool(_) => "true or false",
@@ -11,6 +11,11 @@ pub(crate) fn kind_of(value: &Value) -> &'static str {
         Value::Array(_) => "a list",
         Value::Object(_) => "an object",
     }
+}
+
+/// Whether the text is one of these.
+pub(crate) fn is_among(text: &str, known: &[&str]) -> bool {
+    known.iter().any(|one| *one == text)
 }
 
 /// The elements of a list, none for any other value.

@@ -18,7 +18,12 @@ const MAX_REPOSITORIES: usize = 1_000;
 pub fn report_of(alloc: Global, text: &[u8], fault: ReadFault) -> String {
     match str::from_utf8(text) {
         Ok(text) => text_report(alloc, text, fault),
-        Err(_) => json_report(alloc, text, Some(utf8_length(text)), "here the text is not in UTF-8"),
+        Err(_) => json_report(
+            alloc,
+            text,
+            Some(utf8_length(text)),
+            "here the text is not in UTF-8",
+        ),
     }
 }
 
@@ -86,7 +91,10 @@ fn report_name(report: &mut Report<'_>, object: Object<'_>, repository: &Value) 
 /// Whether the text is 1 to 32 of `a` to `z`, `0` to `9` and `-`.
 fn is_repository_name(name: &str) -> bool {
     let is_short = !name.is_empty() && name.len() <= 32;
-    is_short && name.as_bytes().iter().all(|b| b.is_ascii_lowercase() || b.is_ascii_digit() || *b == b'-')
+    is_short
+        && name.as_bytes().iter().all(|b| b.is_ascii_lowercase()
+            || b.is_ascii_digit()
+            || *b == b'-')
 }
 
 /// Adds each name that stands before.
@@ -110,7 +118,9 @@ fn report_numbers(report: &mut Report<'_>, value: &Value) {
 /// Adds each limit of the repository that is out of its range.
 fn report_limits(report: &mut Report<'_>, object: Object<'_>, repository: &Value) {
     report_limit(report, object, repository, "chunk", 1_000, "1000");
-    report_limit(report, object, repository, "lifetime", 31_536_000, "31536000");
+    report_limit(
+        report, object, repository, "lifetime", 31_536_000, "31536000",
+    );
     report_limit(report, object, repository, "lists", 10_000, "10000");
     report_limit(report, object, repository, "items", 1_000_000, "1000000");
 }
@@ -133,6 +143,10 @@ fn report_limit(
 /// Adds that there are too many repositories, if so.
 fn report_count(report: &mut Report<'_>, value: &Value) {
     if MAX_REPOSITORIES < elements_at(value, "repositories").len() {
-        report.add_member(Object::whole(), "repositories", &["has more than 1000 elements"]);
+        report.add_member(
+            Object::whole(),
+            "repositories",
+            &["has more than 1000 elements"],
+        );
     }
 }

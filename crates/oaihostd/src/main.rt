@@ -34,7 +34,7 @@ fn main(rt: HostRuntime) -> ExitCode {
 /// Does what the words call the program for.
 fn called_with(rt: &HostRuntime, version: &str, words: &[String]) -> ExitCode {
     match read_arguments(rt.alloc(), version, words) {
-        Ok(called) => ended(rt, run(rt, called)),
+        Ok(called) => exit_of(rt, run(rt, called)),
         Err(error) => answered(rt, &error),
     }
 }
@@ -142,7 +142,7 @@ fn run_checkpoint(
 
 /// Ends with the status of what was done, and writes to standard error why it was not. If that fails, its status still
 /// shows it.
-fn ended(rt: &(impl Eprint + AllocGlobal), done: Result<(), Failure>) -> ExitCode {
+fn exit_of(rt: &(impl Eprint + AllocGlobal), done: Result<(), Failure>) -> ExitCode {
     match done {
         Ok(()) => ExitCode::SUCCESS,
         Err(Failure::Stop(stop)) => stopped(rt, stop),

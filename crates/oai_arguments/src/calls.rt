@@ -1,6 +1,7 @@
 //! What the program is called for.
 use crate::commands::{program, serve};
-use clap::{ArgMatches, Error, ErrorKind};
+use clap::error::ErrorKind;
+use clap::{ArgMatches, Error};
 use std::alloc::{AllocError, Global};
 use std::net::{IpAddr, Ipv4Addr};
 
