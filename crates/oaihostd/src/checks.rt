@@ -50,7 +50,10 @@ fn check_lines(
 /// The repository with that name; the first one if there is no name.
 fn named_in<'a>(config: &'a Config, name: Option<&str>) -> Option<&'a NamedConfig> {
     match name {
-        Some(name) => config.repositories().iter().find(|named| named.name.as_str() == name),
+        Some(name) => config
+            .repositories()
+            .iter()
+            .find(|named| named.name.as_str() == name),
         None => config.repositories().first(),
     }
 }

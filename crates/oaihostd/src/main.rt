@@ -59,12 +59,18 @@ fn version_of(rt: &impl AllocGlobal) -> Result<String, Stop> {
 fn run(rt: &HostRuntime, called: Called<'_>) -> Result<(), Failure> {
     match called {
         Called::Serve(serving) => run_serve(rt, serving),
-        Called::Check { config, lines, repository } => run_check(rt, config, lines, repository),
+        Called::Check {
+            config,
+            lines,
+            repository,
+        } => run_check(rt, config, lines, repository),
         Called::Verify(folder) => Ok(run_verify(rt, folder)?),
         Called::Dump { folder, name } => Ok(run_dump(rt, folder, name)?),
-        Called::Checkpoint { config, folder, is_quiet } => {
-            run_checkpoint(rt, config, folder, is_quiet)
-        }
+        Called::Checkpoint {
+            config,
+            folder,
+            is_quiet,
+        } => { run_checkpoint(rt, config, folder, is_quiet) }
     }
 }
 
@@ -81,7 +87,9 @@ fn run_serve(rt: &HostRuntime, serving: Serving<'_>) -> Result<(), Failure> {
 /// Warns of an address that other machines may reach.
 fn warn_of(rt: &impl Eprint, address: IpAddr) {
     if !address.is_loopback() {
-        let _ = eprintln!(rt; "warning: {address} is no loopback address: whoever reaches it can change the archive");
+        let _ = eprintln!(rt;
+            "warning: {address} is no loopback address: whoever reaches it can change the archive"
+        );
     }
 }
 
