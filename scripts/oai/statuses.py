@@ -182,12 +182,12 @@ def exit_statuses():
 # ---- oaihostd
 
 # What is said first of arguments that are none.
-SERVE_MISSES = "error: the following required arguments were not provided:"
+MISSING = "error: the following required arguments were not provided:"
 NO_PORT = "error: PORT is no number from 0 to 65535"
 DAEMON_UNKNOWN = {
     "": "error: 'oaihostd' requires a subcommand but one was not provided",
-    "serve": SERVE_MISSES, "serve a": SERVE_MISSES, "serve a 1": SERVE_MISSES, "verify": SERVE_MISSES, "dump a": SERVE_MISSES, "checkpoint a": SERVE_MISSES,
-    "check": SERVE_MISSES,
+    "serve": MISSING, "serve a": MISSING, "serve a 1": MISSING, "verify": MISSING, "dump a": MISSING, "checkpoint a": MISSING,
+    "check": MISSING,
     "serve a 1 b c": "error: unexpected argument 'c' found", "verify a b": "error: unexpected argument 'b' found",
     "dump a b c": "error: unexpected argument 'c' found", "check a b c": "error: unexpected argument 'c' found",
     "verify a --quiet": "error: unexpected argument '--quiet' found", "--all": "error: unexpected argument '--all' found",
@@ -269,6 +269,7 @@ def try_beside(trial, folder):
         trial.ended("verify beside a server", 0, "", "verify", good)
     warning = "warning: 0.0.0.0 is no loopback address: whoever reaches it can change the archive"
     trial.ended("another address, with a warning", 124, warning, "serve", "--listen", "0.0.0.0", "--quiet", EXAMPLE, 0, folder / "all")
+    trial.check("a quiet server", trial.call(["serve", "--quiet", EXAMPLE, 0, folder / "quiet"]), (124, ""))
     trial.ended("a loopback address", 124, "", "serve", "--listen", "127.0.0.2", EXAMPLE, 0, folder / "two")
     trial.ended("an address of another machine", 1, f"{warning.replace('0.0.0.0', '192.0.2.1')}\nsocket fault", "serve", "--listen", "192.0.2.1", EXAMPLE, 0,
                 folder / "three")  # fmt: skip
