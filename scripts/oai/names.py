@@ -19,6 +19,7 @@ GROUPS = {
     "What the programs answer": {
         "exit-statuses": "statuses",
         "daemon-statuses": "statuses",
+        "reports": "reports",
         "fuzz": "fuzz",
         "elements": "elements",
         "interop": "interop",

@@ -40,13 +40,15 @@ def is_given(name):
 
 @functools.cache
 def program(name):
-    """The path of a program, which is seen to run. The first use of the one of bin/ builds it; it is then called itself, since that of bin/ looks at all
-    sources each time."""
+    """The path of a program, which is seen to run: called without arguments it ends with the status 2. The first use of the one of bin/ builds it; it is then
+    called itself, since that of bin/ looks at all sources each time."""
     given = os.environ.get(name.upper())
     with subprocess.Popen([given or f"bin/{name}"], stdin=subprocess.DEVNULL, stdout=subprocess.DEVNULL, stderr=subprocess.PIPE, text=True) as called:
         for line in called.stderr:
-            if not line.startswith("usage: "):
-                print(line, end="", file=sys.stderr, flush=True)
+            if line.startswith(("usage: ", "error: ")):
+                break
+            print(line, end="", file=sys.stderr, flush=True)
+        called.stderr.read()
     if called.returncode != 2:
         sys.exit(2)
     return os.path.abspath(given or f"crates/{name}/out/{name}")

@@ -9,6 +9,7 @@ from oai.crates import below, proved, uses
 from oai.marks import is_counted
 from oai.names import GROUPS, script
 from oai.programs import TOP
+from oai.statuses import manual_synopsis
 
 CRATES = uses()
 PAGES = ["README.md", *(f"docs/{page.name}" for page in sorted((TOP / "docs").glob("*.md")))]
@@ -176,14 +177,16 @@ def check_scripts():
 
 
 def check_commands():
-    """The README of a program has a row for each command of its usage, and no other; its man page and OPERATIONS name each."""
-    for program, home, man in (("oaihost", "oai_startup", "oaihost.1"), ("oaihostd", "oai_archive", "oaihostd.8")):
-        usage = re.search(rf'"usage: {program} ([^"]*)"', (TOP / "crates" / home / "src/stop.rt").read_text())[1].split(" | ")
-        rows = re.findall(r"^\| `([a-z]+[A-Z ]*)` \|", (TOP / "crates" / program / "README.md").read_text(), re.MULTILINE)
-        for command in sorted(set(usage) ^ set(rows)):
-            problem(f"crates/{program}/README.md: {command} {'has no row' if command in usage else 'is no command'}")
+    """The README of a program has a row for each command of its usage, and no other; its man page and OPERATIONS name each. The usage of `oaihostd` is the
+    synopsis of its man page, which `daemon-statuses` compares with its help."""
+    usage = re.search(r'"usage: oaihost ([^"]*)"', (TOP / "crates/oai_startup/src/stop.rt").read_text())[1].split(" | ")
+    synopses = [re.sub(r" \[--[^]]*\]", "", line).removeprefix("oaihostd ") for line in manual_synopsis() if not line.endswith(("--help", "--version"))]
+    for program, called, man in (("oaihost", usage, "oaihost.1"), ("oaihostd", synopses, "oaihostd.8")):
+        rows = re.findall(r"^\| `([a-z]+[]A-Z []*)` \|", (TOP / "crates" / program / "README.md").read_text(), re.MULTILINE)
+        for command in sorted(set(called) ^ set(rows)):
+            problem(f"crates/{program}/README.md: {command} {'has no row' if command in called else 'is no command'}")
         for page in (f"packaging/man/{man}", "docs/OPERATIONS.md"):
-            for word in {command.split()[0] for command in usage}:
+            for word in {command.split()[0] for command in called}:
                 if not re.search(rf"\b{word}\b", (TOP / page).read_text()):
                     problem(f"{page}: nothing of {program} {word}")
 

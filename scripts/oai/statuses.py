@@ -2,13 +2,14 @@
 
 import os
 import pathlib
+import re
 import shutil
 import socket
 import subprocess
 import tempfile
 
 from oai.clients import exchange
-from oai.programs import EXAMPLE, oaihost, oaihostd
+from oai.programs import EXAMPLE, TOP, oaihost, oaihostd
 from oai.servers import Process, serve_durably
 from oai.trials import Trial
 
@@ -180,22 +181,75 @@ def exit_statuses():
 
 # ---- oaihostd
 
-DAEMON_USAGE = "usage: oaihostd serve CONFIG PORT FOLDER | verify FOLDER | dump FOLDER NAME | checkpoint CONFIG FOLDER"
-DAEMON_UNKNOWN = [
-    "", "serve", "serve a", "serve a 1", "serve a 1 b c", "verify", "verify a b", "dump a", "dump a b c", "checkpoint a", "Serve a 1 b", "check a",
-    "serve a 65536 b", "serve a +1 b", "serve a x b",
-]  # fmt: skip
+# What is said first of arguments that are none.
+MISSING = "error: the following required arguments were not provided:"
+NO_PORT = "error: PORT is no number from 0 to 65535"
+DAEMON_UNKNOWN = {
+    "": "error: 'oaihostd' requires a subcommand but one was not provided",
+    "serve": MISSING, "serve a": MISSING, "serve a 1": MISSING, "verify": MISSING, "dump a": MISSING, "checkpoint a": MISSING,
+    "check": MISSING,
+    "serve a 1 b c": "error: unexpected argument 'c' found", "verify a b": "error: unexpected argument 'b' found",
+    "dump a b c": "error: unexpected argument 'c' found", "check a b c": "error: unexpected argument 'c' found",
+    "verify a --quiet": "error: unexpected argument '--quiet' found", "--all": "error: unexpected argument '--all' found",
+    "Serve a 1 b": "error: unrecognized subcommand 'Serve'", "backup a": "error: unrecognized subcommand 'backup'",
+    "serve a 65536 b": NO_PORT, "serve a +1 b": NO_PORT, "serve a x b": NO_PORT, "serve a 1.5 b": NO_PORT,
+    "serve --listen localhost a 1 b": "error: the ADDRESS of --listen is no IP address",
+    "serve --listen 127.0.0.1:80 a 1 b": "error: the ADDRESS of --listen is no IP address",
+    "serve a 1 b --listen": "error: a value is required for '--listen <ADDRESS>' but none was supplied",
+}  # fmt: skip
+COMMANDS = ("serve", "check", "verify", "dump", "checkpoint")
+MANUAL = "packaging/man/oaihostd.8"
 LINE = '{"deposit":"oai:a:1","sets":[],"records":{"oai_dc":[["title","On Sets"]]}}'
 DUMPED = '{"deposit":"oai:a:1","records":{"oai_dc":[["title","On Sets"]]},"sets":[]}\n'
 
 
+def synopsis_of(help_text, command):
+    """The synopsis of a command, by its help: its options but for --help, then its arguments."""
+    usage = next(line for line in help_text.splitlines() if line.startswith(f"Usage: oaihostd {command} "))
+    arguments = [it.strip("<>") for it in usage.split()[3:] if it != "[OPTIONS]"]
+    options = re.findall(r"^ +--(\S+)(?: <(\S+)>)?", help_text, re.MULTILINE)
+    return " ".join([f"oaihostd {command}", *(f"[--{name} {value}]" if value else f"[--{name}]" for name, value in options), *arguments])
+
+
+def manual_synopsis():
+    """The lines of the manual's synopsis."""
+    text = (TOP / MANUAL).read_text(encoding="utf-8").replace("\\-", "-")
+    part = text[text.index(".SH SYNOPSIS\n") + len(".SH SYNOPSIS\n") : text.index(".SH DESCRIPTION")]
+    words = [re.sub(r" *([][]) *", r"\1", line.split(" ", 1)[1]) if " " in line else "\n" for line in part.splitlines()]
+    return [line.strip().replace("]CONFIG", "] CONFIG") for line in " ".join(words).replace("[ ", "[").split("\n")]
+
+
+def try_help(trial):
+    """The help of the program and of each command, its manual page, and its version."""
+    found = trial.said("--help")
+    for command in COMMANDS:
+        trial.expect(re.search(rf"^  {command} +[A-Z]", found, re.MULTILINE), f"oaihostd --help does not name {command}")
+    trial.expect("\nExample: oaihostd serve archive.json 8480 archive\n" in found, "oaihostd --help has no example")
+    trial.ended("oaihostd --help", 0, "", "--help")
+    synopses = []
+    for command in COMMANDS:
+        found = trial.said(command, "--help")
+        trial.ended(f"oaihostd {command} --help", 0, "", command, "--help")
+        trial.check(f"-h of {command}", trial.said(command, "-h"), found)
+        trial.expect(f"\nExample: oaihostd {command} " in found, f"oaihostd {command} --help has no example")
+        synopses.append(synopsis_of(found, command))
+    trial.check("the synopsis of the manual", manual_synopsis(), [*synopses, "oaihostd [COMMAND] --help", "oaihostd --version"])
+    trial.check("oaihostd --version", trial.said("--version"), "oaihostd (journal version 1)\n")
+    trial.ended("oaihostd --version", 0, "", "--version")
+    trial.ended("an output of --help that is full", 1, "output fault", "--help", output="/dev/full")
+
+
 def try_beginnings(trial, folder):
     """Arguments that are unknown, configurations that are none, and folders that cannot be opened."""
-    for arguments in DAEMON_UNKNOWN:
-        trial.ended(f"oaihostd {arguments}", 2, DAEMON_USAGE, *arguments.split())
+    for arguments, wanted in DAEMON_UNKNOWN.items():
+        status, lines = trial.call(arguments.split())
+        trial.check(f"oaihostd {arguments}", (status, lines.split("\n")[0]), (2, wanted))
+        trial.expect("\nUsage: oaihostd" in lines or "value is required" in wanted, f"oaihostd {arguments} has no usage")
     trial.ended("no configuration", 2, "config: cannot read", "serve", folder / "none", 0, folder / "new")
     bad = written(folder / "bad.json", "{\n")
-    trial.ended("a configuration that is none", 2, "config: 1 BadJson", "serve", bad, 0, folder / "new")
+    said = "config: 1 BadJson: line 2, column 1: the text ends too early"
+    trial.ended("a configuration that is none", 2, said, "serve", bad, 0, folder / "new")
+    trial.ended("a checkpoint with a configuration that is none", 2, said, "checkpoint", bad, folder / "new")
     trial.check("a folder for a configuration that is none", (folder / "new").exists(), False)
     file = written(folder / "file", "")
     trial.ended("a folder that is a file", 1, "folder: cannot open", "serve", EXAMPLE, 0, file)
@@ -213,6 +267,12 @@ def try_beside(trial, folder):
         trial.ended("a second server", 1, "folder: in use", "serve", EXAMPLE, 0, good)
         trial.ended("a port that is taken", 1, "socket fault", "serve", EXAMPLE, server.port, folder / "other")
         trial.ended("verify beside a server", 0, "", "verify", good)
+    warning = "warning: 0.0.0.0 is no loopback address: whoever reaches it can change the archive"
+    trial.ended("another address, with a warning", 124, warning, "serve", "--listen", "0.0.0.0", "--quiet", EXAMPLE, 0, folder / "all")
+    trial.check("a quiet server", trial.call(["serve", "--quiet", EXAMPLE, 0, folder / "quiet"]), (124, ""))
+    trial.ended("a loopback address", 124, "", "serve", "--listen", "127.0.0.2", EXAMPLE, 0, folder / "two")
+    trial.ended("an address of another machine", 1, f"{warning.replace('0.0.0.0', '192.0.2.1')}\nsocket fault", "serve", "--listen", "192.0.2.1", EXAMPLE, 0,
+                folder / "three")  # fmt: skip
 
 
 def try_configs(trial, folder):
@@ -229,6 +289,7 @@ def try_configs(trial, folder):
     title = changed("title", "Archive", "Library")
     trial.ended("another name for people", 124, "config: another one: the open lists have ended", "serve", title, 0, kept)
     trial.ended("a checkpoint", 0, "", "checkpoint", title, kept)
+    trial.check("a quiet checkpoint", trial.call(["checkpoint", "--quiet", title, kept]), (0, ""))
     trial.ended("a checkpoint of nothing", 1, "folder: cannot open", "checkpoint", EXAMPLE, folder / "nothing")
     trial.ended("a dump of no repository", 2, "dump: no such repository", "dump", kept, "nobody")
     trial.ended("a dump", 0, "", "dump", kept, "a")
@@ -284,7 +345,8 @@ def try_ends(trial, folder):
 def daemon_statuses():
     """Shows that `oaihostd` ends with the status that it should, and says on standard error what it should.
 
-    And that it changes nothing that it does not go on with: at arguments that it does not know, at a configuration that
+    That its help has the arguments of the manual's synopsis, and its version that of the journal. And that it changes
+    nothing that it does not go on with: at arguments that it does not know, at a configuration that
     is none or differs from the journal's, at a dump of no repository, at a folder that is a file, cannot be made or is
     in use, at a port that is taken, and at a journal of another program, of another version, or with a changed byte in
     its first frame, in a head, a body, a length or a gate. And that a start which was cut off before it had a journal
@@ -293,6 +355,7 @@ def daemon_statuses():
     trial = Called(oaihostd(), 5)
     with tempfile.TemporaryDirectory() as place:
         folder = pathlib.Path(place)
+        try_help(trial)
         for step in (try_beginnings, try_beside, try_configs, try_damages, try_ends):
             step(trial, folder)
     if trial.differ == 0:

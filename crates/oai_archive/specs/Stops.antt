@@ -6,7 +6,7 @@ use Rattle.oai_item.specs.declared.faults.Fault.TheVariants.{Damaged as IsDamage
 use Rattle.oai_time.specs.Clock.{tick}
 use Rattle.oai_time.specs.TimeTexts.{second_text}
 use Rattle.oai_archive.specs.declared.stop.Stop.{Stop}
-use Rattle.oai_archive.specs.declared.stop.Stop.TheVariants.{CannotOpen, CannotWrite, Common, Damaged, InUse, Jumped, NotOurs, NoRepository, OfVersion, OtherConfig, Performing, Usage}
+use Rattle.oai_archive.specs.declared.stop.Stop.TheVariants.{CannotOpen, CannotWrite, Common, Damaged, InUse, Jumped, NotOurs, NoRepository, OfVersion, OtherConfig, Performing}
 use Rattle.oai_archive.specs.declared.stop.Aspect.{Aspect}
 use Rattle.oai_archive.specs.declared.stop.Aspect.TheVariants.{Contents, Deleted, Earliest, Granularity, Name}
 
@@ -36,7 +36,6 @@ unfoldable pub config_differs : List ℕ
 config_differs = codes "config: differs from the journal: repository "
 
 abbrev pub stop_text : Stop → List ℕ
-stop_text Usage = codes "usage: oaihostd serve CONFIG PORT FOLDER | verify FOLDER | dump FOLDER NAME | checkpoint CONFIG FOLDER"
 stop_text (Common cause) = other.stop_text cause
 stop_text CannotOpen = codes "folder: cannot open"
 stop_text InUse = codes "folder: in use"
@@ -49,9 +48,8 @@ stop_text (Jumped second) = codes "clock: jumped to " ++ jump_text second
 stop_text (OtherConfig difference) = config_differs ++ (string_bytes difference.repository ++ (codes ": " ++ aspect_word difference.aspect))
 stop_text NoRepository = codes "dump: no such repository"
 
--- 2 if the arguments or the configuration are invalid, and 1 for all else
+-- 2 if the configuration is invalid or no repository has the name, and 1 for all else
 abbrev pub status_of : Stop → ℕ
-status_of Usage = 2
 status_of (Common cause) = other.status_of cause
 status_of CannotOpen = 1
 status_of InUse = 1

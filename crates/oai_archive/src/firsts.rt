@@ -16,7 +16,7 @@ pub(crate) const PROGRAM: &[u8] = b"oaihostd";
 const FRONT: &[u8] = b"1\n";
 
 /// The version that this program reads and writes.
-const VERSION: u64 = 1;
+pub const VERSION: u64 = 1;
 
 /// The body of the first record: the version, a line end, and the configuration. The error is out of memory.
 pub(crate) fn write_first(alloc: Global, text: &[u8]) -> Result<Vec<u8>, AllocError>

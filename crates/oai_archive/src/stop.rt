@@ -14,8 +14,6 @@ use std::fmt;
 /// Why the server stopped.
 #[derive(Debug, PartialEq, Eq, Drop)]
 pub enum Stop {
-    /// The arguments are invalid.
-    Usage,
     /// A cause that stops `oaihost` too.
     Common(Other),
     /// The folder, or a file in it, could not be opened or created.
@@ -80,13 +78,12 @@ impl Aspect {
 }
 
 impl Stop {
-    /// The program's exit status: 2 if the arguments are invalid, or the configuration cannot be read, has a fault, or
-    /// is not the journal's, and 1 for each other cause.
+    /// The program's exit status: 2 if the configuration cannot be read, has a fault, or is not the journal's, or if there
+    /// is no repository of the name, and 1 for each other cause.
     pub fn status(&self) -> u8
         ensures { result ≡ spec.status_of self.now }
     {
         match self {
-            Stop::Usage => 2,
             Stop::Common(cause) => cause.status(),
             Stop::CannotOpen => 1,
             Stop::InUse => 1,
@@ -127,10 +124,6 @@ impl fmt::Display for Stop {
 
     fn fmt<W: fmt::Write>(&self, f: &mut fmt::Formatter<W>) -> fmt::Result {
         match self {
-            Stop::Usage => write!(
-                f,
-                "usage: oaihostd serve CONFIG PORT FOLDER | verify FOLDER | dump FOLDER NAME | checkpoint CONFIG FOLDER"
-            ),
             Stop::Common(cause) => write!(f, "{cause}"),
             Stop::CannotOpen => write!(f, "folder: cannot open"),
             Stop::InUse => write!(f, "folder: in use"),

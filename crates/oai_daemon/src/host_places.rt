@@ -14,7 +14,7 @@ use sqlite_disk::{Disk, Files};
 use sqlite_std_file::{FileFrom, OpenError, Start, Unknown, Wary, open};
 use std::fs::{self, DirBuilder, File, OpenOptions, TryLockError};
 use std::io::{self, ErrorKind};
-use std::net::{Ipv4Addr, SocketAddr, SocketAddrV4};
+use std::net::{IpAddr, Ipv4Addr, SocketAddr};
 use std::os::unix::fs::{DirBuilderExt, OpenOptionsExt};
 
 /// The mode of a new folder.
@@ -23,7 +23,7 @@ const FOLDER_MODE: u32 = 0o750;
 /// The mode of a new file.
 const FILE_MODE: u32 = 0o640;
 
-/// A folder by its path, a port of 127.0.0.1, and the standard streams. In the folder are `lock`, which is locked from
+/// A folder by its path, a port of an address, and the standard streams. In the folder are `lock`, which is locked from
 /// the first call to the last and never renamed, `journal`, `journal-wal`, which the file layer keeps beside it and
 /// which is empty, and `pages`; while a journal is begun also `journal.new` and `journal.new-wal`.
 ///
@@ -33,21 +33,37 @@ const FILE_MODE: u32 = 0o640;
 pub struct HostPlace<'a, S> {
     rt: &'a HostRuntime,
     folder: &'a str,
+    address: IpAddr,
     port: u16,
+    is_quiet: bool,
     lock: Option<File>,
     start: Option<S>,
 }
 
 impl<'a, S: Start> HostPlace<'a, S> {
-    /// The folder at that path, and that port; port 0 means a free one. Nothing is opened.
+    /// The folder at that path, and that port of 127.0.0.1; port 0 means a free one. Nothing is opened.
     pub fn new(rt: &'a HostRuntime, folder: &'a str, port: u16, start: S) -> HostPlace<'a, S> {
         HostPlace {
             rt,
             folder,
+            address: IpAddr::V4(Ipv4Addr::LOCALHOST),
             port,
+            is_quiet: false,
             lock: None,
             start: Some(start),
         }
+    }
+
+    /// The same with the port of that address.
+    pub fn listening_at(mut self, address: IpAddr) -> HostPlace<'a> {
+        self.address = address;
+        self
+    }
+
+    /// The same, to which nothing is reported if it is quiet.
+    pub fn quiet(mut self, is_quiet: bool) -> HostPlace<'a> {
+        self.is_quiet = is_quiet;
+        self
     }
 
     /// The path of the file with that name in the folder.
@@ -185,7 +201,7 @@ impl<S: Start> Place for HostPlace<'_, S> {
     }
 
     fn listen(&mut self) -> Result<Listener, Stop> {
-        let address = SocketAddr::V4(SocketAddrV4::new(Ipv4Addr::LOCALHOST, self.port));
+        let address = SocketAddr::new(self.address, self.port);
         match Listener::bind(self.rt.alloc(), self.rt, address) {
             Ok(listener) => Ok(listener),
             Err(error) if error.kind() == ErrorKind::OutOfMemory => {
@@ -248,13 +264,15 @@ impl<S: Start> Place for HostPlace<'_, S> {
         let Ok(address) = port.address() else {
             return Err(Stop::Common(Other::SocketFault));
         };
-        match println!(self.rt; "listening on 127.0.0.1:{}", address.port()) {
+        match println!(self.rt; "listening on {address}") {
             Ok(()) => Ok(()),
             Err(_) => Err(Stop::Common(Other::OutputFault)),
         }
     }
 
     fn tell(&mut self, note: Note) {
-        let _ = eprintln!(self.rt; "{note}");
+        if !self.is_quiet {
+            let _ = eprintln!(self.rt; "{note}");
+        }
     }
 }

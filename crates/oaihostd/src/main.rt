@@ -5,103 +5,93 @@ ghost use Rattle.std.specs.Prelude.{◌≡◌, IfOk};
 ghost use Rattle.std.specs.Process.{exit_status};
 ghost use Rattle.oai_archive.specs.Stops as spec;
 
-use oai_archive::{ReadFile, Stop, dump_repository, verify_journal};
+mod checks;
+mod configurations;
+
+use checks::run_check;
+use clap::Error;
+use configurations::{Failure, read_checked};
+use oai_archive::{ReadFile, Stop, VERSION, dump_repository, verify_journal};
+use oai_arguments::{Called, Serving, read_arguments};
 use oai_daemon::{Ended, HostPlace, checkpoint_folder, serve};
-use oai_startup::{Stop as Other, read_file, read_number};
+use oai_reports::report_of;
+use oai_startup::Stop as Other;
 use sqlite_std_file::Wary;
 use std::env;
 use std::fs::File;
 use std::io::{self, BufWriter, ErrorKind};
+use std::net::IpAddr;
 use std::process::ExitCode;
 use std::rt::{Env, Files};
 
-/// The program's commands.
-#[derive(Drop)]
-enum Command {
-    /// Serves the configuration in a file on a port of 127.0.0.1, with the journal in a folder.
-    Serve(String, u16, String),
-    /// Reads the journal in a folder to its end.
-    Verify(String),
-    /// Writes what the repository with a name holds, by the journal in a folder, as deposit lines.
-    Dump(String, String),
-    /// Replaces the journal in a folder by a checkpoint, with the configuration in a file.
-    Checkpoint(String, String),
-}
-
 fn main(rt: HostRuntime) -> ExitCode {
-    let done = match called_for(&rt) {
-        Ok(Command::Serve(path, port, folder)) => {
-            run_serve(&rt, path.as_str(), port, folder.as_str())
-        }
-        Ok(Command::Verify(folder)) => run_verify(&rt, folder.as_str()),
-        Ok(Command::Dump(folder, name)) => run_dump(&rt, folder.as_str(), name.as_str()),
-        Ok(Command::Checkpoint(path, folder)) => {
-            run_checkpoint(&rt, path.as_str(), folder.as_str())
-        }
-        Err(stop) => Err(stop),
-    };
-    match done {
-        Ok(()) => ExitCode::SUCCESS,
-        Err(stop) => stopped(&rt, stop),
+    match (words_of(&rt), version_of(&rt)) {
+        (Ok(words), Ok(version)) => called_with(&rt, version.as_str(), &words),
+        (Err(stop), _) => stopped(&rt, stop),
+        (_, Err(stop)) => stopped(&rt, stop),
     }
 }
 
-/// The command of the arguments.
-fn called_for(rt: &(impl Env + AllocGlobal)) -> Result<Command, Stop> {
-    let Ok(mut arguments) = env::args(rt) else {
+/// Does what the words call the program for.
+fn called_with(rt: &HostRuntime, version: &str, words: &[String]) -> ExitCode {
+    match read_arguments(rt.alloc(), version, words) {
+        Ok(called) => exit_of(rt, run(rt, called)),
+        Err(error) => answered(rt, &error),
+    }
+}
+
+/// The words that the program is called with.
+fn words_of(rt: &(impl Env + AllocGlobal)) -> Result<Vec<String>, Stop> {
+    let Ok(arguments) = env::args(rt) else {
         return Err(Stop::Common(Other::NoMemory));
     };
-    let _program = arguments.next();
-    let word = arguments.next();
-    let path = arguments.next();
-    let port = arguments.next();
-    let folder = arguments.next();
-    let others = arguments.next();
-    match (word, path, port, folder, others) {
-        (Some(word), Some(path), Some(port), Some(folder), None) => {
-            to_serve(word.as_str(), path, port.as_bytes(), folder)
-        }
-        (Some(word), Some(path), Some(other), None, None) => of_two(word.as_str(), path, other),
-        (Some(word), Some(folder), None, None, None) => to_verify(word.as_str(), folder),
-        _ => Err(Stop::Usage),
+    match arguments.collect(rt.alloc()) {
+        Ok(words) => Ok(words),
+        Err(_) => Err(Stop::Common(Other::NoMemory)),
     }
 }
 
-/// The command to serve, with that port and that folder.
-fn to_serve(word: &str, path: String, port: &[u8], folder: String) -> Result<Command, Stop> {
-    match (word, read_port(port)) {
-        ("serve", Some(port)) => Ok(Command::Serve(path, port, folder)),
-        _ => Err(Stop::Usage),
-    }
+/// What the program says of its version.
+fn version_of(rt: &impl AllocGlobal) -> Result<String, Stop> {
+    Ok(format!(in rt.alloc(); "(journal version {VERSION})")?)
 }
 
-/// The command to dump a repository, or to replace a journal by a checkpoint.
-fn of_two(word: &str, first: String, second: String) -> Result<Command, Stop> {
-    match word {
-        "dump" => Ok(Command::Dump(first, second)),
-        "checkpoint" => Ok(Command::Checkpoint(first, second)),
-        _ => Err(Stop::Usage),
+/// Does what the program is called for.
+fn run(rt: &HostRuntime, called: Called<'_>) -> Result<(), Failure> {
+    match called {
+        Called::Serve(serving) => run_serve(rt, serving),
+        Called::Check {
+            config,
+            lines,
+            repository,
+        } => run_check(rt, config, lines, repository),
+        Called::Verify(folder) => Ok(run_verify(rt, folder)?),
+        Called::Dump { folder, name } => Ok(run_dump(rt, folder, name)?),
+        Called::Checkpoint {
+            config,
+            folder,
+            is_quiet,
+        } => { run_checkpoint(rt, config, folder, is_quiet) }
     }
-}
-
-/// The command to verify that folder.
-fn to_verify(word: &str, folder: String) -> Result<Command, Stop> {
-    match word {
-        "verify" => Ok(Command::Verify(folder)),
-        _ => Err(Stop::Usage),
-    }
-}
-
-/// Parses a port: decimal digits alone, below 65,536.
-fn read_port(text: &[u8]) -> Option<u16> {
-    u16::try_from(read_number(text)?).ok()
 }
 
 /// Serves the configuration in the file on the port, with the journal in the folder.
-fn run_serve<'a>(rt: &'a HostRuntime, path: &str, port: u16, folder: &'a str) -> Result<(), Stop> {
-    let text = read_file(rt, path)?;
-    let mut place = HostPlace::new(rt, folder, port, Wary);
-    outcome_of(serve(rt.alloc(), &mut place, rt, &text))
+fn run_serve(rt: &HostRuntime, serving: Serving<'_>) -> Result<(), Failure> {
+    let text = read_checked(rt, serving.config)?;
+    warn_of(rt, serving.address);
+    let mut place = HostPlace::new(rt, serving.folder, serving.port, Wary)
+        .listening_at(serving.address)
+        .quiet(serving.is_quiet);
+    Ok(outcome_of(serve(rt.alloc(), &mut place, rt, &text))?)
+}
+
+/// Warns of an address that other machines may reach.
+fn warn_of(rt: &impl Eprint, address: IpAddr) {
+    if !address.is_loopback() {
+        let _ = eprintln!(rt;
+            "warning: {address} is no loopback address: whoever reaches it can change the archive"
+        );
+    }
 }
 
 /// Why the program stops, where its service ended, or did not begin.
@@ -148,10 +138,50 @@ fn open_to_read(
 }
 
 /// Replaces the journal in the folder by a checkpoint, with the configuration in the file.
-fn run_checkpoint(rt: &HostRuntime, path: &str, folder: &str) -> Result<(), Stop> {
-    let text = read_file(rt, path)?;
-    let mut place = HostPlace::new(rt, folder, 0, Wary);
-    checkpoint_folder(rt.alloc(), &mut place, rt, &text, &mut io::writer(rt))
+fn run_checkpoint(
+    rt: &HostRuntime,
+    path: &str,
+    folder: &str,
+    is_quiet: bool,
+) -> Result<(), Failure> {
+    let text = read_checked(rt, path)?;
+    let mut place = HostPlace::new(rt, folder, 0, Wary).quiet(is_quiet);
+    Ok(checkpoint_folder(rt.alloc(), &mut place, rt, &text, &mut io::writer(rt))?)
+}
+
+/// Ends with the status of what was done, and writes to standard error why it was not. If that fails, its status still
+/// shows it.
+fn exit_of(rt: &(impl Eprint + AllocGlobal), done: Result<(), Failure>) -> ExitCode {
+    match done {
+        Ok(()) => ExitCode::SUCCESS,
+        Err(Failure::Stop(stop)) => stopped(rt, stop),
+        Err(Failure::Config(fault, text)) => {
+            let report = report_of(rt.alloc(), &text, fault);
+            if report.is_empty() {
+                return stopped(rt, Stop::Common(Other::BadConfig(fault)));
+            }
+            let _ = eprint!(rt; "{report}");
+            ExitCode::from(Other::BadConfig(fault).status())
+        }
+        Err(Failure::NoRepository) => misused(rt, "check: no such repository"),
+        Err(Failure::NoLines) => misused(rt, "lines: cannot read"),
+        Err(Failure::Refused) => ExitCode::FAILURE,
+    }
+}
+
+/// Writes to standard error what is wrong with an argument.
+fn misused(rt: &impl Eprint, message: &str) -> ExitCode {
+    let _ = eprintln!(rt; "{message}");
+    ExitCode::from(2)
+}
+
+/// Writes the help or the version to standard output, or what is wrong with the arguments to standard error.
+fn answered(rt: &HostRuntime, error: &Error) -> ExitCode {
+    match (error.print(rt), error.use_stderr()) {
+        (Ok(()), false) => ExitCode::SUCCESS,
+        (Err(_), false) => stopped(rt, Stop::Common(Other::OutputFault)),
+        (_, true) => ExitCode::from(2),
+    }
 }
 
 /// Writes to standard error why the program stopped. If that fails, its status still shows it.

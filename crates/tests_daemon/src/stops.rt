@@ -25,13 +25,6 @@ fn assert_stop(rt: &impl Abort, alloc: Global, stop: Stop, text: &str, status: u
 #[test]
 fn arguments_and_configurations(rt: HostRuntime) {
     let alloc = rt.alloc();
-    assert_stop(
-        &rt,
-        alloc,
-        Stop::Usage,
-        "usage: oaihostd serve CONFIG PORT FOLDER | verify FOLDER | dump FOLDER NAME | checkpoint CONFIG FOLDER",
-        2,
-    );
     let unread = Stop::Common(Other::CannotRead);
     assert_stop(&rt, alloc, unread, "config: cannot read", 2);
     let unknown = "dump: no such repository";
