@@ -10,7 +10,7 @@ use Rattle.oai_host.specs.Redone.{IsRecorded}
 use Rattle.oai_http.specs.Exchanges.{call_of}
 use Rattle.oai_host.proofs.AgainLemmas.{left_performed, performed_name, performed_size}
 use Rattle.oai_host.proofs.HostLemmas.{exchanged_nowhere, owned_there}
-use Rattle.oai_host.proofs.host.Host.perform_recorded.Goals as goal
+use Rattle.oai_host.proofs.host.Host.perform.Goals as goal
 
 -- that repositories stand apart is one fact, so a host that has not changed is the one that it was
 pub same-self : goal.same-self
@@ -28,13 +28,13 @@ returns-in-Some g c =
     let V = g.V.Versions in
     let fits : FitsSigned w64 c.args.moment = c.ranges.moment in
     let host = c.self.inside in
-    let store = c.perform_recorded-answer.new.store in
+    let store = c.perform.new.store in
     let call = call_of c.args.moment c.args.exchange.now in
     let found = c.in-Some.ensures in
-    let bytes = option_copied c.perform_recorded-answer.result.1 in
-    let after : HostState = record { repositories = repositories_of c.perform_recorded-answer.new.self (V.lists store); honest = V.honest store; failures = V.failures store; room = V.room store } in
-    let done = simp to_z-of_z at c.perform_recorded-answer.ensures in
-    subst (λ (h : HostState). IsRecorded c.args.moment c.args.exchange.now c.perform_recorded-answer.result.0 c.performed_at-performed.result h after) c.self.view_is (record {
+    let bytes = option_copied c.perform.result.bytes in
+    let after : HostState = record { repositories = repositories_of c.perform.new.self (V.lists store); honest = V.honest store; failures = V.failures store; room = V.room store } in
+    let done = simp to_z-of_z at c.perform.ensures in
+    subst (λ (h : HostState). IsRecorded c.args.moment c.args.exchange.now c.perform.result.answer c.performed_at-performed.result h after) c.self.view_is (record {
       exchanged = record {
         each = done.steps;
         none = λ none. owned_there host.repositories c.in-Some.place c.in-Some.endpoint (V.lists host.store) call found.place none;
