@@ -105,11 +105,6 @@ pub texts_noted : {Y : Type 0} (m n : BTreeMap (String Y) ℤ) (text : List ℕ)
     → ((q : List ℕ) → get_by_text n q ≡ cond (bytes_eq text q) stamp (get_by_text m q)) → SetsStamp text stamp (entries_in m) (entries_in n)
 texts_noted m n text stamp updates q = noted_view n q ∙ updates q ∙ ap (cond (bytes_eq text q) stamp) (sym (noted_view m q))
 
--- an empty map has no entries
-pub none_in : {Y : Type 0} (m : BTreeMap (String Y) ℤ) (q : List ℕ) → m.entries ≡ [] → stamp_in q (entries_in m) ≡ None
-unfolding stamp_in
-none_in m q empty = rw empty refl
-
 -- one more is forgotten
 pub forgotten_too : (old now new : Entries) (text : List ℕ) → ForgetsSome old now → SetsStamp text None now new → ForgetsSome old new
 forgotten_too old now new text so_far noting q some = by_test (bytes_eq text q) (noting q)
