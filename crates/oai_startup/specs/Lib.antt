@@ -1,4 +1,3 @@
 pub mod Begun
 pub mod Configurations
-pub mod Numbers
 pub mod Stops

@@ -6,8 +6,9 @@ ghost use Rattle.std.specs.Process.{exit_status};
 ghost use Rattle.oai_archive.specs.Stops as spec;
 
 use oai_archive::{ReadFile, Stop, dump_repository, verify_journal};
+use oai_bytes::read_number;
 use oai_daemon::{Ended, HostPlace, checkpoint_folder, serve};
-use oai_startup::{Stop as Other, read_file, read_number};
+use oai_startup::{Stop as Other, read_file};
 use std::env;
 use std::fs::File;
 use std::io::{self, BufWriter, ErrorKind};

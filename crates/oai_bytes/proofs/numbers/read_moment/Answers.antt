@@ -7,9 +7,9 @@ use Rattle.std.specs.Str.Parse.{ParsesSigned, digits_value}
 use Rattle.std.proofs.lemmas.Bool.{cond_both, eq-eqb, eqb-true, false≢true}
 use Rattle.std.proofs.lemmas.Str.{IsUtf8-from_ascii}
 use Rattle.std.proofs.lemmas.Str.Parse.{parse_signed_minus, parse_signed_plain}
-use Rattle.oai_journal.specs.Numbers.{moment_of, numeral_below}
-use Rattle.oai_journal.proofs.NumeralLemmas.{begins_otherwise, begins_so, digits_ascii, none_below, none_of_plus, numerals, parsed_below, up_to}
-use Rattle.oai_journal.proofs.heads.read_moment.Goals as goal
+use Rattle.oai_bytes.specs.Numbers.{moment_of, numeral_below}
+use Rattle.oai_bytes.proofs.NumeralLemmas.{begins_otherwise, begins_so, digits_ascii, none_below, none_of_plus, numerals, parsed_below, up_to}
+use Rattle.oai_bytes.proofs.numbers.read_moment.Goals as goal
 
 -- where neither the text nor what stands behind its minus is a numeral, it is no moment
 no_moment : (text : List ℕ) → (slice_index text 0 ≡ 45 → None ≡ numeral_below (2 ^ 63 + 1) (drop 1 text)) → None ≡ numeral_below (2 ^ 63) text → None ≡ moment_of text

@@ -5,9 +5,9 @@ use Rattle.std.specs.Str.Parse.{ParsesUnsigned}
 use Rattle.std.proofs.lemmas.Str.{IsUtf8-from_ascii}
 use Rattle.std.proofs.lemmas.Str.Parse.{parse_plain}
 use Rattle.std.specs.Prelude.{slice_index}
-use Rattle.oai_journal.specs.Numbers.{number_in, numeral_below}
-use Rattle.oai_journal.proofs.NumeralLemmas.{begins_otherwise, begins_so, digits_ascii, map_same, none_below, none_of_plus, numerals, parsed_below}
-use Rattle.oai_journal.proofs.heads.read_number.Goals as goal
+use Rattle.oai_bytes.specs.Numbers.{number_in, numeral_below}
+use Rattle.oai_bytes.proofs.NumeralLemmas.{begins_otherwise, begins_so, digits_ascii, map_same, none_below, none_of_plus, numerals, parsed_below}
+use Rattle.oai_bytes.proofs.numbers.read_number.Goals as goal
 
 parsed : {E : Type 0} (text : List ℕ) (r : Result ℕ E) → slice_index text 0 ≢ 43 → ParsesUnsigned 64 10 text r → result_ok r ≡ number_in text
 parsed text r no_plus h = parsed_below (2 ^ 64) text (λ n. n) r (parse_plain numerals 64 text r h no_plus) ∙ map_same (numeral_below (2 ^ 64) text)

@@ -11,7 +11,7 @@ use Rattle.std.proofs.lemmas.Bool.{and_from, and_parts, cond-false, cond-true, c
 use Rattle.std.proofs.lemmas.Fmt.{decimal_nonempty, digits_decimal, digits_value-decimal}
 use Rattle.std.proofs.lemmas.List.Elements.{All-cons, All-nil}
 use Rattle.std.proofs.lemmas.Str.Parse.{IsNumeralModel, numerals_by_value, tells_all_ascii_digits}
-use Rattle.oai_journal.specs.Numbers.{moment_of, number_in, numeral_below}
+use Rattle.oai_bytes.specs.Numbers.{moment_of, number_in, numeral_below}
 
 pub numerals : IsNumeralModel (λ ds. all_ascii_digits ds ≡ true) (digits_value 10)
 numerals = numerals_by_value _ tells_all_ascii_digits

@@ -1,4 +1,4 @@
--- Numbers and moments, as a head spells them. This repository's own.
+-- Numbers and moments, as lines, log records and arguments spell them. This repository's own.
 use Rattle.std.specs.Prelude.{ℕ, ◌+◌, ◌^◌, ◌==◌, ℤ, pos, neg_ℤ, ◌&&◌, nat_lt, List, length, drop, slice_index, Option, Some, None, if◌then◌else◌}
 use Rattle.std.specs.Option.{option_map}
 use Rattle.std.specs.Str.{all_ascii_digits}

@@ -1,6 +1,6 @@
-//! Numbers and moments, as the input and the arguments spell them.
+//! Numbers and moments, as lines, log records and arguments spell them.
 ghost use Rattle.std.specs.Prelude.{◌≡◌};
-ghost use Rattle.oai_startup.specs.Numbers.{moment_of, number_in};
+ghost use Rattle.oai_bytes.specs.Numbers.{moment_of, number_in};
 
 /// A sign that no number here begins with, though `parse` takes it.
 const PLUS: &[u8] = b"+";

@@ -3,8 +3,8 @@ use Rattle.std.proofs.Common.{◌≡◌, ℕ, ◌≤◌, nat_lt, length, None, S
 use Rattle.std.specs.List.{position_or_len}
 use Rattle.std.proofs.lemmas.List.Sums.{prefix_len-le-length}
 use Rattle.std.proofs.lemmas.Bool.{lt-ltb}
-use Rattle.oai_cli.specs.ExchangeLines as spec
-use Rattle.oai_cli.proofs.input.parts.front_len.Goals as goal
+use Rattle.oai_bytes.specs.Parts as spec
+use Rattle.oai_bytes.proofs.parts.front_len.Goals as goal
 
 none_at : (a b : ℕ) → a ≤ b → None ≡ cond (nat_lt a b) (Some a) None → b ≡ a
 none_at a b within is = grind (arith, lt-ltb)
