@@ -1,11 +1,12 @@
 -- Which responses are parts of lists, and what else is to be replayed.
 use Rattle.std.proofs.Common.{◌≡◌, ◌∙◌, ℕ, ℤ, ◌≤ℤ◌, true, false, Bool, List, [], ◌∷◌, Option, None, Some, is_some, refl, sym, ap}
 use Rattle.std.specs.Prelude.{nat_lt}
-use Rattle.std.proofs.lemmas.Int.{≤ℤ_refl}
+use Rattle.std.specs.Int.Signed.{≤ℤ_refl}
 use Rattle.oai_names.specs.declared.list_verbs.ListVerb.{ListVerb}
 use Rattle.oai_names.specs.declared.list_verbs.ListVerb.TheVariants as list
 use Rattle.oai_item.specs.Formats.{format_named}
 use Rattle.oai_item.specs.Item.{ItemState, has_record}
+use Rattle.oai_item.specs.Items.{item_named}
 use Rattle.oai_item.specs.declared.formats.Format.{Format}
 use Rattle.oai_answers.specs.Answers.{Continuation, Page, completes, fails, gives_record, lists_formats, offered, remains}
 use Rattle.oai_answers.specs.declared.errors.ErrorCode.TheVariants.{CannotDisseminateFormat, NoMetadataFormats}
@@ -54,6 +55,10 @@ part_live config item false is = rw is refl
 pub part_item_formats : (config : Config) (item : Option ItemState) → is_part (with_answer (item_formats_answer config item)) ≡ false
 part_item_formats config None = refl
 part_item_formats config (Some item) = part_live config item item.live refl
+
+pub part_formats : (config : Config) (items : List ItemState) (identifier : Option (List ℕ)) → is_part (with_answer (formats_answer config items identifier)) ≡ false
+part_formats config items None = refl
+part_formats config items (Some identifier) = part_item_formats config (item_named identifier items)
 
 pub part_complete : (config : Config) (verb : ListVerb) (format : Format) (items : List ItemState) → is_part (with_answer (complete_answer config verb format items)) ≡ false
 part_complete config verb format [] = refl

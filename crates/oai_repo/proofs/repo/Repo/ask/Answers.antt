@@ -67,7 +67,7 @@ returns-clause-step g c = λ honest.
     moved (sym (still_same inside.clock now inside.lists before c.tick.ensures.never_back)) said told.open_lists in
     let telling : RepoState → Output × RepoState = λ state. (output_of_reply c.in_ok-replied.replied.reply, state) in
     let items = c.in_ok-replied.ensures.left.left.items in
-    rw (← c.self.view_is)
+    rw (← c.self.view_is, c.at_clock.ensures.reply)
     (done
     ∙ ap (λ (xs : List ItemState). telling (at now (record { items = xs; sets = inside.sets }) (open_lists_of now table between))) (sym items)
     ∙ ap (λ (b : OpenLists). telling (at now (holdings_of inside.index inside.sets between) b)) (sym (still_same inside.clock now table between c.tick.ensures.never_back))
