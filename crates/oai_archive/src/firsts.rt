@@ -3,9 +3,9 @@ ghost use Rattle.std.specs.Prelude.{◌≡◌, IfOk, IfSome, IsTrue, OnOk, strin
 ghost use Rattle.oai_archive.specs.Firsts.{IsOf, IsSameConfig, IsWrittenFor, first_body, program};
 
 use crate::stop::Stop;
+use oai_bytes::read_number;
 use oai_deposit::read_json;
 use oai_journal::Record;
-use oai_startup::read_number;
 use serde_json::{Value, put};
 use std::alloc::{AllocError, Global};
 

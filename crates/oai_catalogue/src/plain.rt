@@ -77,8 +77,8 @@ impl Versions for PlainVersions {
         Ok(items.replace(alloc, stamp, identifier.as_str(), item)?)
     }
 
-    fn find(&mut self, v: u64, stamp: i64, identifier: &Identifier) -> Result<Option<Item>, Fault> {
-        match self.list(v).find(stamp, identifier.as_str()) {
+    fn find(&mut self, v: u64, stamp: i64, identifier: &str) -> Result<Option<Item>, Fault> {
+        match self.list(v).find(stamp, identifier) {
             Some(item) => Ok(Some(item.copy(self.alloc)?)),
             None => Ok(None),
         }

@@ -90,7 +90,7 @@ pub trait Versions {
 
     /// The item with that datestamp, in seconds from 1970 on, and identifier, or None. Any fault but `TooManyPages` may
     /// come.
-    fn find(&mut self, v: u64, stamp: i64, identifier: &Identifier) -> Result<Option<Item>, Fault>
+    fn find(&mut self, v: u64, stamp: i64, identifier: &str) -> Result<Option<Item>, Fault>
         requires { IsSome (lists self.old v) }
         ensures found { IfOk result (λ item. IsTrue (honest self.old)
             → item ≡ item_at stamp identifier.now (list_at (lists self.old) v)) }

@@ -3,8 +3,9 @@ use Rattle.std.proofs.Common.{◌≡◌, ℕ, ℤ, ◌==◌, true, nat_le, List,
 use Rattle.std.specs.List.{count_by}
 use Rattle.oai_http.specs.declared.exchanges.Call.{Call}
 use Rattle.oai_cli.specs.EventLines.{coming, parse_event}
-use Rattle.oai_cli.specs.ExchangeLines.{is_separator, part, rest, parse_exchange, type_of}
-use Rattle.oai_startup.specs.Numbers.{moment_of, number_in}
+use Rattle.oai_bytes.specs.Parts.{is_separator, part, rest}
+use Rattle.oai_cli.specs.ExchangeLines.{parse_exchange, type_of}
+use Rattle.oai_bytes.specs.Numbers.{moment_of, number_in}
 use Rattle.oai_cli.specs.declared.trace.events.Event.{Event}
 
 abbrev pub event_with : ℤ → ℕ → Option (List ℕ) → Event

@@ -18,11 +18,12 @@ use Rattle.oai_host.specs.Bodies.{is_line_end}
 use Rattle.oai_http.specs.declared.exchanges.Call.{Call}
 use Rattle.oai_cli.specs.NumberedLines.{lines_of}
 use Rattle.oai_cli.specs.EventLines.{IsTraceable, IsWritableEvent, coming, coming_text, event_line, parse_event}
-use Rattle.oai_cli.specs.ExchangeLines.{IsSpellable, call_line, is_separator, part, rest, parse_exchange, type_of}
-use Rattle.oai_startup.specs.Numbers.{moment_of, number_in}
+use Rattle.oai_bytes.specs.Parts.{is_separator, part, rest}
+use Rattle.oai_cli.specs.ExchangeLines.{IsSpellable, call_line, parse_exchange, type_of}
+use Rattle.oai_bytes.specs.Numbers.{moment_of, number_in}
 use Rattle.oai_cli.specs.declared.trace.events.Event.{Event}
 use Rattle.oai_cli.proofs.LineLemmas.{call_with, event_with, spelled_all, told_all}
-use Rattle.oai_startup.proofs.NumeralLemmas.{moment_avoids, moment_written, number_avoids, number_written}
+use Rattle.oai_bytes.proofs.NumeralLemmas.{moment_avoids, moment_written, number_avoids, number_written}
 
 -- ---- what stands before a space, and after it
 

@@ -11,8 +11,8 @@ use Rattle.hex.specs.declared.error.FromHexError.TheVariants.{InvalidHexCharacte
 use Rattle.hex.specs.Hex.{IsBytes, decode_of, encode_lower}
 use Rattle.oai_names.specs.Optional.{◌>>=◌, tested}
 use Rattle.oai_cli.specs.NumberedLines.{lines_of}
-use Rattle.oai_cli.specs.ExchangeLines.{is_separator, part, rest}
-use Rattle.oai_startup.specs.Numbers.{moment_of, number_in}
+use Rattle.oai_bytes.specs.Parts.{is_separator, part, rest}
+use Rattle.oai_bytes.specs.Numbers.{moment_of, number_in}
 use Rattle.oai_cli.specs.declared.trace.events.Event.{Event}
 use Rattle.oai_startup.specs.declared.stop.Stop.{Stop}
 use Rattle.oai_startup.specs.declared.stop.Stop.TheVariants.{BadPiece, NoMemory}

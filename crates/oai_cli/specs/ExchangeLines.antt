@@ -1,6 +1,6 @@
 -- The lines that are exchanges, and what is written for each. This repository's own.
 use Rattle.std.specs.Prelude.{◌≡◌, ℕ, ◌==◌, ℤ, Bool, false, ◌&&◌, nat_lt, nat_le, List, [], ◌++◌, length, codes, decimal, Option, Some, None, is_none, FitsSigned, if◌then◌else◌}
-use Rattle.std.specs.List.{before_first, after_first, count_by, list_any}
+use Rattle.std.specs.List.{count_by, list_any}
 use Rattle.std.specs.Str.{bytes_eq}
 use Rattle.std.specs.Fmt.{signed_decimal}
 use Rattle.std.specs.Int.{w64}
@@ -11,19 +11,10 @@ use Rattle.oai_http.specs.Exchanges.{call_of}
 use Rattle.oai_http.specs.declared.exchanges.Answer.{Answer}
 use Rattle.oai_http.specs.declared.exchanges.Call.{Call}
 use Rattle.oai_http.specs.declared.exchanges.Exchange.{Exchange}
-use Rattle.oai_startup.specs.Numbers.{moment_of}
+use Rattle.oai_bytes.specs.Numbers.{moment_of}
+use Rattle.oai_bytes.specs.Parts.{is_separator, part, rest}
 
 -- ---- a line: `<moment> <METHOD> <target>`, and then for a body one space and the body to the end of the line
-
-abbrev pub is_separator : ℕ → Bool
-is_separator b = b == 32
-
--- what precedes the first space, and what follows it
-abbrev pub part : List ℕ → List ℕ
-part text = before_first is_separator text
-
-abbrev pub rest : List ℕ → List ℕ
-rest text = after_first is_separator text
 
 -- the media type of a body: that of a form for a POST, and none for any other method
 abbrev pub type_of : List ℕ → Option (List ℕ)

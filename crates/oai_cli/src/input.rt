@@ -1,4 +1,4 @@
 //! What the commands read: the lines of an input, and the parts of a line.
 
 pub(crate) mod lines;
-pub(crate) mod parts;
+pub(crate) mod spaces;

@@ -6,7 +6,7 @@ ghost use Rattle.hex.specs.Hex.{IsBytes};
 ghost use Rattle.oai_http.specs.declared.exchanges.Call.{Call};
 ghost use Rattle.oai_cli.specs.EventLines.{IsTraceable, IsWritableEvent, event_line, parse_event};
 ghost use Rattle.oai_cli.specs.ExchangeLines.{IsSpellable, call_line, parse_exchange};
-ghost use Rattle.oai_startup.specs.Numbers.{moment_of, number_in};
+ghost use Rattle.oai_bytes.specs.Numbers.{moment_of, number_in};
 ghost use Rattle.oai_cli.specs.declared.trace.events.Event.{Event};
 
 use crate::trace::MAX_CONNECTIONS;

@@ -55,13 +55,13 @@ impl<'a, S: Start> HostPlace<'a, S> {
     }
 
     /// The same with the port of that address.
-    pub fn listening_at(mut self, address: IpAddr) -> HostPlace<'a> {
+    pub fn listening_at(mut self, address: IpAddr) -> HostPlace<'a, S> {
         self.address = address;
         self
     }
 
     /// The same, to which nothing is reported if it is quiet.
-    pub fn quiet(mut self, is_quiet: bool) -> HostPlace<'a> {
+    pub fn quiet(mut self, is_quiet: bool) -> HostPlace<'a, S> {
         self.is_quiet = is_quiet;
         self
     }

@@ -6,14 +6,15 @@ use Rattle.oai_item.specs.declared.faults.Fault.{Fault}
 use Rattle.oai_item.specs.declared.faults.Fault.TheVariants.{Damaged, Device, NoMemory, TooManyPages}
 use Rattle.oai_settings.specs.Config.{Config}
 use Rattle.oai_repo.specs.Machine.{Output, bytes, query, step, wait}
-use Rattle.oai_repo.specs.State.{OpenLists, RepoState, at_clock, moved}
-use Rattle.oai_repo.specs.Calls.{IsClockAt, IsLeftByStep, changes_lists, room_to_ask}
+use Rattle.oai_repo.specs.Replays.{IsReplay}
+use Rattle.oai_repo.specs.State.{RepoState, moved}
+use Rattle.oai_repo.specs.declared.responses.Replay.{Replay}
+use Rattle.oai_repo.specs.declared.responses.Replay.TheVariants.{Nothing, Tick, Request}
+use Rattle.oai_repo.specs.Calls.{IsClockAt, IsLeftByStep, room_to_ask}
 use Rattle.oai_repo.specs.Fields.{Keeps, RepoFields, holdings_of, state_of}
 use Rattle.oai_repo.proofs.PassLemmas.{bare_ticks, ticks}
 use Rattle.oai_args.specs.Pairs.{decoded_pairs}
 use Rattle.oai_args.specs.Requests.{request_of}
-use Rattle.std.specs.Int.Signed.{≤ℤ_refl}
-use Rattle.oai_repo.proofs.OpenListLemmas.{still_same}
 use Rattle.oai_catalogue.specs.Store.{Lists, Spends}
 use Rattle.oai_catalogue.specs.declared.versions.Versions.{Ghosts}
 use Rattle.oai_http.specs.declared.targets.Endpoint.{Endpoint}
@@ -32,7 +33,7 @@ use Rattle.oai_host.specs.Bodies.{lines_in}
 use Rattle.oai_host.specs.DepositLines.{AreTaken}
 use Rattle.oai_host.specs.Hosts.{AreSteps, HostState, IsExchanged, Repository, is_of_none, refused, store_of}
 use Rattle.oai_host.specs.Performed.{HasStopped, IsDone, IsPerformed, StoreState}
-use Rattle.oai_host.specs.Redone.{IsRedone, LeaveSame, redone_all, redone_at, reply_all}
+use Rattle.oai_host.specs.Redone.{AreNoLonger, IsLeftBy, IsRedone, LeavesLines, arguments_to_replay, redone_all, redone_at, reply_all}
 use Rattle.oai_host.specs.Tasks.{Task, asking, depositing, refusing, task_of}
 use Rattle.oai_host.proofs.DepositLemmas.{lines_exact}
 use Rattle.oai_host.proofs.RoomLemmas.{fault_told}
@@ -43,6 +44,10 @@ use Rattle.oai_host.proofs.RunLemmas.{done_exact}
 output_whole : (output : Output) → (answer_of output).fault ≡ None
 output_whole (bytes body) = refl
 output_whole (wait seconds) = refl
+
+-- so it tells of no failure
+pub output_told : (output : Output) → failure_in (answer_of output) ≡ Ok tt
+output_told output = ap failure (output_whole output)
 
 -- the answers of the machine have none
 pub alone_whole : (config : Config) (state : RepoState) (moment : ℤ) (task : Task) → (done_alone config state moment task).0.fault ≡ None
@@ -105,22 +110,6 @@ module _ (config : Config) (moment : ℤ) (task : Task) (answer : Answer) (befor
       of_task (asking arguments) f stopped = stopped.1
       of_task (depositing lines) f stopped = never stopped.0 (sym none ∙ ap (λ (a : Answer). a.done) stopped.2 ∙ failed_done f (Some stopped.0))
 
--- a request that failed has left all
-pub asked_left : (config : Config) (moment : ℤ) (arguments : List ℕ) (answer : Answer) (before : RepoState) (old : StoreState) (after : RepoState) (new : StoreState) → IsTrue old.honest
-    → IsPerformed config moment (asking arguments) answer before old after new → (fault : Fault) → answer.fault ≡ Some fault → after ≡ before
-asked_left config moment arguments answer before old after new honest performed fault is = elim performed.ended [
-  | inl done ↦ never fault (sym (done_whole config moment (asking arguments) answer before old after new honest performed done) ∙ is)
-  | inr stopped ↦ stopped.1.1
-]
-
--- a refusal leaves all
-pub refusal_left : (config : Config) (moment : ℤ) (status : Status) (answer : Answer) (before : RepoState) (old : StoreState) (after : RepoState) (new : StoreState)
-    → IsPerformed config moment (refusing status) answer before old after new → after ≡ before
-refusal_left config moment status answer before old after new performed = elim performed.ended [
-  | inl done ↦ done.1
-  | inr stopped ↦ absurd stopped.1
-]
-
 -- a deposit that failed has done its first lines
 pub lines_left : (config : Config) (moment : ℤ) (body : List ℕ) (answer : Answer) (before : RepoState) (old : StoreState) (after : RepoState) (new : StoreState) → IsTrue old.honest
     → IsPerformed config moment (depositing (lines_in body)) answer before old after new → (fault : Fault) (n size : ℕ) → answer.fault ≡ Some fault → answer.done ≡ Some n → AreTaken body size n
@@ -136,39 +125,31 @@ lines_left config moment body answer before old after new honest performed fault
       ∙ ap (λ (lines : List (List ℕ)). (done_alone config before moment (depositing lines)).1) (sym taken)
 ]
 
--- ---- what is enough
+-- no lines leave all
+pub no_lines_left : (body : List ℕ) (answer : Answer) (lines : List ℕ) → length lines ≡ 0 → LeavesLines body answer (Some lines) → LeavesLines body answer None
+no_lines_left body answer [] none left = left
+no_lines_left body answer (b ∷ lines) none left = absurd (omega (arith, none))
 
-request_ticks : (config : Config) (moment : ℤ) (arguments : List ℕ) (before : RepoState) → changes_lists (request_of config.granularity (decoded_pairs arguments)) ≡ false
-    → (done_alone config before moment (asking arguments)).1 ≡ moved moment before
-request_ticks config moment arguments before none = ticks config before moment (request_of config.granularity (decoded_pairs arguments)) none
+-- ---- what of a request is to be replayed
 
--- where the clock stands nothing has to be done again
-pub nothing_enough : (config : Config) (was is : ℤ) (arguments : List ℕ) → changes_lists (request_of config.granularity (decoded_pairs arguments)) ≡ false → is ≡ was → LeaveSame config Requests was is arguments None
-nothing_enough config was is arguments none stands moment before after first last open_ones left =
-    let moves : after ≡ moved moment before = left ∙ request_ticks config moment arguments before none in
-    moves ∙ ap (λ (clock : ℤ). at_clock clock before) (sym (ap (λ (s : RepoState). s.clock) moves) ∙ last ∙ stands) ∙ open_ones
+-- a request without arguments is a tick
+bare_tick : (config : Config) (moment : ℤ) (before : RepoState) → (done_alone config before moment (asking [])).1 ≡ moved moment before
+bare_tick config moment before = ticks config before moment (request_of config.granularity (decoded_pairs [])) (bare_ticks config.granularity)
 
--- and else a request without arguments is enough
-pub tick_enough : (config : Config) (was is : ℤ) (arguments : List ℕ) → changes_lists (request_of config.granularity (decoded_pairs arguments)) ≡ false → LeaveSame config Requests was is arguments (Some [])
-tick_enough config was is arguments none moment before after first last open_ones left =
-    left ∙ request_ticks config moment arguments before none ∙ sym (request_ticks config moment [] before (bare_ticks config.granularity))
+pub replay_left : (config : Config) (moment : ℤ) (arguments : List ℕ) (replay : Replay) (before after : RepoState) → IsReplay config before moment (request_of config.granularity (decoded_pairs arguments)) replay after
+    → after ≡ (done_alone config before moment (asking arguments)).1 → IsLeftBy config moment Requests (arguments_to_replay replay arguments) before after
+replay_left config moment arguments Nothing before after is done = is.replayed
+replay_left config moment arguments Tick before after is done = is.replayed ∙ sym (bare_tick config moment before)
+replay_left config moment arguments Request before after is done = done
 
-pub all_enough : (config : Config) (endpoint : Endpoint) (was is : ℤ) (its : List ℕ) → LeaveSame config endpoint was is its (Some its)
-all_enough config endpoint was is its moment before after first last open_ones left = left
-
-pub no_lines_enough : (config : Config) (was is : ℤ) (lines : List ℕ) → length lines ≡ 0 → LeaveSame config Deposits was is lines None
-no_lines_enough config was is [] none moment before after first last open_ones left = left
-no_lines_enough config was is (b ∷ lines) none moment before after first last open_ones left = absurd (omega (arith, none))
-
--- the lists of a repository are open at its clock
-pub stands_open : (clock : ℤ) (repo : RepoFields) (lists : Lists) → clock ≡ repo.clock → at_clock clock (state_of repo lists) ≡ state_of repo lists
-stands_open clock repo lists is =
-    ap (λ (now : ℤ). at_clock now (state_of repo lists)) is
-    ∙ ap (λ (open_ones : OpenLists). record { clock = repo.clock; holdings = holdings_of repo.index repo.sets lists; open_lists = open_ones }) (still_same repo.clock repo.clock repo.table lists (≤ℤ_refl repo.clock))
+pub no_longer : (replay : Replay) (arguments : List ℕ) → AreNoLonger arguments (arguments_to_replay replay arguments)
+no_longer Nothing arguments = tt
+no_longer Tick arguments = omega arith
+no_longer Request arguments = omega arith
 
 -- ---- a request is passed
 
-reply_of_output : (output : Output) → IsReply (answer_of output)
+pub reply_of_output : (output : Output) → IsReply (answer_of output)
 reply_of_output (bytes body) = refl
 reply_of_output (wait seconds) = refl
 

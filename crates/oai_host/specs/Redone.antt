@@ -7,7 +7,9 @@ use Rattle.oai_item.specs.declared.faults.Fault.TheVariants.{Damaged, Device}
 use Rattle.oai_catalogue.specs.Store.{IsHonest}
 use Rattle.oai_device.specs.Device.{CountsFailures}
 use Rattle.oai_settings.specs.Config.{Config}
-use Rattle.oai_repo.specs.State.{RepoState, at_clock}
+use Rattle.oai_repo.specs.State.{RepoState}
+use Rattle.oai_repo.specs.declared.responses.Replay.{Replay}
+use Rattle.oai_repo.specs.declared.responses.Replay.TheVariants.{Nothing, Tick, Request}
 use Rattle.oai_http.specs.Exchanges.{call_of}
 use Rattle.oai_http.specs.Redone.{call_again, is_short_name, left_again, own_call}
 use Rattle.oai_http.specs.Targets.{leads_to_repository}
@@ -22,7 +24,7 @@ use Rattle.oai_host.specs.Answers.{failure_in}
 use Rattle.oai_host.specs.Bodies.{lines_in}
 use Rattle.oai_host.specs.Hosts.{AreSteps, HostState, IsExchanged, Repository, refused}
 use Rattle.oai_host.specs.Performed.{IsPerformed, StoreState}
-use Rattle.oai_host.specs.Tasks.{Task, asking, depositing, task_in}
+use Rattle.oai_host.specs.Tasks.{Task, asking, depositing}
 
 -- ---- the state after a call, and its answer
 
@@ -55,39 +57,23 @@ abbrev pub IsLeftBy : Config → ℤ → Endpoint → Option (List ℕ) → Repo
 IsLeftBy config moment endpoint None before after = after ≡ before
 IsLeftBy config moment endpoint (Some bytes) before after = after ≡ (done_alone config before moment (task_again endpoint bytes)).1
 
--- if the first bytes were performed, others may be replayed in their place, or nothing: at a repository whose clock was
--- the one and is the other, and whose lists are open, they leave the same
-abbrev pub LeaveSame : Config → Endpoint → ℤ → ℤ → List ℕ → Option (List ℕ) → Type 0
-LeaveSame config endpoint was is bytes others =
-    (moment : ℤ) (before after : RepoState)
-    → before.clock ≡ was
-    → after.clock ≡ is
-    → at_clock was before ≡ before
-    → IsLeftBy config moment endpoint (Some bytes) before after
-    → IsLeftBy config moment endpoint others before after
+-- as much of the arguments of a request as replays it
+abbrev pub arguments_to_replay : Replay → List ℕ → Option (List ℕ)
+arguments_to_replay Nothing arguments = None
+arguments_to_replay Tick arguments = Some []
+arguments_to_replay Request arguments = Some arguments
 
 -- they are no longer
 abbrev pub AreNoLonger : List ℕ → Option (List ℕ) → Type 0
 AreNoLonger bytes others = IfSome others (λ (its : List ℕ). length its ≤ length bytes)
 
--- of an exchange of a repository with that answer, these bytes were performed and nothing else; or nothing
-abbrev pub LeavesAgain : Endpoint → Exchange → Answer → Option (List ℕ) → Type 0
-LeavesAgain endpoint exchange answer bytes =
+-- of a deposit with that answer, these lines were performed and no other; or none was
+abbrev pub LeavesLines : List ℕ → Answer → Option (List ℕ) → Type 0
+LeavesLines body answer lines =
     (config : Config) (moment : ℤ) (before after : RepoState) (old new : StoreState)
     → IsTrue old.honest
-    → IsPerformed config moment (task_in endpoint (call_of moment exchange)) answer before old after new
-    → IsLeftBy config moment endpoint bytes before after
-
--- the same, between these two clocks
-abbrev pub LeavesBetween : Config → Endpoint → Exchange → Answer → ℤ → ℤ → Option (List ℕ) → Type 0
-LeavesBetween config endpoint exchange answer was is bytes =
-    (moment : ℤ) (before after : RepoState) (old new : StoreState)
-    → before.clock ≡ was
-    → after.clock ≡ is
-    → at_clock was before ≡ before
-    → IsTrue old.honest
-    → IsPerformed config moment (task_in endpoint (call_of moment exchange)) answer before old after new
-    → IsLeftBy config moment endpoint bytes before after
+    → IsPerformed config moment (depositing (lines_in body)) answer before old after new
+    → IsLeftBy config moment Deposits lines before after
 
 -- they are no longer than the target or the body of the exchange
 abbrev pub IsNoLonger : Exchange → Option (List ℕ) → Type 0

@@ -17,6 +17,7 @@ ghost use Rattle.std.specs.List.{list_all};
 ghost use Rattle.std.specs.Option.{IfNone, option_copied};
 ghost use Rattle.std.specs.Prelude.{IfErr, IfOk, IfSome, IsTrue, OnErr, OnOk, if◌then◌else◌, length, map, true, ◌++◌, ◌+◌, ◌<◌, ◌≡◌, ◌≤◌};
 
+use crate::records::Recorded;
 use crate::repositories::Repositories;
 use crate::routes::Routes;
 use oai_catalogue::Versions;
@@ -96,13 +97,8 @@ impl<V: Versions + Drop> Host<V> {
     pub fn exchange(&mut self, moment: i64, exchange: &Exchange<'_>) -> Answer
         ensures { IsExchanged (call_of moment exchange.now) result self.old self.new }
     {
-        match find(&self.routes, &self.repositories, exchange.target) {
-            Some((endpoint, place, _)) => {
-                self.repositories
-                    .perform(&mut self.store, place, endpoint, moment, exchange)
-            }
-            None => Answer::of_status(self.alloc, status_of(exchange.target)),
-        }
+        let Done { answer, performed: _ } = self.perform(moment, exchange);
+        answer
     }
 
     /// Replays, at the moment, in seconds from 1970 on, what was performed before, as `exchange` performs it, and makes
@@ -120,14 +116,14 @@ impl<V: Versions + Drop> Host<V> {
     }
 
     /// Performs an exchange as `exchange` does, and returns with the answer what of it has to be replayed.
-    fn perform_recorded<'a>(&mut self, moment: i64, exchange: &Exchange<'a>) -> Done<'a>
+    fn perform<'a>(&mut self, moment: i64, exchange: &Exchange<'a>) -> Done<'a>
         ensures { IsRecorded moment exchange.now result.answer result.performed self.old self.new }
     {
         match find(&self.routes, &self.repositories, exchange.target) {
             Some((endpoint, place, name)) => {
-                let (answer, bytes) = self
+                let Recorded { answer, bytes } = self
                     .repositories
-                    .perform_recorded(&mut self.store, place, endpoint, moment, exchange);
+                    .perform(&mut self.store, place, endpoint, moment, exchange);
                 let performed = performed_at(endpoint, name, bytes);
                 Done { answer, performed }
             }
@@ -181,7 +177,7 @@ impl<V: Versions + Drop> Host<V> {
     }
 
     /// Performs a call, at its moment, as `exchange` does, and returns its answer.
-    fn perform(&mut self, call: &Call) -> Answer
+    fn answer(&mut self, call: &Call) -> Answer
         ensures { IsExchanged call.now result self.old self.new }
     {
         self.exchange(call.moment, &call.exchange())
@@ -200,7 +196,7 @@ impl<V: Versions + Drop> Host<V> {
     {
         let mut answers = Vec::with_capacity(self.alloc, calls.len())?;
         for call in calls {
-            let answer = self.perform(call);
+            let answer = self.answer(call);
             answers.push(answer).unwrap();
         }
         Ok(Sequence::new(answers))
@@ -294,7 +290,7 @@ impl<V: Versions + Drop> Replayed for Host<V> {
     ghost same_restored = { emptied_restored };
 
     fn perform<'a>(&mut self, moment: i64, exchange: &Exchange<'a>) -> Done<'a> {
-        self.perform_recorded(moment, exchange)
+        self.perform(moment, exchange)
     }
 
     fn redo(&mut self, moment: i64, performed: &Performed<'_>) -> Result<(), Fault> {

@@ -22,12 +22,12 @@ ghost use Rattle.std.specs.Prelude.{IsTrue, List, OnErr, OnOk, Some, [], false, 
 ghost use Rattle.std.specs.Str.{bytes_eq};
 
 use crate::dispatch::perform;
-use crate::records::{perform_recorded, redo};
+use crate::records::{Recorded, redo};
 use crate::restores::restore;
 use crate::saves::save;
 use oai_catalogue::Versions;
 use oai_config::NamedConfig;
-use oai_http::{Answer, Endpoint, Exchange, Part, Performed, SaveFault, Sink};
+use oai_http::{Endpoint, Exchange, Part, Performed, SaveFault, Sink};
 use oai_item::Fault;
 use oai_names::Text;
 use oai_repo::Repo;
@@ -129,55 +129,33 @@ impl Repositories {
         Ok(())
     }
 
-    /// Performs an exchange of the repository at the position, at the moment, in seconds from 1970 on.
-    pub(crate) fn perform<V: Versions>(
-        &mut self,
-        store: &mut V,
-        place: usize,
-        endpoint: Endpoint,
-        moment: i64,
-        exchange: &Exchange<'_>,
-    ) -> Answer
-        requires place { IsRepoPlace self.old place endpoint exchange.now.target.now }
-        requires repos { AreNamedRepos (V.honest store.old) self.old (V.lists store.old) }
-        ensures steps { AreSteps (call_of moment exchange.now) result (store_state V.Versions store.old)
-            (store_state V.Versions store.new) (repositories_of self.old (V.lists store.old))
-            (repositories_of self.new (V.lists store.new)) }
-        ensures repos { AreNamedRepos (V.honest store.new) self.new (V.lists store.new) }
-        ensures device { CountsFailures fault.Device (failure_in result) (V.failures store.old) (V.failures store.new) }
-        ensures honesty { IsHonest (failure_in result) (V.honest store.old) (V.honest store.new) }
-    {
-        let repo = &mut self.repos[place].repo;
-        perform(self.alloc, repo, store, moment, endpoint, exchange)
-    }
-
-    /// Performs an exchange of the repository at the position as `perform` does, and returns with the answer the bytes
-    /// that replay it; `None` if nothing has to be replayed.
-    pub(crate) fn perform_recorded<'a, V: Versions>(
+    /// Performs an exchange of the repository at the position, at the moment, in seconds from 1970 on, and returns with
+    /// the answer what of it has to be replayed.
+    pub(crate) fn perform<'a, V: Versions>(
         &mut self,
         store: &mut V,
         place: usize,
         endpoint: Endpoint,
         moment: i64,
         exchange: &Exchange<'a>,
-    ) -> (Answer, Option<&'a [u8]>)
+    ) -> Recorded<'a>
         requires place { IsRepoPlace self.old place endpoint exchange.now.target.now }
         requires repos { AreNamedRepos (V.honest store.old) self.old (V.lists store.old) }
-        ensures steps { AreSteps (call_of moment exchange.now) result.0
+        ensures steps { AreSteps (call_of moment exchange.now) result.answer
             (store_state V.Versions store.old) (store_state V.Versions store.new)
             (repositories_of self.old (V.lists store.old))
             (repositories_of self.new (V.lists store.new)) }
         ensures left { (name : List ℕ) → path_of exchange.now.target.now ≡ front_of endpoint ++ name
-            → IsTrue (V.honest store.old) → AreLeftBy moment endpoint name (option_copied result.1)
+            → IsTrue (V.honest store.old) → AreLeftBy moment endpoint name (option_copied result.bytes)
             (repositories_of self.old (V.lists store.old))
             (repositories_of self.new (V.lists store.new)) }
-        ensures size { IsNoLonger exchange.now (option_copied result.1) }
+        ensures size { IsNoLonger exchange.now (option_copied result.bytes) }
         ensures repos { AreNamedRepos (V.honest store.new) self.new (V.lists store.new) }
-        ensures device { CountsFailures fault.Device (failure_in result.0) (V.failures store.old) (V.failures store.new) }
-        ensures honesty { IsHonest (failure_in result.0) (V.honest store.old) (V.honest store.new) }
+        ensures device { CountsFailures fault.Device (failure_in result.answer) (V.failures store.old) (V.failures store.new) }
+        ensures honesty { IsHonest (failure_in result.answer) (V.honest store.old) (V.honest store.new) }
     {
-        let own = &mut self.repos[place].repo;
-        perform_recorded(self.alloc, own, store, moment, endpoint, exchange)
+        let repo = &mut self.repos[place].repo;
+        perform(self.alloc, repo, store, moment, endpoint, exchange)
     }
 
     /// Replays, at the repository at the position and at the moment, in seconds from 1970 on, what was performed. The

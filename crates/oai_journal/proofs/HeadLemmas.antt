@@ -9,13 +9,14 @@ use Rattle.std.proofs.lemmas.Fmt.{length-decimal-le, length_signed_le}
 use Rattle.std.proofs.lemmas.List.{get_or_append_left, length-append}
 use Rattle.std.proofs.lemmas.List.Elements.{All-cons, All-nil}
 use Rattle.std.proofs.lemmas.List.Sums.{position_or_len_is}
-use Rattle.oai_journal.specs.Heads.{HeadFields, CanBeSpelled, head_front, head_in, is_separator, kind_in, part, plain, rest}
-use Rattle.oai_journal.specs.Numbers.{moment_of, number_in}
+use Rattle.oai_journal.specs.Heads.{HeadFields, CanBeSpelled, head_front, head_in, kind_in, plain}
+use Rattle.oai_bytes.specs.Parts.{is_separator, part, rest}
+use Rattle.oai_bytes.specs.Numbers.{moment_of, number_in}
 use Rattle.oai_journal.specs.Records.{is_visible_ascii, word_of}
 use Rattle.oai_journal.specs.declared.heads.TheConstants.{MAX_HEAD}
 use Rattle.oai_journal.specs.declared.records.Kind.{Kind}
 use Rattle.oai_journal.specs.declared.records.Kind.TheVariants.{Journal, Oai, Deposit, Tick, Begin, Set, Item}
-use Rattle.oai_journal.proofs.NumeralLemmas.{moment_avoids, moment_written, number_avoids, number_written}
+use Rattle.oai_bytes.proofs.NumeralLemmas.{moment_avoids, moment_written, number_avoids, number_written}
 
 -- ---- what stands before a space, and after it
 

@@ -7,6 +7,5 @@ pub mod FrameLemmas
 pub mod GroupLemmas
 pub mod HeadLemmas
 pub mod KeptLemmas
-pub mod NumeralLemmas
 pub mod ReadingLemmas
 pub mod RecoveryLemmas

@@ -2,9 +2,10 @@
 use Rattle.std.specs.Prelude.{◌≡◌, ℕ, ◌==◌, ℤ, Bool, true, List, ◌++◌, length, codes, decimal, Option, Some, None, if◌then◌else◌, FitsSigned, ◌<◌, ◌≤◌, ◌^◌}
 use Rattle.std.specs.Fmt.{signed_decimal}
 use Rattle.std.specs.Int.{w64}
-use Rattle.std.specs.List.{before_first, after_first, list_all}
+use Rattle.std.specs.List.{list_all}
 use Rattle.std.specs.Str.{bytes_eq}
-use Rattle.oai_journal.specs.Numbers.{moment_of, number_in}
+use Rattle.oai_bytes.specs.Numbers.{moment_of, number_in}
+use Rattle.oai_bytes.specs.Parts.{part, rest}
 use Rattle.oai_journal.specs.Records.{word_of, is_visible_ascii}
 use Rattle.oai_journal.specs.declared.heads.Head.{Head}
 use Rattle.oai_journal.specs.declared.records.Kind.{Kind}
@@ -39,16 +40,6 @@ pub record CanBeSpelled (h : HeadFields) : Type 0 where
   pub size : h.size < 2 ^ 64
 
 -- ---- how it is read
-
-abbrev pub is_separator : ℕ → Bool
-is_separator b = b == 32
-
--- what precedes the first space, and what follows it
-abbrev pub part : List ℕ → List ℕ
-part text = before_first is_separator text
-
-abbrev pub rest : List ℕ → List ℕ
-rest text = after_first is_separator text
 
 -- the kind with that word
 unfoldable pub kind_in : List ℕ → Option Kind

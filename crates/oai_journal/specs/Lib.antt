@@ -5,7 +5,6 @@ pub mod Groups
 pub mod Heads
 pub mod Journals
 pub mod Kept
-pub mod Numbers
 pub mod Records
 pub mod Recovered
 pub mod Recoveries

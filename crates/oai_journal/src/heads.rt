@@ -1,19 +1,15 @@
 //! The head of a frame: `<moment> <kind> <name> <length> `, before its digest.
 ghost use Rattle.std.specs.Prelude.{◌≡◌, ◌≤◌, ◌+◌, ◌++◌, ◌<◌, ◌^◌, ◌∷◌, length, List, ℕ, drop, vec_len, vec_capacity, OnOk, IfSome};
-ghost use Rattle.std.specs.List.{position, position_or_len};
 ghost use Rattle.std.specs.Option.{option_map};
 ghost use Rattle.oai_journal.specs.Heads as spec;
 ghost use Rattle.oai_journal.specs.declared.records.TheConstants.{MAX_NAME};
-ghost use Rattle.oai_journal.specs.Numbers.{moment_of, number_in};
 
 use crate::records::Kind;
 use itoa::Buffer;
+use oai_bytes::{read_moment, read_number, split_at_space};
 
 /// The maximum length of a head in bytes: 20 for each number, 7 for the kind, the name, and a space after each.
 pub(crate) const MAX_HEAD: usize = 83;
-
-/// A sign that no number here begins with, though `parse` takes it.
-const PLUS: &[u8] = b"+";
 
 /// What a head says: the fields of a log record, with the length of its bytes in their place.
 #[derive(Clone, Copy)]
@@ -59,10 +55,10 @@ pub(crate) fn put(bytes: &[u8], out: &mut Vec<u8>)
 pub(crate) fn parse_head(bytes: &[u8]) -> Option<Head<'_>>
     ensures { option_map spec.fields_of_head result ≡ spec.head_in bytes.now }
 {
-    let (moment, rest) = cut(bytes);
-    let (kind, rest) = cut(rest);
-    let (name, rest) = cut(rest);
-    let (size, _) = cut(rest);
+    let (moment, rest) = split_at_space(bytes);
+    let (kind, rest) = split_at_space(rest);
+    let (name, rest) = split_at_space(rest);
+    let (size, _) = split_at_space(rest);
     let moment = read_moment(moment)?;
     let kind = read_kind(kind)?;
     let size = read_number(size)?;
@@ -101,61 +97,4 @@ fn read_kind(word: &[u8]) -> Option<Kind>
         return Some(Kind::Item);
     }
     None
-}
-
-/// What precedes the first space, and what follows it; everything and nothing if there is none.
-fn cut(text: &[u8]) -> (&[u8], &[u8])
-    ensures front { result.0.now ≡ spec.part text.now }
-    ensures back { result.1.now ≡ spec.rest text.now }
-{
-    let front = front_len(text);
-    if front < text.len() {
-        (&text[..front], &text[front + 1..])
-    } else {
-        (text, &[])
-    }
-}
-
-/// The number of bytes before the first space.
-fn front_len(text: &[u8]) -> usize
-    ensures length { result ≡ position_or_len spec.is_separator text.now }
-    ensures within { result ≤ length text.now }
-{
-    match first_space(text) {
-        Some(at) => at,
-        None => text.len(),
-    }
-}
-
-/// The position of the first space.
-fn first_space(text: &[u8]) -> Option<usize>
-    ensures { result ≡ position spec.is_separator text.now }
-{
-    text.iter().position(|b| *b == b' ')
-}
-
-/// Reads a moment: decimal digits, after a minus where it is negative.
-fn read_moment(text: &[u8]) -> Option<i64>
-    ensures { result ≡ moment_of text.now }
-{
-    if text.starts_with(PLUS) {
-        return None;
-    }
-    let Ok(text) = std::str::from_utf8(text) else {
-        return None;
-    };
-    text.parse().ok()
-}
-
-/// Reads a number: decimal digits alone, below 2^64.
-fn read_number(text: &[u8]) -> Option<u64>
-    ensures { result ≡ number_in text.now }
-{
-    if text.starts_with(PLUS) {
-        return None;
-    }
-    let Ok(text) = std::str::from_utf8(text) else {
-        return None;
-    };
-    text.parse().ok()
 }

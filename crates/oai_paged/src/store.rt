@@ -131,7 +131,7 @@ impl<P: PagePool + Drop> Versions for VersionsOver<P> {
         )
     }
 
-    fn find(&mut self, v: u64, stamp: i64, identifier: &Identifier) -> Result<Option<Item>, Fault> {
+    fn find(&mut self, v: u64, stamp: i64, identifier: &str) -> Result<Option<Item>, Fault> {
         let number = self.number_of(v);
         let Some(directory) = self.directories.get(number) else {
             unreachable!()
@@ -141,7 +141,7 @@ impl<P: PagePool + Drop> Versions for VersionsOver<P> {
             &mut self.pool,
             directory.places(),
             stamp,
-            identifier.as_str(),
+            identifier,
         )
     }
 

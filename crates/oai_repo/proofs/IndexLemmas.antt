@@ -15,7 +15,6 @@ use Rattle.std.specs.declared.string.String.{String}
 use Rattle.std.proofs.lemmas.Bool.{and_from, cases_Bool, cond-true, cond-false, eq-eqb}
 use Rattle.std.proofs.lemmas.Map.Text.{btree_map_updates_text, is_eq-slice_cmp}
 use Rattle.std.proofs.lemmas.Slice.Eq.{bytes_eq-Decides}
-use Rattle.oai_names.specs.Names.{may_be_identifier}
 use Rattle.oai_item.specs.Item.{ItemState}
 use Rattle.oai_item.specs.Items.{are_apart, is_named, item_at, item_named, with_item, without, without_at}
 use Rattle.oai_item.proofs.Named.{found_name, item_at-named, item_named-new, item_named-without, length-without, with_item-moved, with_item-new, with_item-same, without-none, without_at-named}
@@ -105,20 +104,6 @@ updates_noted m n text stamp updates q = noted_view n q ∙ btree_map_updates_te
 pub texts_noted : {Y : Type 0} (m n : BTreeMap (String Y) ℤ) (text : List ℕ) (stamp : Option ℤ)
     → ((q : List ℕ) → get_by_text n q ≡ cond (bytes_eq text q) stamp (get_by_text m q)) → SetsStamp text stamp (entries_in m) (entries_in n)
 texts_noted m n text stamp updates q = noted_view n q ∙ updates q ∙ ap (cond (bytes_eq text q) stamp) (sym (noted_view m q))
-
--- an empty map has no entries
-pub none_in : {Y : Type 0} (m : BTreeMap (String Y) ℤ) (q : List ℕ) → m.entries ≡ [] → stamp_in q (entries_in m) ≡ None
-unfolding stamp_in
-none_in m q empty = rw empty refl
-
--- what is indexed stays indexed for identifiers alone
-pub names_noted : (text : List ℕ) (stamp : Option ℤ) (old new : Entries) → SetsStamp text stamp old new → (IsSome stamp → may_be_identifier text ≡ true)
-    → ((q : List ℕ) → IsSome (stamp_in q old) → may_be_identifier q ≡ true) → (q : List ℕ) → IsSome (stamp_in q new) → may_be_identifier q ≡ true
-names_noted text stamp old new noting name names q some = by_test (bytes_eq text q) ((bytes_eq-Decides text q).0) (subst (λ (o : Option ℤ). IsSome o) (noting q) some)
-  where
-    by_test : (b : Bool) → (b ≡ true → text ≡ q) → IsSome (cond b stamp (stamp_in q old)) → may_be_identifier q ≡ true
-    by_test true same h = subst (λ (t : List ℕ). may_be_identifier t ≡ true) (same refl) (name h)
-    by_test false same h = names q h
 
 -- one more is forgotten
 pub forgotten_too : (old now new : Entries) (text : List ℕ) → ForgetsSome old now → SetsStamp text None now new → ForgetsSome old new

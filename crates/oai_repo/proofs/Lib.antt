@@ -16,6 +16,7 @@ pub mod MarkLemmas
 pub mod TokenLemmas
 pub mod WaitLemmas
 pub mod NeighbourLemmas
+pub mod ReplayLemmas
 pub mod PassLemmas
 pub mod RestoreLemmas
 pub mod SavedLemmas

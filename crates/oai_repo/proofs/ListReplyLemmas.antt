@@ -20,7 +20,7 @@ use Rattle.oai_repo.specs.Listing.{Response, answer_by_verb, complete_answer, co
 use Rattle.oai_repo.specs.State.{OpenLists}
 use Rattle.oai_repo.specs.declared.lists.ListRequest.{ListRequest}
 use Rattle.oai_repo.specs.declared.lists.Selection.{Selection}
-use Rattle.oai_repo.specs.declared.responses.Reply.{Reply}
+use Rattle.oai_repo.specs.declared.responses.Replied.{Replied}
 use Rattle.oai_repo.specs.declared.view.RepoView.{RepoView}
 use Rattle.oai_repo.proofs.SelectionLemmas.{unknown_set}
 
@@ -134,5 +134,5 @@ response_unknown_set repo table lists request format name sets known held is lac
 -- ---- the reply
 
 -- a reply to one response is the reply to another that is equal
-pub reply_as : (repo : RepoView) (asked : Attributes) (response other : Response × OpenLists) (reply : Reply) (table : Table) (all : Lists) → response ≡ other → IsViewReplyTo repo asked other reply table all → IsViewReplyTo repo asked response reply table all
-reply_as repo asked response other reply table all is h = subst (λ (r : Response × OpenLists). IsViewReplyTo repo asked r reply table all) (sym is) h
+pub reply_as : (repo : RepoView) (asked : Attributes) (response other : Response × OpenLists) (replied : Replied) (table : Table) (all : Lists) → response ≡ other → IsViewReplyTo repo asked other replied table all → IsViewReplyTo repo asked response replied table all
+reply_as repo asked response other replied table all is h = subst (λ (r : Response × OpenLists). IsViewReplyTo repo asked r replied table all) (sym is) h

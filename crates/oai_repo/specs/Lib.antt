@@ -5,6 +5,7 @@ pub mod Fields
 pub mod Changes
 pub mod Answers
 pub mod Listing
+pub mod Replays
 pub mod Machine
 pub mod Accepted
 pub mod Calls

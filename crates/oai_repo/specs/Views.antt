@@ -25,6 +25,8 @@ use Rattle.oai_repo.specs.Fields.{AreInUse, IsIndexed, TableAgrees, is_counted, 
 use Rattle.oai_repo.specs.Listing.{Response, ask_response, list_response, new_list, opens_list, request_response, retry_after, selection_response, token_response, wait_at, with_answer}
 use Rattle.oai_repo.specs.State.{Holdings, NamedSet, OpenLists, RepoState}
 use Rattle.oai_repo.specs.Tables.{IsKeptTable, IsLeftOpen}
+use Rattle.oai_repo.specs.Replays.{is_part, is_request}
+use Rattle.oai_repo.specs.declared.responses.Replied.{Replied}
 use Rattle.oai_repo.specs.declared.responses.Reply.{Reply}
 use Rattle.oai_repo.specs.declared.responses.Reply.TheVariants.{Page, Later}
 use Rattle.oai_repo.specs.declared.lists.ListRequest.{ListRequest}
@@ -72,14 +74,16 @@ abbrev pub reply_of : Config → ℤ → Attributes → Response → Reply
 reply_of config clock asked (with_answer answer) = Page (document (document_at config clock asked answer))
 reply_of config clock asked (retry_after seconds) = Later seconds
 
--- the reply is that of the response to these arguments, and the open lists are those that it leaves
-pub record IsViewReplyTo (repo : RepoView) (asked : Attributes) (response : Response × OpenLists) (reply : Reply) (new : Table) (after : Lists) : Type 0 where
-  pub written : reply ≡ reply_of repo.config.now repo.clock asked response.0
+-- the reply is that of the response to these arguments, the request has to be replayed if it is a part of a list, and the open lists are those
+-- that it leaves
+pub record IsViewReplyTo (repo : RepoView) (asked : Attributes) (response : Response × OpenLists) (replied : Replied) (new : Table) (after : Lists) : Type 0 where
+  pub written : replied.reply ≡ reply_of repo.config.now repo.clock asked response.0
+  pub part : is_request replied.replay ≡ is_part response.0
   pub open_lists : view_open_lists repo new after ≡ response.1
 
 -- and to those of the request
-abbrev pub IsViewReply : RepoView → Response × OpenLists → Reply → Table → Lists → Type 0
-IsViewReply repo response reply new after = IsViewReplyTo repo (attributes_of repo.asked) response reply new after
+abbrev pub IsViewReply : RepoView → Response × OpenLists → Replied → Table → Lists → Type 0
+IsViewReply repo response replied new after = IsViewReplyTo repo (attributes_of repo.asked) response replied new after
 
 -- ---- the precondition and the effect of a request
 

@@ -1,12 +1,10 @@
 //! The index of the items of a repository, and their version in a store, in which they are found by their datestamps.
-ghost use Rattle.std.specs.Prelude.{◌≡◌, ◌≤◌, ◌+◌, ℕ, List, [], if◌then◌else◌, None, Some, true, is_none, length, IfErr, IfOk, IfSome, IsSome, IsTrue, OnErr, OnOk};
+ghost use Rattle.std.specs.Prelude.{◌≡◌, ◌≤◌, ◌+◌, ℕ, List, [], if◌then◌else◌, None, Some, true, length, IfOk, IfSome, IsSome, IsTrue, OnErr, OnOk};
 ghost use Rattle.std.specs.BTreeMap.{get_by_text};
 ghost use Rattle.std.specs.Option.{option_copied};
 ghost use Rattle.std.specs.Str.{bytes_eq};
-ghost use Rattle.oai_names.specs.Names.{may_be_identifier};
 ghost use Rattle.oai_item.specs.Encoding.{encoded};
 ghost use Rattle.oai_item.specs.Items.{item_named, without};
-ghost use Rattle.oai_item.specs.declared.faults.Fault.TheVariants as fault;
 ghost use Rattle.oai_item.specs.declared.sizes.TheConstants.{MAX_ITEM_BYTES};
 ghost use Rattle.oai_catalogue.specs.Calls.{OnlyReads};
 ghost use Rattle.oai_catalogue.specs.Store.{Spends, without_each};
@@ -22,7 +20,6 @@ ghost use Rattle.oai_repo.specs.Indexing.{IsMadeOn, Moves, StandsOn, is_one_name
 use crate::changes::deleted_below;
 use oai_catalogue::{Versions, remove_items};
 use oai_item::{Fault, Item};
-use oai_names::{Identifier, NameFault};
 use std::alloc::Global;
 use std::collections::BTreeMap;
 use std::marker::Model;
@@ -36,17 +33,13 @@ pub(crate) struct ItemIndex {
 }
 
 impl Model for ItemIndex {
-    ghost use Rattle.std.specs.Prelude.{◌≡◌, ℕ, List, true, IsSome};
-    ghost use Rattle.oai_names.specs.Names.{may_be_identifier};
+    ghost use Rattle.std.specs.Prelude.{ℕ};
     ghost use Rattle.oai_repo.specs.Fields as fields;
-    ghost use Rattle.oai_repo.specs.Entries.{stamp_in, entries_in};
+    ghost use Rattle.oai_repo.specs.Entries.{entries_in};
 
     ghost Value = { fields.ItemIndex };
 
     ghost view = { λ s. record { version = s.version; entries = entries_in s.stamps } };
-
-    ghost invariant = { λ s. (identifier : List ℕ)
-        → IsSome (stamp_in identifier (entries_in s.stamps)) → may_be_identifier identifier ≡ true };
 }
 
 impl ItemIndex {
@@ -76,29 +69,9 @@ impl ItemIndex {
 
     /// The datestamp of the item with that identifier, in seconds from 1970 on, if there is one.
     fn stamp_of(&self, identifier: &str) -> Option<i64>
-        ensures stamped { result ≡ stamp_in identifier.now self.now.entries }
-        ensures named { IsSome result → may_be_identifier identifier.now ≡ true }
+        ensures { result ≡ stamp_in identifier.now self.now.entries }
     {
         self.stamps.get(identifier).copied()
-    }
-
-    /// The item whose identifier is that text, if there is one, as `find` returns it.
-    pub(crate) fn find_named<V: Versions>(
-        &self,
-        alloc: Global,
-        store: &mut V,
-        text: &str,
-    ) -> Result<Option<Item>, Fault>
-        requires stands { StandsOn V.Versions self.now store.old }
-        ensures found { IfOk result (λ item. IsTrue (V.honest store.old) → item
-            ≡ item_named text.now (stored_items self.now (V.lists store.old))) }
-        ensures reads { OnlyReads V.Versions result store.old store.new }
-    {
-        let Some(stamp) = self.stamp_of(text) else {
-            return Ok(None);
-        };
-        let identifier = identifier_of(alloc, text)?;
-        self.find_at(store, stamp, &identifier)
     }
 
     /// The item with that identifier, if there is one. Any fault but `TooManyPages` may come if it exists, and
@@ -106,7 +79,7 @@ impl ItemIndex {
     pub(crate) fn find<V: Versions>(
         &self,
         store: &mut V,
-        identifier: &Identifier,
+        identifier: &str,
     ) -> Result<Option<Item>, Fault>
         requires stands { StandsOn V.Versions self.now store.old }
         ensures found { IfOk result (λ item. IsTrue (V.honest store.old) → item
@@ -119,7 +92,7 @@ impl ItemIndex {
             ≡ identifier.now)) }
         ensures reads { OnlyReads V.Versions result store.old store.new }
     {
-        match self.stamp_of(identifier.as_str()) {
+        match self.stamp_of(identifier) {
             Some(stamp) => self.find_at(store, stamp, identifier),
             None => Ok(None),
         }
@@ -131,7 +104,7 @@ impl ItemIndex {
         &self,
         store: &mut V,
         stamp: i64,
-        identifier: &Identifier,
+        identifier: &str,
     ) -> Result<Option<Item>, Fault>
         requires stands { StandsOn V.Versions self.now store.old }
         requires there { stamp_in identifier.now self.now.entries ≡ Some stamp }
@@ -142,7 +115,7 @@ impl ItemIndex {
         ensures reads { OnlyReads V.Versions result store.old store.new }
     {
         let found = store.find(self.version, stamp, identifier)?;
-        if is_one_named(found.as_ref(), identifier.as_str()) {
+        if is_one_named(found.as_ref(), identifier) {
             Ok(found)
         } else {
             Err(Fault::Damaged)
@@ -360,18 +333,5 @@ fn overwrite_stamp(stamps: &mut BTreeMap<String, i64>, identifier: &str, stamp: 
     match stamps.get_mut(identifier) {
         Some(kept) => *kept = stamp,
         None => {}
-    }
-}
-
-/// The text as an identifier, which it is. The error is out of memory.
-fn identifier_of(alloc: Global, text: &str) -> Result<Identifier, Fault>
-    requires { may_be_identifier text.now ≡ true }
-    ensures ok { IfOk result (λ identifier. identifier ≡ text.now) }
-    ensures err { IfErr result (λ f. f ≡ fault.NoMemory) }
-{
-    match Identifier::read(alloc, text) {
-        Ok(identifier) => Ok(identifier),
-        Err(NameFault::NoMemory) => Err(Fault::NoMemory),
-        Err(_) => unreachable!(),
     }
 }

@@ -21,5 +21,5 @@ pub use laws::{restore_law, tick_law};
 pub use oai_item::Refusal;
 pub use oai_settings::RepoConfig;
 pub use repo::Repo;
-pub use responses::Reply;
+pub use responses::{Replay, Replied, Reply};
 pub use saved_parts::SavedPart;

@@ -14,11 +14,12 @@ ghost use Rattle.oai_settings.specs.Config.{is_in_years};
 ghost use Rattle.oai_repo.specs.Answers as spec;
 ghost use Rattle.oai_repo.specs.Fields.{AreInUse, open_lists_of, versions_in};
 ghost use Rattle.oai_repo.specs.Listing as listing;
+ghost use Rattle.oai_repo.specs.Replays.{AreAsBefore};
 ghost use Rattle.oai_repo.specs.Tables.{dropped_at, has_end, version_ended, without_version};
 ghost use Rattle.oai_repo.specs.Views.{HasListBegun, IsFilter, IsOfFormat, IsReady, IsSelection, IsViewReply, Leaves, document_reply, first_items, view_list_response, view_new_list, view_open_lists, view_selected, view_selection_response, view_wait};
 
 use crate::parts::mark_behind;
-use crate::responses::{Reply, make_reply, reply_with_error};
+use crate::responses::{Replied, Reply, make_reply, reply_with_error};
 use crate::tokens::{ListPart, reply_with_part};
 use crate::view::RepoView;
 use oai_answers::{Body, ErrorCode, Extent, Listed, Resumption};
@@ -62,20 +63,22 @@ pub(crate) fn reply_with_list<V: Versions>(
     lists: &mut Lists,
     store: &mut V,
     request: &ListRequest<'_>,
-) -> Result<Reply, Fault>
+) -> Result<Replied, Fault>
     requires ready { IsReady V.Versions repo.now lists.old store.old }
     requires lists { is_of_records request.now.verb ≡ true }
-    ensures reply { IfOk result (λ reply. IsTrue (V.honest store.old)
+    ensures reply { IfOk result (λ replied. IsTrue (V.honest store.old)
         → IsViewReply repo.now
         (view_list_response repo.now lists.old (V.lists store.old) request.now)
-        reply lists.new (V.lists store.new)) }
+        replied lists.new (V.lists store.new)) }
+    ensures same { IfOk result (λ replied. AreAsBefore V.Versions replied.replay lists.old store.old
+        lists.new store.new) }
     ensures left { Leaves V.Versions result repo.now lists.old store.old lists.new store.new }
     ensures store { Spends V.room V.failures V.honest 1 result store.old store.new }
 {
     let asked = selection_of(repo, request)?;
     match asked {
         Ok(selection) => reply_with_selection(repo, lists, store, &selection),
-        Err(code) => Ok(reply_with_error(repo, code)?),
+        Err(code) => Ok(Replied::listless(reply_with_error(repo, code)?)),
     }
 }
 
@@ -110,13 +113,15 @@ fn reply_with_selection<V: Versions>(
     lists: &mut Lists,
     store: &mut V,
     selection: &Selection<'_>,
-) -> Result<Reply, Fault>
+) -> Result<Replied, Fault>
     requires ready { IsReady V.Versions repo.now lists.old store.old }
     requires selection { IsOfFormat repo.now.config.now selection.now }
-    ensures reply { IfOk result (λ reply. IsTrue (V.honest store.old)
+    ensures reply { IfOk result (λ replied. IsTrue (V.honest store.old)
         → IsViewReply repo.now
         (view_selection_response repo.now lists.old (V.lists store.old) selection.now)
-        reply lists.new (V.lists store.new)) }
+        replied lists.new (V.lists store.new)) }
+    ensures same { IfOk result (λ replied. AreAsBefore V.Versions replied.replay lists.old store.old
+        lists.new store.new) }
     ensures left { Leaves V.Versions result repo.now lists.old store.old lists.new store.new }
     ensures store { Spends V.room V.failures V.honest 1 result store.old store.new }
 {
@@ -136,22 +141,24 @@ fn reply_by_first<V: Versions>(
     store: &mut V,
     selection: &Selection<'_>,
     first: &[Item],
-) -> Result<Reply, Fault>
+) -> Result<Replied, Fault>
     requires ready { IsReady V.Versions repo.now lists.old store.old }
     requires selection { IsOfFormat repo.now.config.now selection.now }
     requires first { IsTrue (V.honest store.old)
         → first.now ≡ first_items repo.now (V.lists store.old) selection.now.filter }
-    ensures reply { IfOk result (λ reply. IsTrue (V.honest store.old)
+    ensures reply { IfOk result (λ replied. IsTrue (V.honest store.old)
         → IsViewReply repo.now
         (view_selection_response repo.now lists.old (V.lists store.old) selection.now)
-        reply lists.new (V.lists store.new)) }
+        replied lists.new (V.lists store.new)) }
+    ensures same { IfOk result (λ replied. AreAsBefore V.Versions replied.replay lists.old store.old
+        lists.new store.new) }
     ensures left { Leaves V.Versions result repo.now lists.old store.old lists.new store.new }
     ensures store { Spends V.room V.failures V.honest 1 result store.old store.new }
 {
     if repo.config.chunk() < first.len() as u64 {
         return open_list(repo, lists, store, selection, first);
     }
-    Ok(reply_with_all(repo, selection, first)?)
+    Ok(Replied::listless(reply_with_all(repo, selection, first)?))
 }
 
 /// Replies with the items, which are the whole selection.
@@ -195,24 +202,26 @@ fn open_list<V: Versions>(
     store: &mut V,
     selection: &Selection<'_>,
     first: &[Item],
-) -> Result<Reply, Fault>
+) -> Result<Replied, Fault>
     requires ready { IsReady V.Versions repo.now lists.old store.old }
     requires selection { IsOfFormat repo.now.config.now selection.now }
     requires first { IsTrue (V.honest store.old)
         → first.now ≡ first_items repo.now (V.lists store.old) selection.now.filter }
     requires more { repo.now.config.now.chunk < length first.now }
-    ensures reply { IfOk result (λ reply. IsTrue (V.honest store.old)
+    ensures reply { IfOk result (λ replied. IsTrue (V.honest store.old)
         → IsViewReply repo.now
         (view_new_list repo.now lists.old (V.lists store.old) selection.now
         (view_wait repo.now lists.old (V.lists store.old)))
-        reply lists.new (V.lists store.new)) }
+        replied lists.new (V.lists store.new)) }
+    ensures same { IfOk result (λ replied. AreAsBefore V.Versions replied.replay lists.old store.old
+        lists.new store.new) }
     ensures left { Leaves V.Versions result repo.now lists.old store.old lists.new store.new }
     ensures store { Spends V.room V.failures V.honest 1 result store.old store.new }
 {
     match lists.next(repo.clock) {
         Ok(number) => start_list(repo, lists, store, selection, first, number),
-        Err(OpenFault::Full) => Ok(Reply::Later(seconds_to_end(lists, repo.clock))),
-        Err(OpenFault::NumbersSpent) => Ok(Reply::Later(repo.lifetime())),
+        Err(OpenFault::Full) => Ok(Replied::later(seconds_to_end(lists, repo.clock))),
+        Err(OpenFault::NumbersSpent) => Ok(Replied::later(repo.lifetime())),
         Err(OpenFault::NoMemory) => Err(Fault::NoMemory),
     }
 }
@@ -225,17 +234,19 @@ fn start_list<V: Versions>(
     selection: &Selection<'_>,
     first: &[Item],
     number: u64,
-) -> Result<Reply, Fault>
+) -> Result<Replied, Fault>
     requires ready { IsReady V.Versions repo.now lists.old store.old }
     requires selection { IsOfFormat repo.now.config.now selection.now }
     requires first { IsTrue (V.honest store.old)
         → first.now ≡ first_items repo.now (V.lists store.old) selection.now.filter }
     requires more { repo.now.config.now.chunk < length first.now }
     requires next { number_or_fault (open_fault lists.old repo.now.clock) lists.old.next ≡ Ok number }
-    ensures reply { IfOk result (λ reply. IsTrue (V.honest store.old)
+    ensures reply { IfOk result (λ replied. IsTrue (V.honest store.old)
         → IsViewReply repo.now
         (view_new_list repo.now lists.old (V.lists store.old) selection.now None)
-        reply lists.new (V.lists store.new)) }
+        replied lists.new (V.lists store.new)) }
+    ensures same { IfOk result (λ replied. AreAsBefore V.Versions replied.replay lists.old store.old
+        lists.new store.new) }
     ensures left { Leaves V.Versions result repo.now lists.old store.old lists.new store.new }
     ensures store { Spends V.room V.failures V.honest 1 result store.old store.new }
 {
@@ -250,7 +261,7 @@ fn start_list<V: Versions>(
     start_unread(repo, lists, store, selection, size)?;
     let mark = mark_behind(repo.alloc, items, repo.config.chunk());
     lists.set_mark(number, mark);
-    Ok(reply)
+    Ok(Replied::with_part(reply))
 }
 
 /// Opens a list of that many records, without reading a part: a snapshot of the items is taken for it, and it gets a

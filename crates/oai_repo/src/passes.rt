@@ -1,12 +1,12 @@
 //! Replays requests: what each leaves of the open lists, without a reply.
-ghost use Rattle.std.specs.Prelude.{◌≡◌, ◌<◌, ◌+◌, ◌-◌, length, min, true, false, None, IsTrue, OnOk};
+ghost use Rattle.std.specs.Prelude.{◌≡◌, ◌<◌, ◌+◌, ◌-◌, length, min, true, None, IsTrue, OnOk};
 ghost use Rattle.oai_args.specs.Asks.{asks};
 ghost use Rattle.oai_args.specs.Pairs.{decoded_pairs};
 ghost use Rattle.oai_args.specs.Requests.{lists_records, request_of};
 ghost use Rattle.oai_args.specs.Verbs.{is_of_records};
 ghost use Rattle.oai_catalogue.specs.Store.{Lists as Versioned, Spends};
 ghost use Rattle.oai_settings.specs.Config.{is_in_years};
-ghost use Rattle.oai_repo.specs.Calls.{changes_lists, room_to_ask};
+ghost use Rattle.oai_repo.specs.Calls.{room_to_ask};
 ghost use Rattle.oai_repo.specs.Fields.{AreInUse, TableAgrees};
 ghost use Rattle.oai_repo.specs.Listing as listing;
 ghost use Rattle.oai_repo.specs.Tables.{IsKeptTable, IsLeftOpen};
@@ -20,7 +20,6 @@ use oai_catalogue::Versions;
 use oai_item::Fault;
 use oai_lists::{Lists, OpenFault, OpenList};
 use oai_names::ListVerb;
-use oai_time::Granularity;
 use std::alloc::Global;
 
 /// Replays a request, by the bytes of its query: the open lists are left as the request leaves them, and no reply is
@@ -47,26 +46,6 @@ pub(crate) fn pass_query<V: Versions>(
         Err(ArgFault::BadArgument) => Ok(()),
         Err(ArgFault::NoMemory) => Err(Fault::NoMemory),
     }
-}
-
-/// Whether a request, by the bytes of its query, may change the open lists; also true if memory to parse it runs out.
-pub(crate) fn may_change_lists(alloc: Global, granularity: Granularity, query: &[u8]) -> bool
-    ensures { result ≡ false
-        → changes_lists (request_of granularity (decoded_pairs query.now)) ≡ false }
-{
-    match read_request(alloc, query, granularity) {
-        Ok(ask) => is_of_lists(&ask),
-        Err(ArgFault::BadVerb) => false,
-        Err(ArgFault::BadArgument) => false,
-        Err(ArgFault::NoMemory) => true,
-    }
-}
-
-/// Whether a well-formed request may change the open lists.
-fn is_of_lists(ask: &Ask) -> bool
-    ensures { result ≡ changes_lists (asks ask.now) }
-{
-    matches!(ask, Ask::List { .. } | Ask::Resume { .. })
 }
 
 /// Replays a well-formed request.

@@ -29,7 +29,7 @@ pub(crate) fn reply_about_item<V: Versions>(
         (view_item repo.now (V.lists store.old) identifier.now) (option_copied prefix.entry))) }
     ensures reads { OnlyReads V.Versions result store.old store.new }
 {
-    let item = repo.index.find_named(repo.alloc, store, identifier)?;
+    let item = repo.index.find(store, identifier)?;
     Ok(make_reply(repo, answer_about_item(repo.config, item.as_ref(), prefix))?)
 }
 

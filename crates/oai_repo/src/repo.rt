@@ -6,8 +6,9 @@ ghost use Rattle.oai_catalogue.specs.Calls.{OnlyReads};
 ghost use Rattle.oai_catalogue.specs.Store.{Spares, Spends};
 ghost use Rattle.oai_item.specs.declared.faults.Fault.TheVariants as fault;
 ghost use Rattle.oai_settings.specs.Config.{is_in_years};
-ghost use Rattle.oai_repo.specs.Calls.{DropsEnded, IsAccepted, IsAsked, IsChanged, IsClockAt, IsLeftByStep, IsRefusedAt, OnRefused, changes_lists, fault_in, room_to_ask, room_to_change};
+ghost use Rattle.oai_repo.specs.Calls.{DropsEnded, IsAccepted, IsAsked, IsChanged, IsClockAt, IsLeftByStep, IsRefusedAt, OnRefused, fault_in, room_to_ask, room_to_change};
 ghost use Rattle.oai_repo.specs.Fields.{IsNew, Keeps, Owns, holdings_of, state_of, stored_items};
+ghost use Rattle.oai_repo.specs.Replays.{IsReplay};
 ghost use Rattle.oai_repo.specs.Saved.{fault_of_store, is_restorable, items_behind, part_state, with_part};
 ghost use Rattle.oai_repo.specs.State.{at_clock, moved};
 ghost use Rattle.oai_repo.specs.Tables.{IsAskedOf};
@@ -15,9 +16,9 @@ ghost use Rattle.oai_repo.specs.Tables.{IsAskedOf};
 use crate::changes::{ChangeContext, make_change};
 use crate::item_index::ItemIndex;
 use crate::lists::drop_first_ended;
-use crate::passes::{may_change_lists, pass_query};
+use crate::passes::pass_query;
 use crate::requests::reply_to_query;
-use crate::responses::Reply;
+use crate::responses::Replied;
 use crate::restores::{begin, restore_item, restore_set};
 use crate::saved_parts::SavedPart;
 use crate::saves::read_behind;
@@ -88,7 +89,8 @@ impl Repo {
     }
 
     /// Performs a request of OAI-PMH, by the bytes of its query, at the moment, in seconds from 1970 on: it moves the
-    /// clock and replies with a document, or with how long to wait. It drops the first of the lists that have ended, as
+    /// clock and replies with a document, or with how long to wait, and with what of the request has to be replayed: the
+    /// request if its answer is a part of a list, otherwise a tick, and nothing where the clock stood. It drops the first of the lists that have ended, as
     /// each call without a fault does, so that no call has to drop many that end at once; a list that has ended is
     /// answered no more, dropped or not. After a fault everything is unchanged, the clock and the store's lists
     /// included. Any fault may come, `TooManyPages` only if the request may open a list and the store may lack room for
@@ -104,11 +106,15 @@ impl Repo {
         store: &mut V,
         moment: i64,
         query: &[u8],
-    ) -> Result<Reply, Fault>
+    ) -> Result<Replied, Fault>
         requires { Owns (V.honest store.old) self.old (V.lists store.old) }
-        ensures step { IfOk result (λ reply. IsTrue (V.honest store.old)
-            → IsAsked self.old (V.lists store.old) moment query.now reply self.new
+        ensures step { IfOk result (λ replied. IsTrue (V.honest store.old)
+            → IsAsked self.old (V.lists store.old) moment query.now replied.reply self.new
             (V.lists store.new)) }
+        ensures replay { IfOk result (λ replied. IsTrue (V.honest store.old)
+            → IsReplay self.old.config (state_of self.old (V.lists store.old)) moment
+            (request_of self.old.config.granularity (decoded_pairs query.now)) replied.replay
+            (state_of self.new (V.lists store.new))) }
         ensures clock { IsClockAt result moment self.old (V.lists store.old) self.new
             (V.lists store.new) }
         ensures kept { holdings_of self.new.index self.new.sets (V.lists store.new)
@@ -123,17 +129,19 @@ impl Repo {
     {
         let mut clock = self.clock;
         clock.tick(moment);
+        let before = self.clock.now();
+        let now = clock.now();
         let view = RepoView {
             alloc: self.alloc,
             config: &self.config,
-            clock: clock.now(),
+            clock: now,
             index: &self.index,
             sets: &self.sets,
             asked: Asked::nothing(),
         };
-        let reply = reply_to_query(&view, &mut self.lists, store, query)?;
+        let replied = reply_to_query(&view, &mut self.lists, store, query)?;
         self.move_to(store, clock);
-        Ok(reply)
+        Ok(replied.at_clock(before, now))
     }
 
     /// Replays a request: performs it as `ask` does, without a reply. The repository is then as `ask` leaves it, except
@@ -175,15 +183,6 @@ impl Repo {
         pass_query(&view, &mut self.lists, store, query)?;
         self.move_to(store, clock);
         Ok(())
-    }
-
-    /// Whether a request, by the bytes of its query, may change the open lists: whether it asks for a list of records
-    /// or continues one, or memory to parse it runs out. Any other only moves the clock.
-    pub fn changes_lists(&self, query: &[u8]) -> bool
-        ensures { result ≡ false → changes_lists
-            (request_of self.now.config.granularity (decoded_pairs query.now)) ≡ false }
-    {
-        may_change_lists(self.alloc, self.config.granularity(), query)
     }
 
     /// Makes a change at the moment, and returns its datestamp, both in seconds from 1970 on; the datestamp lies in the

@@ -8,11 +8,12 @@ ghost use Rattle.oai_answers.specs.Borrowed.{attributes_of};
 ghost use Rattle.oai_catalogue.specs.Store.{Spends};
 ghost use Rattle.oai_repo.specs.Answers.{arguments_of_request};
 ghost use Rattle.oai_repo.specs.Calls.{room_to_ask};
+ghost use Rattle.oai_repo.specs.Replays.{AreAsBefore};
 ghost use Rattle.oai_repo.specs.Views.{IsReady, IsViewReply, IsViewReplyTo, Leaves, view_ask_response, view_response};
 
 use crate::lists::{ListRequest, reply_with_list};
 use crate::records::{formats_of, identity, reply_about_item, sets_answer};
-use crate::responses::{Reply, make_reply, reply_with_error};
+use crate::responses::{Replied, make_reply, reply_with_error};
 use crate::tokens::reply_with_next_part;
 use crate::view::{RepoView, with_arguments};
 use oai_answers::{Body, ErrorCode};
@@ -27,14 +28,16 @@ pub(crate) fn reply_to_query<V: Versions>(
     lists: &mut Lists,
     store: &mut V,
     query: &[u8],
-) -> Result<Reply, Fault>
+) -> Result<Replied, Fault>
     requires ready { IsReady V.Versions repo.now lists.old store.old }
     requires bare { attributes_of repo.now.asked ≡ no_arguments }
-    ensures reply { IfOk result (λ reply. IsTrue (V.honest store.old)
+    ensures reply { IfOk result (λ replied. IsTrue (V.honest store.old)
         → (let request = request_of repo.now.config.now.granularity (decoded_pairs query.now) in
         IsViewReplyTo repo.now (arguments_of_request request)
         (view_response repo.now lists.old (V.lists store.old) request)
-        reply lists.new (V.lists store.new))) }
+        replied lists.new (V.lists store.new))) }
+    ensures same { IfOk result (λ replied. AreAsBefore V.Versions replied.replay lists.old store.old
+        lists.new store.new) }
     ensures left { Leaves V.Versions result repo.now lists.old store.old lists.new store.new }
     ensures store { Spends V.room V.failures V.honest (room_to_ask
         (request_of repo.now.config.now.granularity (decoded_pairs query.now))) result
@@ -42,36 +45,53 @@ pub(crate) fn reply_to_query<V: Versions>(
 {
     match read_request(repo.alloc, query, repo.config.granularity()) {
         Ok(ask) => reply_to(&with_arguments(*repo, &ask), lists, store, &ask),
-        Err(ArgFault::BadVerb) => Ok(reply_with_error(repo, ErrorCode::BadVerb)?),
-        Err(ArgFault::BadArgument) => Ok(reply_with_error(repo, ErrorCode::BadArgument)?),
+        Err(ArgFault::BadVerb) => Ok(Replied::listless(reply_with_error(repo, ErrorCode::BadVerb)?)),
+        Err(ArgFault::BadArgument) => Ok(Replied::listless(reply_with_error(repo, ErrorCode::BadArgument)?)),
         Err(ArgFault::NoMemory) => Err(Fault::NoMemory),
     }
 }
 
 /// Replies to a well-formed request.
+#[tactic(auto, using(crate::proofs::ReplayLemmas::part_sets, crate::proofs::ReplayLemmas::part_record, crate::proofs::ReplayLemmas::part_formats))]
 fn reply_to<V: Versions>(
     repo: &RepoView<'_>,
     lists: &mut Lists,
     store: &mut V,
     ask: &Ask,
-) -> Result<Reply, Fault>
+) -> Result<Replied, Fault>
     requires ready { IsReady V.Versions repo.now lists.old store.old }
     requires lists { lists_records ask.now ≡ true }
-    ensures reply { IfOk result (λ reply. IsTrue (V.honest store.old)
+    ensures reply { IfOk result (λ replied. IsTrue (V.honest store.old)
         → IsViewReply repo.now (view_ask_response repo.now lists.old (V.lists store.old) ask.now)
-        reply lists.new (V.lists store.new)) }
+        replied lists.new (V.lists store.new)) }
+    ensures same { IfOk result (λ replied. AreAsBefore V.Versions replied.replay lists.old store.old
+        lists.new store.new) }
     ensures left { Leaves V.Versions result repo.now lists.old store.old lists.new store.new }
     ensures store { Spends V.room V.failures V.honest (room_to_ask (asks ask.now)) result store.old store.new }
 {
     match ask {
-        Ask::Identify => Ok(make_reply(repo, Body::Identify(identity(repo.config)))?),
-        Ask::Formats { identifier: None } => Ok(make_reply(repo, formats_of(repo.config, None))?),
+        Ask::Identify => {
+            let reply = make_reply(repo, Body::Identify(identity(repo.config)))?;
+            Ok(Replied::listless(reply))
+        }
+        Ask::Formats { identifier: None } => {
+            let reply = make_reply(repo, formats_of(repo.config, None))?;
+            Ok(Replied::listless(reply))
+        }
         Ask::Formats {
             identifier: Some(identifier),
-        } => reply_about_item(repo, store, identifier.as_str(), None),
-        Ask::Sets => Ok(make_reply(repo, sets_answer(repo.sets.as_slice()))?),
+        } => {
+            let reply = reply_about_item(repo, store, identifier.as_str(), None)?;
+            Ok(Replied::listless(reply))
+        }
+        Ask::Sets => {
+            let reply = make_reply(repo, sets_answer(repo.sets.as_slice()))?;
+            Ok(Replied::listless(reply))
+        }
         Ask::Get { identifier, prefix } => {
-            reply_about_item(repo, store, identifier.as_str(), Some(prefix.as_str()))
+            let prefix = Some(prefix.as_str());
+            let reply = reply_about_item(repo, store, identifier.as_str(), prefix)?;
+            Ok(Replied::listless(reply))
         }
         Ask::List {
             verb,

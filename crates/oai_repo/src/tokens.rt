@@ -11,12 +11,13 @@ ghost use Rattle.oai_lists.specs.Tokens.{token_of};
 ghost use Rattle.oai_settings.specs.Config.{is_in_years};
 ghost use Rattle.oai_repo.specs.Fields.{frozen_in, is_place_in, items_frozen};
 ghost use Rattle.oai_repo.specs.Listing as listing;
+ghost use Rattle.oai_repo.specs.Replays.{AreAsBefore};
 ghost use Rattle.oai_repo.specs.Tables.{kept_open, table_continued};
 ghost use Rattle.oai_repo.specs.Views.{IsContinuing, IsReady, IsViewReply, Leaves, document_reply, view_token_response};
 
 use crate::lists::answer_by_verb;
 use crate::parts::{mark_behind, read_part};
-use crate::responses::{Reply, make_reply, reply_with_error};
+use crate::responses::{Replied, Reply, make_reply, reply_with_error};
 use crate::view::RepoView;
 use oai_answers::{ErrorCode, Extent, Listed, Remaining, Resumption};
 use oai_catalogue::Versions;
@@ -54,23 +55,26 @@ pub(crate) fn reply_with_next_part<V: Versions>(
     store: &mut V,
     verb: ListVerb,
     token: &str,
-) -> Result<Reply, Fault>
+) -> Result<Replied, Fault>
     requires ready { IsReady V.Versions repo.now lists.old store.old }
-    ensures reply { IfOk result (λ reply. IsTrue (V.honest store.old)
+    ensures reply { IfOk result (λ replied. IsTrue (V.honest store.old)
         → IsViewReply repo.now
         (view_token_response repo.now lists.old (V.lists store.old) verb token.now)
-        reply lists.new (V.lists store.new)) }
+        replied lists.new (V.lists store.new)) }
+    ensures same { IfOk result (λ replied. AreAsBefore V.Versions replied.replay lists.old store.old
+        lists.new store.new) }
     ensures left { Leaves V.Versions result repo.now lists.old store.old lists.new store.new }
     ensures store { Spends V.room V.failures V.honest 0 result store.old store.new }
 {
     let chunk = chunk_of(repo);
     let Some((list, cursor)) = continued(lists, repo.clock, chunk, verb, token) else {
-        return Ok(reply_with_error(repo, ErrorCode::BadResumptionToken)?);
+        let reply = reply_with_error(repo, ErrorCode::BadResumptionToken)?;
+        return Ok(Replied::listless(reply));
     };
     let number = list.number;
     let part = reply_from(repo, store, verb, list, cursor)?;
     carry_on(lists, number, repo.end(), part.next, part.mark);
-    Ok(part.reply)
+    Ok(Replied::with_part(part.reply))
 }
 
 /// How many records a part of a list may have.

@@ -1,2 +1,1 @@
 pub mod KnownLemmas
-pub mod NumeralLemmas

@@ -5,11 +5,12 @@ ghost use Rattle.std.specs.Prelude.{◌≡◌, IfOk};
 ghost use Rattle.std.specs.Process.{exit_status};
 ghost use Rattle.oai_startup.specs.Stops as spec;
 
+use oai_bytes::read_number;
 use oai_cli::{MAX_CONNECTIONS, ask_lines, serve_port, trace_lines};
 use oai_device::{FileDevice, MemoryDevice};
 use oai_front::Front;
 use oai_startup::{
-    Stop, check_config, empty_file, host_on, read_config, read_file, read_number, warnings_in,
+    Stop, check_config, empty_file, host_on, read_config, read_file, warnings_in,
 };
 use std::env;
 use std::fs::File;

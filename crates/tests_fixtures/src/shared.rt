@@ -44,10 +44,11 @@ impl<V: Versions + Drop> Shared<V> {
 
     /// What that repository answers a request.
     pub fn ask(&mut self, which: Which, moment: i64, query: &[u8]) -> Result<Reply, Fault> {
-        match which {
-            Which::First => self.first.ask(&mut self.store, moment, query),
-            Which::Second => self.second.ask(&mut self.store, moment, query),
-        }
+        let replied = match which {
+            Which::First => self.first.ask(&mut self.store, moment, query)?,
+            Which::Second => self.second.ask(&mut self.store, moment, query)?,
+        };
+        Ok(replied.reply)
     }
 
     /// What that repository answers a change.

@@ -24,7 +24,8 @@ impl<V: Versions + Drop> Stocked<V> {
 
     /// What it answers a request at the moment.
     pub fn ask(&mut self, moment: i64, query: &[u8]) -> Result<Reply, Fault> {
-        self.repo.ask(&mut self.store, moment, query)
+        let replied = self.repo.ask(&mut self.store, moment, query)?;
+        Ok(replied.reply)
     }
 
     /// What it answers a change at the moment.

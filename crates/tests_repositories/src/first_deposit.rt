@@ -39,7 +39,8 @@ fn assert_record<V: Versions>(rt: &impl Abort, alloc: Global, repo: &mut Repo, s
     requires { Owns (V.honest store.old) repo.old (V.lists store.old) }
 {
     let query = b"verb=GetRecord&identifier=oai:a:1&metadataPrefix=oai_dc";
-    let Reply::Page(page) = repo.ask(store, MIDNIGHT, query).expect(rt, "ask") else {
+    let replied = repo.ask(store, MIDNIGHT, query).expect(rt, "ask");
+    let Reply::Page(page) = replied.reply else {
         panic!(rt; "later")
     };
     let wanted = wanted_in(alloc, record()).expect(rt, "wanted_in");

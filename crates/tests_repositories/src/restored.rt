@@ -44,8 +44,8 @@ impl<V: Versions + Drop> Archive<V> {
 
     /// The page that answers the query at the moment.
     fn page(&mut self, rt: &impl Abort, moment: i64, query: &str) -> Sequence<u8> {
-        let reply = self.repo.ask(&mut self.store, moment, query.as_bytes());
-        let Reply::Page(page) = reply.expect(rt, "ask") else {
+        let replied = self.repo.ask(&mut self.store, moment, query.as_bytes());
+        let Reply::Page(page) = replied.expect(rt, "ask").reply else {
             panic!(rt; "later")
         };
         page

@@ -1,10 +1,11 @@
 //! Serves the repositories of a configuration over many connections at once, with nothing made durable.
 #![tactic(auto)]
 
+use oai_bytes::read_number;
 use oai_device::FileDevice;
 use oai_http::{Handler, Settled};
 use oai_serving::{Listener, ServeFault, Server, Volatile};
-use oai_startup::{Stop, empty_file, host_on, read_config, read_number};
+use oai_startup::{Stop, empty_file, host_on, read_config};
 use std::alloc::Global;
 use std::fs::File;
 use std::net::{Ipv4Addr, Net, SocketAddr, SocketAddrV4};

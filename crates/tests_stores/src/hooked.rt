@@ -94,7 +94,7 @@ impl<V: Versions + Drop, H: Hook + Drop> Versions for HookedVersions<V, H> {
         Ok(found && !self.hook.lies())
     }
 
-    fn find(&mut self, v: u64, stamp: i64, identifier: &Identifier) -> Result<Option<Item>, Fault> {
+    fn find(&mut self, v: u64, stamp: i64, identifier: &str) -> Result<Option<Item>, Fault> {
         self.hook.turn(CallKind::Answer)?;
         let found = self.inner.find(v, stamp, identifier)?;
         Ok(if self.hook.lies() { None } else { found })

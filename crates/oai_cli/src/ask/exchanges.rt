@@ -3,9 +3,9 @@ ghost use Rattle.std.specs.Prelude.{◌≡◌};
 ghost use Rattle.std.specs.Option.{option_copied, option_map};
 ghost use Rattle.oai_cli.specs.ExchangeLines as spec;
 
-use crate::input::parts::{cut, has_two_spaces};
+use crate::input::spaces::has_two_spaces;
+use oai_bytes::{read_moment, split_at_space};
 use oai_http::{Exchange, FORM};
-use oai_startup::read_moment;
 
 /// Parses a line: three or four parts between single spaces, of which the last extends to the end: a moment in seconds
 /// from 1970 on, a method, a target and a body; the body of a POST is a form.
@@ -16,9 +16,9 @@ pub(crate) fn parse_exchange(line: &[u8]) -> Option<(i64, Exchange<'_>)>
     if !has_two_spaces(line) {
         return None;
     }
-    let (moment, rest) = cut(line);
-    let (method, rest) = cut(rest);
-    let (target, body) = cut(rest);
+    let (moment, rest) = split_at_space(line);
+    let (method, rest) = split_at_space(rest);
+    let (target, body) = split_at_space(rest);
     let moment = read_moment(moment)?;
     Some((
         moment,

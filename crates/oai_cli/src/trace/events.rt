@@ -2,10 +2,11 @@
 ghost use Rattle.std.specs.Prelude.{◌≡◌};
 ghost use Rattle.oai_cli.specs.EventLines as spec;
 
-use crate::input::parts::{cut, spaces};
+use crate::input::spaces::spaces;
 use hex::FromHexError;
+use oai_bytes::{read_moment, read_number, split_at_space};
 use oai_names::Sequence;
-use oai_startup::{Stop, read_moment, read_number};
+use oai_startup::Stop;
 use std::alloc::Global;
 
 /// A parsed line of a trace: at a moment a piece comes on a connection, or the connection's end.
@@ -28,8 +29,8 @@ pub(crate) fn parse_event(alloc: Global, line: &[u8], number: u64) -> Result<Eve
     if spaces(line) != 2 {
         return Err(Stop::BadPiece(number));
     }
-    let (moment, rest) = cut(line);
-    let (label, piece) = cut(rest);
+    let (moment, rest) = split_at_space(line);
+    let (label, piece) = split_at_space(rest);
     match (read_moment(moment), read_number(label)) {
         (Some(moment), Some(label)) => match read_piece(alloc, piece) {
             Ok(piece) => Ok(Event {

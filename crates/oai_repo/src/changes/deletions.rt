@@ -42,7 +42,7 @@ pub(crate) fn delete<V: Versions>(
     ensures moves { Moves V.Versions result index.old store.old index.new store.new }
     ensures store { Spends V.room V.failures V.honest 1 (fault_in result) store.old store.new }
 {
-    let Some(item) = index.find(store, identifier)? else {
+    let Some(item) = index.find(store, identifier.as_str())? else {
         return Err(Refusal::Refused(ChangeRefusal::NoSuchItem));
     };
     delete_item(context, store, index, &item)

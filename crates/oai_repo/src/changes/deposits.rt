@@ -125,7 +125,7 @@ fn refusal_among<V: Versions>(
         ≤ config.now.items) }
     ensures reads { OnlyReads V.Versions result store.old store.new }
 {
-    let replaced = index.find(store, item.identifier())?;
+    let replaced = index.find(store, item.identifier().as_str())?;
     Ok(item_refusal(config, replaced.as_ref(), index.len(), item))
 }
 

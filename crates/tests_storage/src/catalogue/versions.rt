@@ -77,7 +77,7 @@ fn assert_found<V: Versions>(
     ensures { IsSome (V.lists store.new v) }
 {
     let identifier = Identifier::read(alloc, identifier).expect(rt, "Identifier::read");
-    let found = store.find(v, STAMP, &identifier).expect(rt, "find");
+    let found = store.find(v, STAMP, identifier.as_str()).expect(rt, "find");
     assert_same(rt, found.is_some(), is_there);
 }
 

@@ -88,7 +88,7 @@ impl<V: Versions + Drop> TwoLists<V> {
 
     /// The item of that key.
     pub(crate) fn find(&mut self, key: &Item) -> Result<Option<Item>, Fault> {
-        self.store.find(self.own, key.stamp(), key.identifier())
+        self.store.find(self.own, key.stamp(), key.identifier().as_str())
     }
 
     /// How many items pass the filter.

@@ -1,5 +1,5 @@
 -- What is written is read.
-use Rattle.oai_startup.proofs.NumeralLemmas.{moment_written, number_written}
+use Rattle.oai_bytes.proofs.NumeralLemmas.{moment_written, number_written}
 use Rattle.oai_cli.proofs.WrittenLines.{call_written, event_written, output_written}
 use Rattle.oai_cli.proofs.laws.line_law.Goals as goal
 

@@ -28,7 +28,7 @@ returns-in-Err-Full-clause-reply g c = λ honest.
     let next : number_or_fault (open_fault table repo.clock) table.next ≡ Err Full = simp to_z-of_z at (sym c.next.ensures ∙ c.in-Err-Full.is ∙ ap (λ f. Err f) c.in-Err-Full.field-0-is) in
     let full = waits_full repo.config.now repo.clock table all c.requires.ready.kept.limit next in
     let seconds = simp to_z-of_z at (c.seconds_to_end.ensures all) in
-    rw full (simp to_z-of_z (record { written = ap (λ (s : ℤ). Later s) seconds; open_lists = refl }))
+    rw (simp to_z-of_z at c.later.ensures, full) (record { written = ap (λ (s : ℤ). Later s) seconds; part = refl; open_lists = refl })
 
 pub returns-in-Err-NumbersSpent-clause-reply : goal.returns-in-Err-NumbersSpent-clause-reply
 returns-in-Err-NumbersSpent-clause-reply g c = λ honest.
@@ -40,4 +40,4 @@ returns-in-Err-NumbersSpent-clause-reply g c = λ honest.
     let next : number_or_fault (open_fault table repo.clock) table.next ≡ Err NumbersSpent = simp to_z-of_z at (sym c.next.ensures ∙ c.in-Err-NumbersSpent.is ∙ ap (λ f. Err f) c.in-Err-NumbersSpent.field-0-is) in
     let spent = waits_spent repo.config.now repo.clock table all c.requires.ready.kept.limit next in
     let seconds = c.lifetime.ensures in
-    rw spent (simp to_z-of_z (record { written = ap (λ (s : ℤ). Later s) seconds; open_lists = refl }))
+    rw (simp to_z-of_z at c.later-in-Err-NumbersSpent.ensures, spent) (record { written = ap (λ (s : ℤ). Later s) seconds; part = refl; open_lists = refl })

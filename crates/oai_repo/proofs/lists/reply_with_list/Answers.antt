@@ -1,6 +1,7 @@
 -- The reply is to what the request comes to.
 use Rattle.std.proofs.Common.{refl}
 use Rattle.oai_answers.specs.Borrowed.{attributes_of}
+use Rattle.oai_repo.specs.declared.responses.Replay.TheVariants.{Tick}
 use Rattle.oai_repo.proofs.ListReplyLemmas.{reply_as}
 use Rattle.oai_repo.proofs.lists.reply_with_list.Goals as goal
 
@@ -18,4 +19,5 @@ returns-in_ok-reply_with_error-in-Err-clause-reply g c = λ honest.
     let table = c.args.lists.now in
     let all = g.V.Versions.lists c.args.store.now in
     let error = (rw c.in-Err.is at c.in_ok-asked.ensures) table all (c.requires.ready.indexed honest) in
-    reply_as repo (attributes_of repo.asked) _ _ c.in_ok-reply_with_error-in-Err.field-0 table all error (record { written = c.in_ok-reply_with_error-in-Err.ensures; open_lists = refl })
+    rw c.listless.ensures
+    (reply_as repo (attributes_of repo.asked) _ _ (record { reply = c.in_ok-reply_with_error-in-Err.field-0; replay = Tick }) table all error (record { written = c.in_ok-reply_with_error-in-Err.ensures; part = refl; open_lists = refl }))

@@ -17,6 +17,7 @@ use Rattle.oai_repo.proofs.OpenListLemmas.{numbered_last, open_lists_opened, ope
 use Rattle.oai_repo.proofs.MarkLemmas.{mark_first}
 use Rattle.oai_repo.proofs.ClockLemmas.{years_fit}
 use Rattle.oai_repo.proofs.PartLemmas.{part_is}
+use Rattle.oai_repo.proofs.ReplayLemmas.{part_opened}
 use Rattle.oai_repo.proofs.WaitLemmas.{may_begin, room_for_one}
 use Rattle.oai_repo.proofs.lists.start_list.Goals as goal
 
@@ -62,8 +63,9 @@ returns-clause-reply g c = λ honest.
     let marked = opened_marked c.args.number table c.start_unread.new.lists c.set_mark.new.self entry mark begun.valid number refl begun.opened c.set_mark.ensures in
     let open_lists = open_lists_opened repo.clock v table all (with_mark mark entry) items c.requires.ready.stands unused later in
     let made : List ℕ → FrozenList = λ prefix. record { number = table.next; verb = selection.verb; prefix = prefix; items = chosen; end = list.end; given = config.chunk } in
-    rw (marked, frozen) (record {
+    rw (c.with_part.ensures, marked, frozen) (record {
       written = told ∙ ap (λ (p : Page). document_reply repo (answer_by_verb selection.verb selection.format.now p)) page;
+      part = sym (part_opened config selection.verb selection.format.now list 0 c.requires.selection.lists);
       open_lists = open_lists ∙ ap (λ (prefix : List ℕ). with_new_list (made prefix) (open_lists_of repo.clock table all)) c.requires.selection.prefix;
     })
 

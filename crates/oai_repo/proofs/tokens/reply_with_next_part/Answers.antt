@@ -4,14 +4,16 @@ use Rattle.std.proofs.lemmas.Bool.{ltb-true, or_right}
 use Rattle.std.proofs.lemmas.Int.{to_z-of_z}
 use Rattle.oai_answers.specs.Borrowed.{attributes_of}
 use Rattle.oai_lists.specs.Tokens.{token_of}
-use Rattle.oai_repo.specs.Fields.{has, is_counted, is_marked, open_lists_of, versions_in}
-use Rattle.oai_repo.specs.Listing.{with_carried_on}
+use Rattle.oai_repo.specs.Fields.{frozen_in, has, is_counted, is_marked, open_lists_of, versions_in}
+use Rattle.oai_repo.specs.Listing.{prolonged, with_carried_on}
+use Rattle.oai_repo.specs.declared.responses.Replay.TheVariants.{Request, Tick}
 use Rattle.oai_repo.specs.Tables.{is_of_format}
 use Rattle.oai_repo.proofs.OpenListLemmas.{all_true, open_lists_kept, table_agrees_kept, left_kept, numbered_there, open_parts}
 use Rattle.oai_repo.proofs.ClockLemmas.{years_fit}
 use Rattle.oai_repo.proofs.NumberLemmas.{some_true, used_at}
 use Rattle.oai_repo.proofs.TokenLemmas.{goes_on, records_continued, stops, token_found, valid_within}
 use Rattle.oai_repo.proofs.ListReplyLemmas.{reply_as}
+use Rattle.oai_repo.proofs.ReplayLemmas.{part_continued}
 use Rattle.oai_repo.proofs.tokens.reply_with_next_part.Goals as goal
 
 -- of the list that was found, what is true of each
@@ -52,7 +54,8 @@ returns-in_default-clause-reply g c = λ honest.
     let all = g.V.Versions.lists c.args.store.now in
     let none = rw c.chunk_of-chunk.ensures.chunk at (simp to_z-of_z at c.in_default.ensures.found) in
     let stopped = stops repo.config.now repo.clock c.args.verb table all (token_of c.args.token.now) none (c.requires.ready.agrees honest).counted in
-    reply_as repo (attributes_of repo.asked) _ _ c.in_ok-reply_with_error.field-0 table all stopped (record { written = c.in_ok-reply_with_error.ensures; open_lists = refl })
+    rw c.listless.ensures
+    (reply_as repo (attributes_of repo.asked) _ _ (record { reply = c.in_ok-reply.reply; replay = Tick }) table all stopped (record { written = c.in_ok-reply.ensures; part = refl; open_lists = refl }))
 
 pub returns-clause-reply : goal.returns-clause-reply
 returns-clause-reply g c = λ honest.
@@ -74,8 +77,11 @@ returns-clause-reply g c = λ honest.
     ∙ ap (λ (next : Option ℕ). with_carried_on config repo.clock list.number next (open_lists_of repo.clock table all)) (c.in_ok-part.ensures.next honest)
     in
     let kept = simp to_z-of_z at c.carry_on.ensures in
-    reply_as repo (attributes_of repo.asked) _ _ part.reply c.carry_on.new.lists (g.V.Versions.lists c.reply_from.new.store) on
-    (rw (kept, c.reply_from.ensures.reads.same) ((record { written = c.in_ok-part.ensures.reply honest; open_lists = left })))
+    let known = (open_parts token.0.list repo.clock (is_of_format config) table.lists list token.2.there c.requires.ready.kept.known).2 in
+    let is_part = part_continued config c.args.verb _ (prolonged config repo.clock (frozen_in all list)) c.in-Some.cursor known (records_continued list.verb c.args.verb token.2.right) in
+    rw c.with_part.ensures
+    (reply_as repo (attributes_of repo.asked) _ _ (record { reply = part.reply; replay = Request }) c.carry_on.new.lists (g.V.Versions.lists c.reply_from.new.store) on
+    (rw (kept, c.reply_from.ensures.reads.same) ((record { written = c.in_ok-part.ensures.reply honest; part = sym is_part; open_lists = left }))))
 
 pub returns-clause-left : goal.returns-clause-left
 returns-clause-left g c =

@@ -5,8 +5,8 @@ use Rattle.std.specs.List.{count_by}
 use Rattle.hex.specs.declared.error.FromHexError.{FromHexError}
 use Rattle.hex.specs.declared.error.FromHexError.TheVariants.{InvalidHexCharacter, InvalidStringLength, OddLength, OutOfMemory}
 use Rattle.oai_cli.specs.EventLines.{IsParsedEvent, coming, stop_at, parse_event}
-use Rattle.oai_cli.specs.ExchangeLines.{is_separator, part, rest}
-use Rattle.oai_startup.specs.Numbers.{moment_of, number_in}
+use Rattle.oai_bytes.specs.Parts.{is_separator, part, rest}
+use Rattle.oai_bytes.specs.Numbers.{moment_of, number_in}
 use Rattle.oai_cli.proofs.LineLemmas.{told_all, told_no_piece}
 use Rattle.oai_cli.proofs.trace.events.parse_event.Goals as goal
 
@@ -32,18 +32,18 @@ returns-in-Ok c =
     let line = c.args.line.now in
     let fits : FitsSigned w64 c.in-Some-Some.moment = record { sfits = (rw c.in-Some-Some.is-0 at c.read_moment.type_inv).1.1.1.1.0.1 } in
     let two : (count_by is_separator line == 2) ≡ true = eq-eqb _ _ (sym c.spaces.ensures ∙ c.if-spaces-ne2.false) in
-    let moment : Some c.in-Some-Some.moment ≡ moment_of (part line) = c.in-Some-Some.ensures ∙ ap moment_of c.cut.ensures.front in
+    let moment : Some c.in-Some-Some.moment ≡ moment_of (part line) = c.in-Some-Some.ensures ∙ ap moment_of c.split_at_space.ensures.front in
     let label : Some c.in-Some-Some.label ≡ number_in (part (rest line)) =
-    c.in-Some-Some.ensures' ∙ ap number_in (c.cut-2.ensures.front ∙ ap part c.cut.ensures.back) in
-    let piece : coming (rest (rest line)) ≡ Some c.in-Ok.piece = ap coming (sym (c.cut-2.ensures.back ∙ ap rest c.cut.ensures.back)) ∙ c.in-Ok.ensures in
+    c.in-Some-Some.ensures' ∙ ap number_in (c.split_at_space-2.ensures.front ∙ ap part c.split_at_space.ensures.back) in
+    let piece : coming (rest (rest line)) ≡ Some c.in-Ok.piece = ap coming (sym (c.split_at_space-2.ensures.back ∙ ap rest c.split_at_space.ensures.back)) ∙ c.in-Ok.ensures in
     simp to_z-of_z (told_all line c.in-Some-Some.moment c.in-Some-Some.label c.in-Ok.piece two (sym moment) (sym label) piece)
 
 pub returns-in-Err : goal.returns-in-Err
 returns-in-Err c =
     let line = c.args.line.now in
     let two : (count_by is_separator line == 2) ≡ true = eq-eqb _ _ (sym c.spaces.ensures ∙ c.if-spaces-ne2.false) in
-    let moment : Some c.in-Some-Some.moment ≡ moment_of (part line) = c.in-Some-Some.ensures ∙ ap moment_of c.cut.ensures.front in
+    let moment : Some c.in-Some-Some.moment ≡ moment_of (part line) = c.in-Some-Some.ensures ∙ ap moment_of c.split_at_space.ensures.front in
     let label : Some c.in-Some-Some.label ≡ number_in (part (rest line)) =
-    c.in-Some-Some.ensures' ∙ ap number_in (c.cut-2.ensures.front ∙ ap part c.cut.ensures.back) in
-    let back : c.cut-2.result.1.now ≡ rest (rest line) = c.cut-2.ensures.back ∙ ap rest c.cut.ensures.back in
-    rw c.stop_at.ensures (tells_nothing line c.args.number c.in-Err.error (why line c.cut-2.result.1.now _ _ c.in-Err.error two moment label back c.in-Err.ensures))
+    c.in-Some-Some.ensures' ∙ ap number_in (c.split_at_space-2.ensures.front ∙ ap part c.split_at_space.ensures.back) in
+    let back : c.split_at_space-2.result.1.now ≡ rest (rest line) = c.split_at_space-2.ensures.back ∙ ap rest c.split_at_space.ensures.back in
+    rw c.stop_at.ensures (tells_nothing line c.args.number c.in-Err.error (why line c.split_at_space-2.result.1.now _ _ c.in-Err.error two moment label back c.in-Err.ensures))

@@ -21,11 +21,11 @@ loop-call-preserved g c =
     let next : at + 1 ≡ suc at = omega arith in
     let item : call ≡ _ = c.call-item.is in
     let more : take (suc at) calls ≡ take at calls ++ call ∷ [] = take_more calls at call c.loop-call-test.true ∙ ap (λ (x : Call). take at calls ++ x ∷ []) (sym item) in
-    let items : c.push.new.self.items ≡ c.loop-call.answers.items ++ c.perform-answer.result ∷ [] = rw c.unwrap.ensures at c.push.ensures.items in
+    let items : c.push.new.self.items ≡ c.loop-call.answers.items ++ c.answer-answer.result ∷ [] = rw c.unwrap.ensures at c.push.ensures.items in
     record {
       exchanged = rw (next, more, items)
-          (exchanged_last (take at calls) c.loop-call.answers.items call c.perform-answer.result c.args.self.now c.loop-call.self c.perform-answer.new.self c.loop-call.invariant.exchanged c.perform-answer.ensures);
-      many = rw (next, items) (one_longer c.loop-call.answers.items c.perform-answer.result at c.loop-call.invariant.many);
+          (exchanged_last (take at calls) c.loop-call.answers.items call c.answer-answer.result c.args.self.now c.loop-call.self c.answer-answer.new.self c.loop-call.invariant.exchanged c.answer-answer.ensures);
+      many = rw (next, items) (one_longer c.loop-call.answers.items c.answer-answer.result at c.loop-call.invariant.many);
       room = search rules;
     }
 

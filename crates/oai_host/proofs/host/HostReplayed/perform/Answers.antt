@@ -8,11 +8,11 @@ use Rattle.oai_host.proofs.host.HostReplayed.perform.Goals as goal
 pub returns-clause-whole : goal.returns-clause-whole
 returns-clause-whole g c = λ honest none.
     let fits : FitsSigned w64 c.args.moment = c.ranges.moment in
-    let done = simp to_z-of_z at c.perform_recorded.ensures in
-    redone_whole (call_at c.args.moment (asked_by c.args.exchange.now)) c.perform_recorded.result.answer c.args.self.now c.perform_recorded.new.self honest done.exchanged none
+    let done = simp to_z-of_z at c.perform.ensures in
+    redone_whole (call_at c.args.moment (asked_by c.args.exchange.now)) c.perform.result.answer c.args.self.now c.perform.new.self honest done.exchanged none
 
 pub returns-clause-reply : goal.returns-clause-reply
 returns-clause-reply g c = λ honest none.
     let fits : FitsSigned w64 c.args.moment = c.ranges.moment in
-    let done = simp to_z-of_z at c.perform_recorded.ensures in
-    replied_whole (call_at c.args.moment (asked_by c.args.exchange.now)) c.perform_recorded.result.answer c.args.self.now c.perform_recorded.new.self honest done.exchanged none
+    let done = simp to_z-of_z at c.perform.ensures in
+    replied_whole (call_at c.args.moment (asked_by c.args.exchange.now)) c.perform.result.answer c.args.self.now c.perform.new.self honest done.exchanged none

@@ -1,11 +1,14 @@
--- The repository at the place changes, and the others stay as they were.
-use Rattle.std.proofs.Common.{◌≡◌, ◌∙◌, FitsSigned, w64}
+-- The repository at the place changes, and the others stay as they were; what is performed again at it changes it so.
+use Rattle.std.proofs.Common.{◌≡◌, ◌∙◌, FitsSigned, sym, w64}
+use Rattle.std.specs.Option.{option_copied}
 use Rattle.std.proofs.lemmas.Int.{to_z-of_z}
 use Rattle.std.proofs.lemmas.Option.{get_or_from_slice_get}
 use Rattle.oai_http.specs.Exchanges.{call_of}
 use Rattle.oai_host.specs.Exchanged.{store_state}
 use Rattle.oai_host.proofs.NamedRepoLemmas.{held_at, repos_set, stands_at, steps_set}
-use Rattle.oai_host.proofs.PlaceLemmas.{names_set}
+use Rattle.oai_host.proofs.AgainLemmas.{set_left_by}
+use Rattle.oai_host.proofs.PlaceLemmas.{named_at, names_set}
+use Rattle.oai_host.proofs.RouteLemmas.{same_front}
 use Rattle.oai_host.proofs.repositories.Repositories.perform.Goals as goal
 
 pub perform-requires : goal.perform-requires
@@ -37,12 +40,12 @@ returns-clause-steps g c =
     let there = rw (← c.self.view_is) at p.there in
     let one : c.index_mut.result.now ≡ p.one = c.index_mut.ensures.value ∙ get_or_from_slice_get inside c.args.place p.one c.index_mut.result.now there in
     let repos = rw (← c.self.view_is) at c.requires.repos in
-    let kept = rw one at c.perform.ensures.kept in
-    let performed = rw one at (simp to_z-of_z at c.perform.ensures.performed) in
+    let kept = rw one at c.perform.ensures.performed.kept in
+    let performed = rw one at (simp to_z-of_z at c.perform.ensures.performed.performed) in
     let before = c.args.store.now in
     let after = c.perform.new.store in
     rw (← c.self.view_is, one)
-    (steps_set (V.honest before) (call_of c.args.moment c.args.exchange.now) c.perform.result (store_state V before) (store_state V after) c.args.endpoint inside c.args.place p.one c.perform.new.repo (V.lists before) (V.lists after) there repos kept
+    (steps_set (V.honest before) (call_of c.args.moment c.args.exchange.now) c.perform.result.answer (store_state V before) (store_state V after) c.args.endpoint inside c.args.place p.one c.perform.new.repo (V.lists before) (V.lists after) there repos kept
     repos.named.distinct p.path performed)
 
 pub returns-clause-repos : goal.returns-clause-repos
@@ -53,5 +56,28 @@ returns-clause-repos g c =
     let there = rw (← c.self.view_is) at p.there in
     let one : c.index_mut.result.now ≡ p.one = c.index_mut.ensures.value ∙ get_or_from_slice_get inside c.args.place p.one c.index_mut.result.now there in
     let repos = rw (← c.self.view_is) at c.requires.repos in
-    let kept = rw one at c.perform.ensures.kept in
-    rw one (repos_set (V.honest c.args.store.now) (V.honest c.perform.new.store) inside c.args.place p.one c.perform.new.repo (V.lists c.args.store.now) (V.lists c.perform.new.store) c.perform.ensures.performed.honesty.same there repos kept)
+    let kept = rw one at c.perform.ensures.performed.kept in
+    rw one (repos_set (V.honest c.args.store.now) (V.honest c.perform.new.store) inside c.args.place p.one c.perform.new.repo (V.lists c.args.store.now) (V.lists c.perform.new.store) c.perform.ensures.performed.performed.honesty.same there repos kept)
+
+pub returns-clause-left : goal.returns-clause-left
+returns-clause-left g c = λ name path honest.
+    let V = g.V.Versions in
+    let fits : FitsSigned w64 c.args.moment = c.ranges.moment in
+    let p = c.requires.place in
+    let inside = c.self.inside.repos.items in
+    let there = rw (← c.self.view_is) at p.there in
+    let one : c.index_mut.result.now ≡ p.one = c.index_mut.ensures.value ∙ get_or_from_slice_get inside c.args.place p.one c.index_mut.result.now there in
+    let repos = rw (← c.self.view_is) at c.requires.repos in
+    let kept = rw one at c.perform.ensures.performed.kept in
+    let performed = rw one at (simp to_z-of_z at c.perform.ensures.performed.performed) in
+    let left = rw one at (simp to_z-of_z at c.perform.ensures.left) in
+    let before = c.args.store.now in
+    let after = c.perform.new.store in
+    let call = call_of c.args.moment c.args.exchange.now in
+    let steps = steps_set (V.honest before) call c.perform.result.answer (store_state V before) (store_state V after) c.args.endpoint inside c.args.place p.one c.perform.new.repo (V.lists before) (V.lists after) there repos kept
+    repos.named.distinct p.path performed in
+    let named = named_at inside c.args.place p.one there repos.named.named in
+    let same : name ≡ p.one.name = same_front c.args.endpoint name p.one.name (sym path ∙ p.path) in
+    rw (← c.self.view_is, one, same)
+    (set_left_by call c.perform.result.answer (store_state V before) (store_state V after) c.args.endpoint p.one c.perform.new.repo (V.lists before) (V.lists after) p.path
+    named inside c.args.place there repos.named.distinct steps kept.config c.args.moment (option_copied c.perform.result.bytes) (left honest))

@@ -11,6 +11,6 @@ returns-clause-few g c = λ none few.
     let identifier = c.args.item.now.identifier in
     let entries = c.args.index.now.entries in
     let found : option_copied c.as_ref.result ≡ c.in_ok-replaced.replaced = c.as_ref.ensures.value in
-    let there = rw c.identifier.ensures at c.in_ok-replaced.ensures.there in
+    let there = rw (c.as_str.ensures.text, c.identifier.ensures) at c.in_ok-replaced.ensures.there in
     let room = rw (found, c.len.ensures) at (c.item_refusal.ensures.room none) in
     few_put config c.in_ok-replaced.replaced (stamp_in identifier entries) (length entries) (count_with (stamp_in identifier entries) (length entries)) there room refl few

@@ -11,5 +11,5 @@ on_err (Err e) P p = p
 
 pub returns-in-Some-clause-known : goal.returns-in-Some-clause-known
 returns-in-Some-clause-known g c =
-    let is : stamp_in c.args.identifier.now c.args.self.now.entries ≡ Some c.in-Some.stamp = sym (rw c.as_str.ensures.text at c.stamp_of.ensures.stamped) ∙ c.in-Some.is in
+    let is : stamp_in c.args.identifier.now c.args.self.now.entries ≡ Some c.in-Some.stamp = sym c.stamp_of.ensures ∙ c.in-Some.is in
     on_err c.find_at.result _ (λ honest. (found_at c.args.self.now.entries _ c.args.identifier.now c.in-Some.stamp (c.requires.stands.agrees honest) is).1)

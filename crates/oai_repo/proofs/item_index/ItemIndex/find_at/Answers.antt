@@ -17,7 +17,7 @@ returns-then-is_one_named-clause-found g c = λ honest.
 
 pub returns-then-is_one_named-clause-named : goal.returns-then-is_one_named-clause-named
 returns-then-is_one_named-clause-named g c =
-    name_of_one c.args.identifier.now c.in_ok-found.found (rw (c.as_ref.ensures.value, c.as_str.ensures.text) at (sym c.is_one_named.ensures ∙ c.if-is_one_named.true))
+    name_of_one c.args.identifier.now c.in_ok-found.found (rw c.as_ref.ensures.value at (sym c.is_one_named.ensures ∙ c.if-is_one_named.true))
 
 pub returns-else-is_one_named-clause-reads : goal.returns-else-is_one_named-clause-reads
 returns-else-is_one_named-clause-reads g c = record {
@@ -33,7 +33,7 @@ returns-else-is_one_named-clause-reads g c = record {
           let at = found_at c.args.self.now.entries _ c.args.identifier.now c.args.stamp (c.requires.stands.agrees honest) c.requires.there in
           let found : c.in_ok-found.found ≡ item_named c.args.identifier.now _ = rw here at (simp to_z-of_z at (c.in_ok-found.ensures.found honest)) ∙ at.0 in
           let one : is_one_named c.args.identifier.now c.in_ok-found.found ≡ true = found_one c.args.identifier.now _ c.in_ok-found.found found at.1 in
-          let other : is_one_named c.args.identifier.now c.in_ok-found.found ≡ false = rw (c.as_ref.ensures.value, c.as_str.ensures.text) at (sym c.is_one_named.ensures ∙ c.if-is_one_named.false) in
+          let other : is_one_named c.args.identifier.now c.in_ok-found.found ≡ false = rw c.as_ref.ensures.value at (sym c.is_one_named.ensures ∙ c.if-is_one_named.false) in
           cc);
     };
   };

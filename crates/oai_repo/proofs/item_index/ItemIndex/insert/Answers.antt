@@ -3,36 +3,13 @@ use Rattle.std.proofs.Common.{◌≡◌, ◌∙◌, ◌+◌, ℕ, List, true, No
 use Rattle.std.proofs.lemmas.Int.{to_z-of_z}
 use Rattle.std.specs.BTreeMap.{get_by_text}
 use Rattle.std.specs.String.{string_bytes}
-use Rattle.oai_names.specs.Names.{may_be_identifier}
 use Rattle.oai_item.specs.Items.{with_item}
 use Rattle.oai_catalogue.specs.Store.{list_at}
 use Rattle.oai_repo.specs.Changes.{with_new}
 use Rattle.oai_repo.specs.Fields.{IndexAgrees, ItemIndex, stored_items}
 use Rattle.oai_repo.specs.Entries.{SetsStamp, Entries, stamp_in, entries_in}
-use Rattle.oai_repo.proofs.IndexLemmas.{many_view, names_noted, noted_view, put_first, undone, updates_noted}
+use Rattle.oai_repo.proofs.IndexLemmas.{many_view, noted_view, put_first, undone, updates_noted}
 use Rattle.oai_repo.proofs.item_index.ItemIndex.insert.Goals as goal
-
-pub invariant_of-self-in-Ok : goal.invariant_of-self-in-Ok
-invariant_of-self-in-Ok g c =
-    let fits : FitsSigned w64 c.stamp.result = record { sfits = c.stamp.type_inv } in
-    let item = c.args.item.now in
-    let old = c.self.inside.stamps in
-    let key : string_bytes c.in_ok-key.key ≡ item.identifier = c.in_ok-key.ensures.ok ∙ c.as_str-identifier.ensures.text ∙ c.identifier.ensures in
-    let put : SetsStamp (string_bytes c.in_ok-key.key) (Some item.stamp) (entries_in old) (entries_in c.insert.new.self) =
-    updates_noted old c.insert.new.self (string_bytes c.in_ok-key.key) (Some item.stamp) (rw c.stamp.ensures.stamp at (simp to_z-of_z at c.in_ok-insert.ensures.updates)) in
-    let noting : SetsStamp item.identifier (Some item.stamp) (entries_in old) (entries_in c.insert.new.self) = subst (λ (t : List ℕ). SetsStamp t (Some item.stamp) (entries_in old) (entries_in c.insert.new.self)) key put in
-    let name : may_be_identifier item.identifier ≡ true = rw c.identifier.ensures at c.as_str-identifier.ensures.name in
-    names_noted item.identifier (Some item.stamp) (entries_in old) (entries_in c.insert.new.self) noting (λ h. name) c.self.invariant
-
-pub invariant_of-self-in-Err : goal.invariant_of-self-in-Err
-invariant_of-self-in-Err g c =
-    let olds : entries_in c.self.inside.stamps ≡ c.args.self.now.entries = ap (λ (s : ItemIndex). s.entries) c.self.view_is in
-    let key : string_bytes c.in_ok-key.key ≡ c.args.item.now.identifier = c.in_ok-key.ensures.ok ∙ c.as_str-identifier.ensures.text ∙ c.identifier.ensures in
-    let text : c.as_str-identifier.result.now ≡ c.args.item.now.identifier = c.as_str-identifier.ensures.text ∙ c.identifier.ensures in
-    let none : stamp_in c.args.item.now.identifier (entries_in c.self.inside.stamps) ≡ None = ap (λ (xs : Entries). stamp_in c.args.item.now.identifier xs) olds ∙ c.requires.first in
-    let back : entries_in c.remove.new.self ≡ entries_in c.self.inside.stamps =
-    undone c.self.inside.stamps c.insert.new.self c.remove.new.self c.in_ok-key.key c.args.item.now.identifier _ key none c.in_ok-insert.ensures.entries (rw text at c.remove.ensures.entries) in
-    λ identifier some. c.self.invariant identifier (subst (λ (xs : Entries). IsSome (stamp_in identifier xs)) back some)
 
 pub returns-in-Ok-clause-made : goal.returns-in-Ok-clause-made
 returns-in-Ok-clause-made g c =
