@@ -45,8 +45,14 @@ pub(crate) fn reply_to_query<V: Versions>(
 {
     match read_request(repo.alloc, query, repo.config.granularity()) {
         Ok(ask) => reply_to(&with_arguments(*repo, &ask), lists, store, &ask),
-        Err(ArgFault::BadVerb) => Ok(Replied::listless(reply_with_error(repo, ErrorCode::BadVerb)?)),
-        Err(ArgFault::BadArgument) => Ok(Replied::listless(reply_with_error(repo, ErrorCode::BadArgument)?)),
+        Err(ArgFault::BadVerb) => Ok(Replied::listless(reply_with_error(
+            repo,
+            ErrorCode::BadVerb,
+        )?)),
+        Err(ArgFault::BadArgument) => Ok(Replied::listless(reply_with_error(
+            repo,
+            ErrorCode::BadArgument,
+        )?)),
         Err(ArgFault::NoMemory) => Err(Fault::NoMemory),
     }
 }

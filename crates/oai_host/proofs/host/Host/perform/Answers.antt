@@ -28,13 +28,13 @@ returns-in-Some g c =
     let V = g.V.Versions in
     let fits : FitsSigned w64 c.args.moment = c.ranges.moment in
     let host = c.self.inside in
-    let store = c.perform.new.store in
+    let store = c.perform-answer.new.store in
     let call = call_of c.args.moment c.args.exchange.now in
     let found = c.in-Some.ensures in
-    let bytes = option_copied c.perform.result.bytes in
-    let after : HostState = record { repositories = repositories_of c.perform.new.self (V.lists store); honest = V.honest store; failures = V.failures store; room = V.room store } in
-    let done = simp to_z-of_z at c.perform.ensures in
-    subst (λ (h : HostState). IsRecorded c.args.moment c.args.exchange.now c.perform.result.answer c.performed_at-performed.result h after) c.self.view_is (record {
+    let bytes = option_copied c.perform-answer.result.bytes in
+    let after : HostState = record { repositories = repositories_of c.perform-answer.new.self (V.lists store); honest = V.honest store; failures = V.failures store; room = V.room store } in
+    let done = simp to_z-of_z at c.perform-answer.ensures in
+    subst (λ (h : HostState). IsRecorded c.args.moment c.args.exchange.now c.perform-answer.result.answer c.performed_at-performed.result h after) c.self.view_is (record {
       exchanged = record {
         each = done.steps;
         none = λ none. owned_there host.repositories c.in-Some.place c.in-Some.endpoint (V.lists host.store) call found.place none;
