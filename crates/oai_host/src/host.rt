@@ -97,7 +97,10 @@ impl<V: Versions + Drop> Host<V> {
     pub fn exchange(&mut self, moment: i64, exchange: &Exchange<'_>) -> Answer
         ensures { IsExchanged (call_of moment exchange.now) result self.old self.new }
     {
-        let Done { answer, performed: _ } = self.perform(moment, exchange);
+        let Done {
+            answer,
+            performed: _,
+        } = self.perform(moment, exchange);
         answer
     }
 

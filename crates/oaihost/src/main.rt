@@ -9,9 +9,7 @@ use oai_bytes::read_number;
 use oai_cli::{MAX_CONNECTIONS, ask_lines, serve_port, trace_lines};
 use oai_device::{FileDevice, MemoryDevice};
 use oai_front::Front;
-use oai_startup::{
-    Stop, check_config, empty_file, host_on, read_config, read_file, warnings_in,
-};
+use oai_startup::{Stop, check_config, empty_file, host_on, read_config, read_file, warnings_in};
 use std::env;
 use std::fs::File;
 use std::io::{self, BufWriter};

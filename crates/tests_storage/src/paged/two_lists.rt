@@ -88,7 +88,8 @@ impl<V: Versions + Drop> TwoLists<V> {
 
     /// The item of that key.
     pub(crate) fn find(&mut self, key: &Item) -> Result<Option<Item>, Fault> {
-        self.store.find(self.own, key.stamp(), key.identifier().as_str())
+        self.store
+            .find(self.own, key.stamp(), key.identifier().as_str())
     }
 
     /// How many items pass the filter.
