@@ -17,7 +17,7 @@ use Rattle.oai_laws.specs.Harvests.{Harvest}
 use Rattle.oai_laws.specs.Runs.{Exchange, Timed}
 use Rattle.oai_laws.specs.Worked.{worked_commands, worked_config}
 use Rattle.oai_laws.specs.WorkedHarvests.{archive_b, harvest_run, prefix}
-use Rattle.oai_laws.proofs.WorkedEraLemmas.{got_4, harvest_4, harvests_over, last_commands, later_run, list_left}
+use Rattle.oai_laws.proofs.WorkedEraLemmas.{got_4, harvest_4, harvests_over, later_run, list_left}
 use Rattle.oai_laws.proofs.WorkedHarvestLemmas.{harvest_1, harvest_2, harvest_3, left_all}
 use Rattle.oai_http.specs.declared.exchanges.Answer.{Answer}
 use Rattle.oai_http.specs.declared.exchanges.Call.{Call}
