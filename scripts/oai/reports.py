@@ -180,6 +180,8 @@ def try_configurations(trial):
     trial.check("the configuration", trial.call("check", path), (0, "ok 2\n", []))
     trial.refused("a comma that is missing", CONFIG.replace(":16,", ":16 "), "1 BadJson: line 2, column 2: here the text is no JSON")
     trial.refused("a text that ends", '{"base":', "1 BadJson: line 1, column 9: the text ends too early")
+    trial.refused("no text", "", "1 BadJson: line 1, column 1: the text ends too early")
+    trial.refused("a number that is too large", CONFIG.replace(":16,", ":1e999,"), "1 BadJson: a number is too large, or the text is nested too deeply")
     trial.refused("a byte order mark", "\ufeff" + CONFIG, "1 BadJson: line 1, column 1: a byte order mark stands before the text")
     trial.refused("a letter of Latin-1", CONFIG.encode().replace(b"Archive", b"Arch\xefve"), "1 BadJson: line 3, column 37: here the text is not in UTF-8")
     trial.refused("a list", "\n[]", "2 BadShape: line 2: it is a list, and not an object")

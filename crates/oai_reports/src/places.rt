@@ -53,18 +53,23 @@ fn element_in(alloc: Global, text: &str, number: usize) -> Option<usize> {
     Some(start_from(text, reader.offset()))
 }
 
-/// The byte from which on the text is no JSON; `None` if its tokens are those of a JSON text.
+/// The byte from which on the text is no JSON, its end if it ends too early; `None` if its tokens are those of a JSON text.
 pub(crate) fn bad_place(alloc: Global, text: &str) -> Option<usize> {
     let mut scratch = Scratch::new(alloc);
     let mut reader = Reader::new(text, &mut scratch).ok()?;
+    let mut depth: usize = 0;
+    let mut is_begun = false;
     for _ in 0..=text.len() {
         match reader.next() {
             Some(Token::Bad) => return Some(reader.offset()),
-            Some(_) => {}
-            None => return None,
+            Some(token) => {
+                depth = depth_after(depth, token);
+                is_begun = true;
+            }
+            None => break,
         }
     }
-    None
+    (depth != 0 || !is_begun).then_some(text.len())
 }
 
 /// Why the text is no JSON from that byte on.
@@ -92,17 +97,24 @@ fn skip_value(reader: &mut Reader<'_>, most: usize) {
     let mut depth: usize = 0;
     for _ in 0..most {
         match reader.next() {
-            Some(Token::BeginObject) => depth = depth.saturating_add(1),
-            Some(Token::BeginArray) => depth = depth.saturating_add(1),
-            Some(Token::EndObject) => depth = depth.saturating_sub(1),
-            Some(Token::EndArray) => depth = depth.saturating_sub(1),
             Some(Token::Bad) => return,
-            Some(_) => {}
+            Some(token) => depth = depth_after(depth, token),
             None => return,
         }
         if depth == 0 {
             return;
         }
+    }
+}
+
+/// In how many objects and lists a reader is after the token, if it was in so many before.
+fn depth_after(depth: usize, token: Token<'_>) -> usize {
+    match token {
+        Token::BeginObject => depth.saturating_add(1),
+        Token::BeginArray => depth.saturating_add(1),
+        Token::EndObject => depth.saturating_sub(1),
+        Token::EndArray => depth.saturating_sub(1),
+        _ => depth,
     }
 }
 
