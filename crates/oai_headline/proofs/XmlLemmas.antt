@@ -40,7 +40,7 @@ use Rattle.oai_host.specs.Alone.{done_alone, own_answers, own_calls}
 use Rattle.oai_host.specs.Answers.{answer_of}
 use Rattle.oai_host.specs.Tasks.{Task, asking, depositing, refusing, task_of}
 use Rattle.oai_headline.specs.Eras.{AreTrueEach, AreTrueOver, HaveNumbersIn, VisitedEra, era_begins, era_leaves}
-use Rattle.oai_headline.specs.Headline.{HasRules}
+use Rattle.oai_startup.specs.Rules.{HasRules}
 use Rattle.oai_headline.specs.Throughout.{AreTrueFrom, IsFailure, IsTrueBy, IsTrueVisit, calls_done, calls_done_by, left_by, own_given, visits_given}
 use Rattle.oai_headline.specs.Visits.{Visit, commands_by, commands_in, commands_of, timed_input}
 use Rattle.oai_headline.specs.XmlAnswers.{AreAnsweredInXml, HasTexts, IsAnsweredInXml, IsXmlDocument}

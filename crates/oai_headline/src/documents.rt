@@ -9,7 +9,7 @@ ghost use Rattle.oai_http.specs.declared.exchanges.Answer.{Answer};
 ghost use Rattle.oai_http.specs.declared.exchanges.Call.{Call};
 ghost use Rattle.oai_host.specs.Alone.{own_answers, own_calls};
 ghost use Rattle.oai_headline.specs.Eras.{AreTrueOver, HaveNumbersIn, VisitedEra};
-ghost use Rattle.oai_headline.specs.Headline.{HasRules};
+ghost use Rattle.oai_startup.specs.Rules.{HasRules};
 ghost use Rattle.oai_headline.specs.Throughout.{AreTrueFrom, own_given};
 ghost use Rattle.oai_headline.specs.XmlAnswers.{AreAnsweredInXml, HasTexts, IsAnsweredInXml};
 
