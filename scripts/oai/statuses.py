@@ -263,7 +263,7 @@ def try_beside(trial, folder):
     with serve_durably(EXAMPLE, good, errors=subprocess.DEVNULL) as server:
         connection = server.connect()
         exchange(connection, "/deposit/a", LINE)
-        exchange(connection, "/oai/a?verb=ListIdentifiers&metadataPrefix=oai_dc")
+        exchange(connection, "/deposit/a", LINE)
         trial.ended("a second server", 1, "folder: in use", "serve", EXAMPLE, 0, good)
         trial.ended("a port that is taken", 1, "socket fault", "serve", EXAMPLE, server.port, folder / "other")
         trial.ended("verify beside a server", 0, "", "verify", good)
