@@ -19,7 +19,7 @@ built = @begun=$$(date +%s); mkdir -p crates/$@/out; \
 	fi
 
 $(libraries):
-	$(call built,cd ../.. && bin/build-library $(ROOMS) $(MOST) $@ $(call below,$@))
+	$(call built,cd ../.. && bin/build-library $(PROGRAM) $(ROOMS) $(MOST) $@ $(call below,$@))
 
 # (building runs the program too, which says how it is called: what counts is that it is there)
 $(PROGRAM):

@@ -10,7 +10,7 @@ use Rattle.oai_time.specs.declared.granularity.Granularity.TheVariants.{Day}
 use Rattle.oai_item.specs.Item.{ItemState, fields_in}
 use Rattle.oai_item.specs.declared.fields.Field.{Field}
 use Rattle.oai_item.specs.declared.formats.Format.{Format}
-use Rattle.oai_answers.specs.Answers.{Answer, Continuation, Description, Dissemination, Document, Page, completes, fails, gives_record, identifies, lists_formats, lists_headers, lists_records, lists_sets, remains, whole}
+use Rattle.oai_answers.specs.Answers.{Continuation, Description, Dissemination, Document, Page, VerbAnswer, completes, fails, gives_record, identifies, lists_formats, lists_headers, lists_records, lists_sets, remains, whole}
 use Rattle.oai_answers.specs.Documents.{answer_element, document, error_element, extent_attributes, formats_element, identify_element, sets_element, get_record_element, head, header_element, header_start, identifiers_element, metadata, metadata_part, record_element, records_element, token_element}
 use Rattle.oai_answers.specs.Markup.{attribute_start, element, end_tag, plain, spelled_attribute, start_tag, text_element}
 use Rattle.oai_answers.specs.Seen.{SeenFormat, SeenMetadata, answer_seen, document_seen, empty_token, format_seen, header_seen, identity_seen, metadata_seen, no_token, offer_seen, record_seen, seen_error, seen_formats, seen_headers, seen_identity, seen_record, seen_records, seen_sets, seen_token, token_seen}
@@ -286,10 +286,10 @@ told_records_cut =
 
 -- an answer beside the base URL
 abbrev pub Based : Type 0
-Based = List ℕ × Answer
+Based = List ℕ × VerbAnswer
 
 -- which answer it is
-abbrev answer_kind : Answer → ℕ
+abbrev answer_kind : VerbAnswer → ℕ
 answer_kind (fails code) = 0
 answer_kind (identifies d) = 1
 answer_kind (lists_formats formats) = 2
@@ -299,7 +299,7 @@ answer_kind (lists_headers page) = 5
 answer_kind (lists_records format page) = 6
 
 -- what is asked of the records of an answer
-abbrev pub is_plain_answer : Answer → Bool
+abbrev pub is_plain_answer : VerbAnswer → Bool
 is_plain_answer (fails code) = true
 is_plain_answer (identifies d) = true
 is_plain_answer (lists_formats formats) = true

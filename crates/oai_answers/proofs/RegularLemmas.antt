@@ -10,10 +10,10 @@ use Rattle.oai_names.specs.Names.{is_among}
 use Rattle.oai_names.proofs.Cuts.{at, lacks}
 use Rattle.oai_item.specs.Formats.{dublin_core}
 use Rattle.oai_item.specs.Item.{ItemState, fields_in}
-use Rattle.oai_item.specs.Rules.{are_names, are_uris, has_fields, has_repeat, is_allowed, is_element_name, is_first_byte, is_name, is_name_byte}
+use Rattle.oai_item.specs.Rules.{are_names, are_uris, has_fields, has_repeat, is_allowed, is_element_name, is_element_name_byte, is_first_byte, is_name}
 use Rattle.oai_item.specs.declared.fields.Field.{Field}
 use Rattle.oai_item.specs.declared.formats.Format.{Format}
-use Rattle.oai_answers.specs.Answers.{Answer, Dissemination, Document, Page, fails, gives_record, identifies, lists_formats, lists_headers, lists_records, lists_sets}
+use Rattle.oai_answers.specs.Answers.{Dissemination, Document, Page, VerbAnswer, fails, gives_record, identifies, lists_formats, lists_headers, lists_records, lists_sets}
 use Rattle.oai_answers.specs.Documents.{document}
 use Rattle.oai_answers.specs.Seen.{IsGoodFormat, IsRegular, document_seen, has_own_fields}
 use Rattle.oai_answers.proofs.DocumentCuts.{document_cut, is_plain_answer, is_plain_record}
@@ -25,7 +25,7 @@ use Rattle.oai_answers.proofs.RecordCuts.{has_plain_root, is_dublin_core, is_pla
 abbrev IsApart : ℕ → Type 0
 IsApart b = (not (eqb b 62) ≡ true) × (not (eqb b 47) ≡ true) × (not (eqb b 32) ≡ true) × (not (eqb b 58) ≡ true)
 
-name_apart : (b : ℕ) → is_name_byte b ≡ true → IsApart b
+name_apart : (b : ℕ) → is_element_name_byte b ≡ true → IsApart b
 name_apart b h = (grind (arith, nat_tests), grind (arith, nat_tests), grind (arith, nat_tests), grind (arith, nat_tests))
 
 first_apart : (b : ℕ) → is_first_byte b ≡ true → IsApart b
@@ -46,18 +46,18 @@ clear_more b bytes apart clear = record {
   colon = and_from (not (eqb b 58)) (lacks 58 bytes) apart.3 clear.colon;
 }
 
-clear_bytes : (bytes : List ℕ) → list_all is_name_byte bytes ≡ true → IsClear bytes
+clear_bytes : (bytes : List ℕ) → list_all is_element_name_byte bytes ≡ true → IsClear bytes
 clear_bytes [] h = record { angle = refl; slash = refl; space = refl; colon = refl }
 clear_bytes (b ∷ bytes) h =
-    let parts = and_parts (is_name_byte b) (list_all is_name_byte bytes) h in
+    let parts = and_parts (is_element_name_byte b) (list_all is_element_name_byte bytes) h in
     clear_more b bytes (name_apart b parts.0) (clear_bytes bytes parts.1)
 
 clear_name : (name : List ℕ) → is_name name ≡ true → IsClear name
 unfolding is_element_name
 clear_name [] h = cc
 clear_name (b ∷ bytes) h =
-    let size = and_parts (is_first_byte b && list_all is_name_byte bytes) (nat_le (length (b ∷ bytes)) 64) h in
-    let parts = and_parts (is_first_byte b) (list_all is_name_byte bytes) size.0 in
+    let size = and_parts (is_first_byte b && list_all is_element_name_byte bytes) (nat_le (length (b ∷ bytes)) 64) h in
+    let parts = and_parts (is_first_byte b) (list_all is_element_name_byte bytes) size.0 in
     clear_more b bytes (first_apart b parts.0) (clear_bytes bytes parts.1)
 
 no_slash : (name : List ℕ) → lacks 47 name ≡ true → not (at 47 name) ≡ true
@@ -136,7 +136,7 @@ plain_records format page (item ∷ items) good h =
     let parts = and_parts (has_own_fields format item) (list_all (has_own_fields format) items) h in
     and_from _ _ (plain_record (record { item = item; granularity = page.granularity; format = format }) good parts.0) (plain_records format page items good parts.1)
 
-regular_plain : (answer : Answer) → IsRegular answer → is_plain_answer answer ≡ true
+regular_plain : (answer : VerbAnswer) → IsRegular answer → is_plain_answer answer ≡ true
 regular_plain (fails code) h = refl
 regular_plain (identifies d) h = refl
 regular_plain (lists_formats formats) h = refl

@@ -64,18 +64,18 @@ pub record Page : Type 0 where
   pub continuation : Continuation
 
 -- the answer to a request: an error (section 3.6), or what the verb asks for (section 4)
-pub data Answer : Type 0 where
-  fails : ErrorCode → Answer
-  identifies : Description → Answer
-  lists_formats : List Format → Answer
-  lists_sets : List (List ℕ × List ℕ) → Answer
-  gives_record : Dissemination → Answer
-  lists_headers : Page → Answer
-  lists_records : Format → Page → Answer
+pub data VerbAnswer : Type 0 where
+  fails : ErrorCode → VerbAnswer
+  identifies : Description → VerbAnswer
+  lists_formats : List Format → VerbAnswer
+  lists_sets : List (List ℕ × List ℕ) → VerbAnswer
+  gives_record : Dissemination → VerbAnswer
+  lists_headers : Page → VerbAnswer
+  lists_records : Format → Page → VerbAnswer
 
 -- the arguments that `request` repeats with an answer: none with badVerb and badArgument, where it is the base URL
 -- alone (section 3.2)
-abbrev pub arguments_told : Answer → Attributes → Attributes
+abbrev pub arguments_told : VerbAnswer → Attributes → Attributes
 arguments_told (fails BadVerb) asked = no_arguments
 arguments_told (fails BadArgument) asked = no_arguments
 arguments_told answer asked = asked
@@ -85,7 +85,7 @@ pub record Document : Type 0 where
   pub date : ℤ
   pub base : List ℕ
   pub asked : Attributes
-  pub answer : Answer
+  pub answer : VerbAnswer
 
 -- the format is listed: each is if no item is given, otherwise those in which that item has a record (section 4.4)
 abbrev pub is_offered : Option ItemState → Format → Bool
@@ -103,7 +103,7 @@ HasWritableEnd (remains expires extent token) = IsWritable expires
 HasWritableEnd (completes extent) = Unit {0}
 
 -- so can the times of the answer
-abbrev pub HasWritableTimes : Answer → Type 0
+abbrev pub HasWritableTimes : VerbAnswer → Type 0
 HasWritableTimes (fails code) = Unit {0}
 HasWritableTimes (identifies d) = IsWritable d.earliest
 HasWritableTimes (lists_formats formats) = Unit {0}

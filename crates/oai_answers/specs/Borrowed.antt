@@ -1,17 +1,17 @@
 -- The plain data that a `Doc` and its parts borrow.
 use Rattle.std.specs.Option.{option_copied}
-use Rattle.oai_answers.specs.Answers.{Attributes, Description, Dissemination, Continuation, whole, remains, completes, Page, Answer, fails, identifies, lists_formats, lists_sets, gives_record, lists_headers, lists_records, Document, offered}
+use Rattle.oai_answers.specs.Answers.{Attributes, Description, Dissemination, Continuation, whole, remains, completes, Page, VerbAnswer, fails, identifies, lists_formats, lists_sets, gives_record, lists_headers, lists_records, Document, offered}
 use Rattle.oai_answers.specs.declared.documents.Body.{Body}
 use Rattle.oai_answers.specs.declared.documents.Body.TheVariants.{Error, Identify, ListMetadataFormats, ListSets, GetRecord, ListIdentifiers, ListRecords}
 use Rattle.oai_answers.specs.declared.documents.Doc.{Doc}
 use Rattle.oai_answers.specs.declared.identify.Identity.{Identity}
 use Rattle.oai_answers.specs.declared.lists.Listed.{Listed}
 use Rattle.oai_answers.specs.declared.records.Record.{Record}
-use Rattle.oai_answers.specs.declared.request.Asked.{Asked}
+use Rattle.oai_answers.specs.declared.request.RequestAttributes.{RequestAttributes}
 use Rattle.oai_answers.specs.declared.tokens.Resumption.{Resumption}
 use Rattle.oai_answers.specs.declared.tokens.Resumption.TheVariants.{Whole, More, Last}
 
-abbrev pub attributes_of : Asked → Attributes
+abbrev pub attributes_of : RequestAttributes → Attributes
 attributes_of a = record {
   verb = option_copied a.verb;
   identifier = option_copied a.identifier;
@@ -50,7 +50,7 @@ page_of list = record {
   continuation = continuation_of list.resumption;
 }
 
-abbrev pub body_answer : Body → Answer
+abbrev pub body_answer : Body → VerbAnswer
 body_answer (Error code) = fails code
 body_answer (Identify identity) = identifies (description_of identity)
 body_answer (ListMetadataFormats list) =

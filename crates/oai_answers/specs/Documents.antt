@@ -11,7 +11,7 @@ use Rattle.oai_time.specs.declared.granularity.Granularity.{Granularity}
 use Rattle.oai_time.specs.declared.granularity.Granularity.TheVariants.{Day, Second}
 use Rattle.oai_item.specs.declared.fields.Field.{Field}
 use Rattle.oai_item.specs.declared.formats.Format.{Format}
-use Rattle.oai_answers.specs.Answers.{Attributes, arguments_told, Description, Dissemination, Continuation, whole, remains, completes, Page, Answer, fails, identifies, lists_formats, lists_sets, gives_record, lists_headers, lists_records, Document}
+use Rattle.oai_answers.specs.Answers.{Attributes, arguments_told, Description, Dissemination, Continuation, whole, remains, completes, Page, VerbAnswer, fails, identifies, lists_formats, lists_sets, gives_record, lists_headers, lists_records, Document}
 use Rattle.oai_item.specs.Item.{ItemState, fields_in}
 use Rattle.oai_answers.specs.Markup.{plain, end_tag, element, text_element, spelled_attribute, attribute}
 use Rattle.oai_answers.specs.declared.errors.ErrorCode.{ErrorCode}
@@ -244,7 +244,7 @@ records_element format page = element (codes "ListRecords")
 -- The document. Section 3.2
 
 -- the answer itself
-abbrev pub answer_element : List ℕ → Answer → List ℕ
+abbrev pub answer_element : List ℕ → VerbAnswer → List ℕ
 answer_element base (fails code) = error_element code
 answer_element base (identifies d) = identify_element base d
 answer_element base (lists_formats formats) = formats_element formats

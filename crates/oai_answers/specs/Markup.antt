@@ -37,11 +37,11 @@ unfoldable pub attribute : List ℕ → List ℕ → List ℕ
 attribute name text = spelled_attribute name (escaped_attribute text)
 
 -- the name of an element that each record has, or may have. OAI-PMH 2.0, section 2.5
-abbrev pub name_of : Tag → List ℕ
-name_of Record = codes "record"
-name_of Header = codes "header"
-name_of Identifier = codes "identifier"
-name_of Datestamp = codes "datestamp"
-name_of SetSpec = codes "setSpec"
-name_of Metadata = codes "metadata"
-name_of DublinCore = codes "oai_dc:dc"
+abbrev pub tag_name : Tag → List ℕ
+tag_name Record = codes "record"
+tag_name Header = codes "header"
+tag_name Identifier = codes "identifier"
+tag_name Datestamp = codes "datestamp"
+tag_name SetSpec = codes "setSpec"
+tag_name Metadata = codes "metadata"
+tag_name DublinCore = codes "oai_dc:dc"

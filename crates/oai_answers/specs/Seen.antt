@@ -12,7 +12,7 @@ use Rattle.oai_item.specs.Known.{are_fields_of}
 use Rattle.oai_item.specs.Rules.{is_allowed}
 use Rattle.oai_item.specs.declared.fields.Field.{Field}
 use Rattle.oai_item.specs.declared.formats.Format.{Format}
-use Rattle.oai_answers.specs.Answers.{Answer, Attributes, Continuation, Description, Document, arguments_told, completes, fails, gives_record, identifies, lists_formats, lists_headers, lists_records, lists_sets, remains, whole}
+use Rattle.oai_answers.specs.Answers.{Attributes, Continuation, Description, Document, VerbAnswer, arguments_told, completes, fails, gives_record, identifies, lists_formats, lists_headers, lists_records, lists_sets, remains, whole}
 use Rattle.oai_answers.specs.declared.errors.ErrorCode.{ErrorCode}
 use Rattle.oai_item.specs.declared.deleted_record.DeletedRecord.{DeletedRecord}
 
@@ -125,7 +125,7 @@ identity_seen base d = record {
 abbrev pub offer_seen : Format → SeenOffer
 offer_seen format = record { prefix = format.prefix; schema = format.schema; namespace = format.namespace }
 
-abbrev pub answer_seen : List ℕ → Answer → SeenAnswer
+abbrev pub answer_seen : List ℕ → VerbAnswer → SeenAnswer
 answer_seen base (fails code) = seen_error code
 answer_seen base (identifies d) = seen_identity (identity_seen base d)
 answer_seen base (lists_formats formats) = seen_formats (map offer_seen formats)
@@ -153,7 +153,7 @@ abbrev pub has_own_fields : Format → ItemState → Bool
 has_own_fields format item = are_fields_of (Some format) (fields_in format.prefix item.formats)
 
 -- the records of an answer are in such formats, with such fields
-abbrev pub IsRegular : Answer → Type 0
+abbrev pub IsRegular : VerbAnswer → Type 0
 IsRegular (fails code) = Unit {0}
 IsRegular (identifies d) = Unit {0}
 IsRegular (lists_formats formats) = Unit {0}

@@ -12,7 +12,7 @@ use crate::identify::{Identity, write_identify};
 use crate::lists::{Listed, write_list_identifiers, write_list_records};
 use crate::markup::put;
 use crate::records::{Record, write_get_record};
-use crate::request::{Asked, write_request};
+use crate::request::{RequestAttributes, write_request};
 use crate::rooms::room_of;
 use crate::sets::write_list_sets;
 use oai_item::Format;
@@ -46,7 +46,7 @@ pub struct Doc<'a> {
     /// The base URL of the repository.
     pub base: &'a str,
     /// The arguments of the request.
-    pub asked: Asked<'a>,
+    pub asked: RequestAttributes<'a>,
     /// The answer.
     pub body: Body<'a>,
 }

@@ -28,5 +28,5 @@ pub use laws::{document_law, unseen_law};
 pub use lists::Listed;
 pub use oai_item::DeletedRecord;
 pub use records::Record;
-pub use request::Asked;
+pub use request::RequestAttributes;
 pub use tokens::{Extent, Remaining, Resumption};

@@ -13,7 +13,7 @@ use std::alloc::AllocError;
 /// The arguments of a request, decoded, as far as they were given. After `BadVerb` and `BadArgument` no document shows
 /// them, whatever these are (OAI-PMH 2.0, section 3.2).
 #[derive(Clone, Copy, Debug)]
-pub struct Asked<'a> {
+pub struct RequestAttributes<'a> {
     /// The verb.
     pub verb: Option<&'a str>,
     /// The identifier.
@@ -30,12 +30,12 @@ pub struct Asked<'a> {
     pub token: Option<&'a str>,
 }
 
-impl<'a> Asked<'a> {
+impl<'a> RequestAttributes<'a> {
     /// No arguments.
-    pub fn nothing() -> Asked<'a>
+    pub fn nothing() -> RequestAttributes<'a>
         ensures { attributes_of result ≡ no_arguments }
     {
-        Asked {
+        RequestAttributes {
             verb: None,
             identifier: None,
             prefix: None,
@@ -65,7 +65,7 @@ pub(crate) fn write_request(doc: &Doc<'_>, out: &mut Vec<u8>) -> Result<(), Allo
 #[tactic(auto, unfolding(crate::specs::Documents::attributes))]
 fn write_attributes_beside(
     body: &Body<'_>,
-    asked: &Asked<'_>,
+    asked: &RequestAttributes<'_>,
     out: &mut Vec<u8>,
 ) -> Result<(), AllocError>
     ensures { OnOk result (Appends out.old.items out.new.items
@@ -80,7 +80,7 @@ fn write_attributes_beside(
 
 /// Appends the arguments as attributes, in the order of the protocol.
 #[tactic(auto, unfolding(crate::specs::Documents::attributes))]
-fn write_attributes(asked: &Asked<'_>, out: &mut Vec<u8>) -> Result<(), AllocError>
+fn write_attributes(asked: &RequestAttributes<'_>, out: &mut Vec<u8>) -> Result<(), AllocError>
     ensures { OnOk result (Appends out.old.items out.new.items
         (attributes (attributes_of asked.now))) }
 {

@@ -1,7 +1,7 @@
 //! The tags of the elements that each record has, written in one piece.
 ghost use Rattle.std.specs.Prelude.{◌≡◌, OnOk};
 ghost use Rattle.oai_answers.specs.Appends.{Appends};
-ghost use Rattle.oai_answers.specs.Markup.{end_tag, name_of, start_tag, text_element};
+ghost use Rattle.oai_answers.specs.Markup.{end_tag, start_tag, tag_name, text_element};
 
 use crate::markup::put_text;
 use std::alloc::AllocError;
@@ -22,7 +22,7 @@ impl Tag {
     /// Its start tag.
     #[tactic(auto, unfolding(crate::specs::Markup::start_tag, crate::specs::Markup::plain))]
     fn start(self) -> &'static str
-        ensures { result.now ≡ start_tag (name_of self) }
+        ensures { result.now ≡ start_tag (tag_name self) }
     {
         match self {
             Tag::Record => "<record>",
@@ -38,7 +38,7 @@ impl Tag {
     /// Its end tag.
     #[tactic(auto, unfolding(crate::specs::Markup::end_tag, crate::specs::Markup::plain))]
     fn end(self) -> &'static str
-        ensures { result.now ≡ end_tag (name_of self) }
+        ensures { result.now ≡ end_tag (tag_name self) }
     {
         match self {
             Tag::Record => "</record>",
@@ -54,14 +54,14 @@ impl Tag {
 
 /// Appends the start tag.
 pub(crate) fn open(tag: Tag, out: &mut Vec<u8>) -> Result<(), AllocError>
-    ensures { OnOk result (Appends out.old.items out.new.items (start_tag (name_of tag))) }
+    ensures { OnOk result (Appends out.old.items out.new.items (start_tag (tag_name tag))) }
 {
     out.extend_from_slice(tag.start().as_bytes())
 }
 
 /// Appends the end tag.
 pub(crate) fn close(tag: Tag, out: &mut Vec<u8>) -> Result<(), AllocError>
-    ensures { OnOk result (Appends out.old.items out.new.items (end_tag (name_of tag))) }
+    ensures { OnOk result (Appends out.old.items out.new.items (end_tag (tag_name tag))) }
 {
     out.extend_from_slice(tag.end().as_bytes())
 }
@@ -70,7 +70,7 @@ pub(crate) fn close(tag: Tag, out: &mut Vec<u8>) -> Result<(), AllocError>
 #[tactic(auto, unfolding(crate::specs::Markup::element, crate::specs::Markup::text_element))]
 pub(crate) fn tagged_text(tag: Tag, text: &str, out: &mut Vec<u8>) -> Result<(), AllocError>
     ensures { OnOk result (Appends out.old.items out.new.items
-        (text_element (name_of tag) text.now)) }
+        (text_element (tag_name tag) text.now)) }
 {
     open(tag, out)?;
     put_text(text, out)?;

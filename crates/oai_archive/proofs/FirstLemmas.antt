@@ -4,7 +4,7 @@ use Rattle.serde_json.specs.Data.{Data, depth, null}
 use Rattle.serde_json.specs.Read.{max_depth, read}
 use Rattle.serde_json.specs.View.{view}
 use Rattle.serde_json.specs.declared.value.Value.{Null, the_lemmas}
-use Rattle.oai_deposit.proofs.ReadingLemmas.{Some-injective}
+use Rattle.oai_json.proofs.ReadingLemmas.{Some-injective}
 use Rattle.oai_archive.specs.Firsts.{IsSameConfig, IsWrittenFor, but_cache}
 
 pub view-Null : view Null ≡ null

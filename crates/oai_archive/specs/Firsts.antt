@@ -2,7 +2,7 @@
 use Rattle.std.specs.Prelude.{◌≡◌, ◌⊎◌, ◌≤◌, ℕ, List, ◌++◌, ◌∷◌, codes, Some}
 use Rattle.serde_json.specs.Data.{Data, Members, depth, null, object, put}
 use Rattle.serde_json.specs.Read.{max_depth, read}
-use Rattle.oai_deposit.specs.Json.{json_in}
+use Rattle.oai_json.specs.Json.{json_in}
 
 -- its name
 abbrev pub program : List ℕ

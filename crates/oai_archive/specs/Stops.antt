@@ -5,17 +5,17 @@ use Rattle.oai_item.specs.declared.faults.Fault.{Fault}
 use Rattle.oai_item.specs.declared.faults.Fault.TheVariants.{Damaged as IsDamaged, Device, NoMemory, TooManyPages}
 use Rattle.oai_time.specs.Clock.{tick}
 use Rattle.oai_time.specs.TimeTexts.{second_text}
-use Rattle.oai_archive.specs.declared.stop.Stop.{Stop}
-use Rattle.oai_archive.specs.declared.stop.Stop.TheVariants.{CannotOpen, CannotWrite, Common, Damaged, InUse, Jumped, NotOurs, NoRepository, OfVersion, OtherConfig, Performing}
+use Rattle.oai_archive.specs.declared.stop.ServerStop.{ServerStop}
+use Rattle.oai_archive.specs.declared.stop.ServerStop.TheVariants.{CannotOpen, CannotWrite, Common, Damaged, InUse, Jumped, NotOurs, NoRepository, OfVersion, OtherConfig, Performing}
 use Rattle.oai_archive.specs.declared.stop.Aspect.{Aspect}
 use Rattle.oai_archive.specs.declared.stop.Aspect.TheVariants.{Contents, Deleted, Earliest, Granularity, Name}
 
 -- a fault, in words
-abbrev pub fault_text : Fault → List ℕ
-fault_text NoMemory = codes "out of memory"
-fault_text Device = codes "the device failed"
-fault_text IsDamaged = codes "the stored items are damaged"
-fault_text TooManyPages = codes "there are too many pages"
+abbrev pub store_fault_text : Fault → List ℕ
+store_fault_text NoMemory = codes "out of memory"
+store_fault_text Device = codes "the device failed"
+store_fault_text IsDamaged = codes "the stored items are damaged"
+store_fault_text TooManyPages = codes "there are too many pages"
 
 unfoldable pub performing_fails : List ℕ
 performing_fails = codes ": performing it fails: "
@@ -35,29 +35,29 @@ aspect_word Contents = codes "sets and items"
 unfoldable pub config_differs : List ℕ
 config_differs = codes "config: differs from the journal: repository "
 
-abbrev pub stop_text : Stop → List ℕ
-stop_text (Common cause) = other.stop_text cause
-stop_text CannotOpen = codes "folder: cannot open"
-stop_text InUse = codes "folder: in use"
-stop_text NotOurs = codes "journal: not of this program"
-stop_text (OfVersion version) = codes "journal: of version " ++ decimal version
-stop_text (Damaged at) = codes "journal: damaged at byte " ++ decimal at
-stop_text (Performing number fault) = codes "journal: record " ++ decimal number ++ performing_fails ++ fault_text fault
-stop_text CannotWrite = codes "journal: cannot write"
-stop_text (Jumped second) = codes "clock: jumped to " ++ jump_text second
-stop_text (OtherConfig difference) = config_differs ++ (string_bytes difference.repository ++ (codes ": " ++ aspect_word difference.aspect))
-stop_text NoRepository = codes "dump: no such repository"
+abbrev pub server_stop_text : ServerStop → List ℕ
+server_stop_text (Common cause) = other.stop_text cause
+server_stop_text CannotOpen = codes "folder: cannot open"
+server_stop_text InUse = codes "folder: in use"
+server_stop_text NotOurs = codes "journal: not of this program"
+server_stop_text (OfVersion version) = codes "journal: of version " ++ decimal version
+server_stop_text (Damaged at) = codes "journal: damaged at byte " ++ decimal at
+server_stop_text (Performing number fault) = codes "journal: record " ++ decimal number ++ performing_fails ++ store_fault_text fault
+server_stop_text CannotWrite = codes "journal: cannot write"
+server_stop_text (Jumped second) = codes "clock: jumped to " ++ jump_text second
+server_stop_text (OtherConfig difference) = config_differs ++ (string_bytes difference.repository ++ (codes ": " ++ aspect_word difference.aspect))
+server_stop_text NoRepository = codes "dump: no such repository"
 
 -- 2 if the configuration is invalid or no repository has the name, and 1 for all else
-abbrev pub status_of : Stop → ℕ
-status_of (Common cause) = other.status_of cause
-status_of CannotOpen = 1
-status_of InUse = 1
-status_of NotOurs = 1
-status_of (OfVersion version) = 1
-status_of (Damaged at) = 1
-status_of (Performing number fault) = 1
-status_of CannotWrite = 1
-status_of (Jumped second) = 1
-status_of (OtherConfig difference) = 2
-status_of NoRepository = 2
+abbrev pub server_status_of : ServerStop → ℕ
+server_status_of (Common cause) = other.status_of cause
+server_status_of CannotOpen = 1
+server_status_of InUse = 1
+server_status_of NotOurs = 1
+server_status_of (OfVersion version) = 1
+server_status_of (Damaged at) = 1
+server_status_of (Performing number fault) = 1
+server_status_of CannotWrite = 1
+server_status_of (Jumped second) = 1
+server_status_of (OtherConfig difference) = 2
+server_status_of NoRepository = 2

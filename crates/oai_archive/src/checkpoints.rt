@@ -3,12 +3,12 @@ ghost use Rattle.oai_durable.specs.Checkpoints.{HoldsCheckpoint};
 ghost use Rattle.std.specs.Prelude.{◌≡◌, IfOk, IsTrue};
 
 use crate::journals::{create_journal, stop_of_journal};
-use crate::stop::Stop;
+use crate::stop::ServerStop;
 use oai_durable::{CheckpointFault, checkpoint};
-use oai_http::Replayed;
 use oai_item::Fault;
 use oai_journal::{FileJournal, Journal};
-use oai_startup::Stop as Other;
+use oai_replay::Replayed;
+use oai_startup::Stop;
 use sqlite_disk::Disk;
 use std::alloc::Global;
 
@@ -21,7 +21,7 @@ pub fn write_checkpoint<H: Replayed, D: Disk + Drop>(
     text: &[u8],
     handler: &mut H,
     raise: u32,
-) -> Result<FileJournal<D>, Stop>
+) -> Result<FileJournal<D>, ServerStop>
     ensures saved { IfOk result (λ written. IsTrue (H.is_honest handler.old)
         → HoldsCheckpoint (record {
           leaving = record { redone = H.redone; restored = H.restored };
@@ -35,9 +35,9 @@ pub fn write_checkpoint<H: Replayed, D: Disk + Drop>(
     let journal = create_journal(alloc, disk, moment, text)?;
     match checkpoint(handler, raise, journal) {
         Ok(written) => Ok(written),
-        Err(CheckpointFault::Reading(Fault::NoMemory)) => Err(Stop::Common(Other::NoMemory)),
-        Err(CheckpointFault::Reading(_)) => Err(Stop::Common(Other::DeviceFault)),
-        Err(CheckpointFault::Numbers) => Err(Stop::CannotWrite),
+        Err(CheckpointFault::Reading(Fault::NoMemory)) => Err(ServerStop::Common(Stop::NoMemory)),
+        Err(CheckpointFault::Reading(_)) => Err(ServerStop::Common(Stop::DeviceFault)),
+        Err(CheckpointFault::Numbers) => Err(ServerStop::CannotWrite),
         Err(CheckpointFault::Journal(fault)) => Err(stop_of_journal(fault)),
     }
 }

@@ -1,5 +1,5 @@
 //! What two configurations of one archive must have in common.
-use crate::stop::{Aspect, Difference, Stop};
+use crate::stop::{Aspect, Difference, ServerStop};
 use oai_config::{Config, NamedConfig};
 use oai_settings::RepoConfig;
 use std::alloc::Global;
@@ -7,10 +7,10 @@ use std::alloc::Global;
 /// Whether an archive with the one configuration may continue with the other, as far as the two show it: the other has a
 /// repository with the name of each of the first, with its granularity, earliestDatestamp and deletedRecord. The error
 /// is the first difference in the order of the first's repositories; or out of memory.
-pub fn check_differences(alloc: Global, old: &Config, new: &Config) -> Result<(), Stop> {
+pub fn check_differences(alloc: Global, old: &Config, new: &Config) -> Result<(), ServerStop> {
     for repository in old.repositories() {
         if let Some(aspect) = difference(repository, new.repositories()) {
-            return Err(Stop::OtherConfig(Difference {
+            return Err(ServerStop::OtherConfig(Difference {
                 repository: String::from_str(alloc, repository.name.as_str())?,
                 aspect,
             }));

@@ -1,16 +1,16 @@
 //! Writes what a repository of an archive holds, as deposit lines.
 use crate::journals::{begin_reading, config_text, stop_of_reading};
 use crate::recoveries::{Counted, stop_of_recovery};
-use crate::stop::Stop;
+use crate::stop::ServerStop;
 use oai_config::Config;
+use oai_deposit::{deletion_line, deposit_line, set_line};
 use oai_device::MemoryDevice;
-use oai_dump::{deletion_line, deposit_line, set_line};
 use oai_durable::{RecoverFault, recover};
-use oai_http::{Part, PartKind, Replayed, SaveFault, Sink, SinkFault};
 use oai_item::{DecodeFault, Fault, Item};
 use oai_journal::{Recovery, RecoveryFault};
 use oai_names::SetSpec;
-use oai_startup::{Stop as Other, config_in, host_on};
+use oai_replay::{Part, PartKind, Replayed, SaveFault, Sink, SinkFault};
+use oai_startup::{Stop, config_in, host_on};
 use sqlite_disk::Disk;
 use std::alloc::Global;
 use std::io::Write;
@@ -25,7 +25,7 @@ pub fn dump_repository<D: Disk + Drop, W: Write>(
     disk: D,
     name: &str,
     writer: &mut W,
-) -> Result<(), Stop> {
+) -> Result<(), ServerStop> {
     let recovery = begin_reading(alloc, disk)?;
     let config = config_in(alloc, &config_text(alloc, &recovery)?)?;
     check_name(&config, name)?;
@@ -40,7 +40,7 @@ fn dump_replayed<H: Replayed + Drop, D: Disk + Drop, W: Write>(
     mut recovery: Recovery<D>,
     name: &str,
     writer: &mut W,
-) -> Result<(), Stop> {
+) -> Result<(), ServerStop> {
     perform_all(&mut handler, &mut recovery)?;
     let mut lines = Lines {
         alloc,
@@ -57,7 +57,7 @@ fn dump_replayed<H: Replayed + Drop, D: Disk + Drop, W: Write>(
 fn perform_all<H: Replayed, D: Disk + Drop>(
     handler: &mut H,
     recovery: &mut Recovery<D>,
-) -> Result<(), Stop> {
+) -> Result<(), ServerStop> {
     let mut done = Counted { records: 0 };
     let at = match recover(handler, recovery, &mut done) {
         Ok(_) => return Ok(()),
@@ -69,14 +69,14 @@ fn perform_all<H: Replayed, D: Disk + Drop>(
         Ok(_) => Ok(()),
         Err(RecoverFault::Journal(RecoveryFault::Damaged(again))) if again > at => Ok(()),
         Err(RecoverFault::Performing(number, fault)) => {
-            Err(Stop::Performing(done.records.saturating_add(number), fault))
+            Err(ServerStop::Performing(done.records.saturating_add(number), fault))
         }
         Err(fault) => Err(stop_of_recovery(fault)),
     }
 }
 
 /// Reads the journal once more, up to the commit byte at that position.
-fn read_again<D: Disk + Drop>(recovery: &mut Recovery<D>, at: usize) -> Result<(), Stop> {
+fn read_again<D: Disk + Drop>(recovery: &mut Recovery<D>, at: usize) -> Result<(), ServerStop> {
     match recovery.begin() {
         Ok(()) => {}
         Err(fault) => return Err(stop_of_reading(fault)),
@@ -87,15 +87,15 @@ fn read_again<D: Disk + Drop>(recovery: &mut Recovery<D>, at: usize) -> Result<(
         }
         match recovery.advance() {
             Ok(true) => {}
-            Ok(false) => return Err(Stop::Damaged(recovery.position())),
+            Ok(false) => return Err(ServerStop::Damaged(recovery.position())),
             Err(fault) => return Err(stop_of_reading(fault)),
         }
     }
-    Err(Stop::Common(Other::InputFault))
+    Err(ServerStop::Common(Stop::InputFault))
 }
 
 /// Whether the configuration has a repository with that name. The error is `NoRepository`.
-fn check_name(config: &Config, name: &str) -> Result<(), Stop> {
+fn check_name(config: &Config, name: &str) -> Result<(), ServerStop> {
     if config
         .repositories()
         .iter()
@@ -103,27 +103,27 @@ fn check_name(config: &Config, name: &str) -> Result<(), Stop> {
     {
         return Ok(());
     }
-    Err(Stop::NoRepository)
+    Err(ServerStop::NoRepository)
 }
 
 /// Finishes the lines, whether or not all parts were saved.
-fn finish<W: Write>(saved: Result<(), SaveFault>, lines: Lines<'_, W>) -> Result<(), Stop> {
+fn finish<W: Write>(saved: Result<(), SaveFault>, lines: Lines<'_, W>) -> Result<(), ServerStop> {
     match saved {
         Ok(()) => {}
         Err(SaveFault::Reading(fault)) => return Err(stop_of_fault(fault)),
-        Err(_) => return Err(lines.stop.unwrap_or(Stop::Common(Other::OutputFault))),
+        Err(_) => return Err(lines.stop.unwrap_or(ServerStop::Common(Stop::OutputFault))),
     }
     match lines.writer.flush() {
         Ok(()) => Ok(()),
-        Err(_) => Err(Stop::Common(Other::OutputFault)),
+        Err(_) => Err(ServerStop::Common(Stop::OutputFault)),
     }
 }
 
 /// Why the items could not be read.
-fn stop_of_fault(fault: Fault) -> Stop {
+fn stop_of_fault(fault: Fault) -> ServerStop {
     match fault {
-        Fault::NoMemory => Stop::Common(Other::NoMemory),
-        _ => Stop::Common(Other::DeviceFault),
+        Fault::NoMemory => ServerStop::Common(Stop::NoMemory),
+        _ => ServerStop::Common(Stop::DeviceFault),
     }
 }
 
@@ -135,7 +135,7 @@ struct Lines<'a, W> {
     name: &'a [u8],
     writer: &'a mut W,
     /// Why no further part was written.
-    stop: Option<Stop>,
+    stop: Option<ServerStop>,
 }
 
 impl<W: Write> Sink for Lines<'_, W> {
@@ -159,7 +159,7 @@ impl<W: Write> Sink for Lines<'_, W> {
 
 impl<W: Write> Lines<'_, W> {
     /// Writes the lines of a part.
-    fn write_part(&mut self, part: &Part<'_>) -> Result<(), Stop> {
+    fn write_part(&mut self, part: &Part<'_>) -> Result<(), ServerStop> {
         match part.kind {
             PartKind::Begin => Ok(()),
             PartKind::Set => self.write_set(part.bytes),
@@ -168,26 +168,26 @@ impl<W: Write> Lines<'_, W> {
     }
 
     /// Writes the line of a set, from its setSpec, a space, and its name.
-    fn write_set(&mut self, bytes: &[u8]) -> Result<(), Stop> {
+    fn write_set(&mut self, bytes: &[u8]) -> Result<(), ServerStop> {
         let Ok(text) = str::from_utf8(bytes) else {
-            return Err(Stop::NotOurs);
+            return Err(ServerStop::NotOurs);
         };
         let Some((spec, name)) = text.split_once(' ') else {
-            return Err(Stop::NotOurs);
+            return Err(ServerStop::NotOurs);
         };
         let Ok(spec) = SetSpec::read(self.alloc, spec) else {
-            return Err(Stop::NotOurs);
+            return Err(ServerStop::NotOurs);
         };
         let line = set_line(self.alloc, &spec, name)?;
         self.write_line(&line)
     }
 
     /// Writes the lines of an encoded item: its deposit, and for a deleted one its deletion.
-    fn write_item(&mut self, bytes: &[u8]) -> Result<(), Stop> {
+    fn write_item(&mut self, bytes: &[u8]) -> Result<(), ServerStop> {
         let item = match Item::decode(self.alloc, bytes) {
             Ok(item) => item,
-            Err(DecodeFault::NoMemory) => return Err(Stop::Common(Other::NoMemory)),
-            Err(_) => return Err(Stop::NotOurs),
+            Err(DecodeFault::NoMemory) => return Err(ServerStop::Common(Stop::NoMemory)),
+            Err(_) => return Err(ServerStop::NotOurs),
         };
         let line = deposit_line(self.alloc, &item)?;
         self.write_line(&line)?;
@@ -199,10 +199,10 @@ impl<W: Write> Lines<'_, W> {
     }
 
     /// Writes a line and a line end.
-    fn write_line(&mut self, line: &str) -> Result<(), Stop> {
+    fn write_line(&mut self, line: &str) -> Result<(), ServerStop> {
         match writeln!(self.writer, "{line}") {
             Ok(()) => Ok(()),
-            Err(_) => Err(Stop::Common(Other::OutputFault)),
+            Err(_) => Err(ServerStop::Common(Stop::OutputFault)),
         }
     }
 }

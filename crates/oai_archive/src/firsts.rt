@@ -2,10 +2,10 @@
 ghost use Rattle.std.specs.Prelude.{◌≡◌, IfOk, IfSome, IsTrue, OnOk, string_bytes};
 ghost use Rattle.oai_archive.specs.Firsts.{IsOf, IsSameConfig, IsWrittenFor, first_body, program};
 
-use crate::stop::Stop;
+use crate::stop::ServerStop;
 use oai_bytes::read_number;
-use oai_deposit::read_json;
-use oai_journal::Record;
+use oai_journal::LogRecord;
+use oai_json::read_json;
 use serde_json::{Value, put};
 use std::alloc::{AllocError, Global};
 
@@ -30,7 +30,7 @@ pub(crate) fn write_first(alloc: Global, text: &[u8]) -> Result<Vec<u8>, AllocEr
 
 /// Whether the first record has the configuration in the text, ignoring the size of the cache. The errors are `NotOurs`
 /// and `OfVersion`, if the record is not this program's, or of another version of it, and `NoMemory`.
-pub(crate) fn is_of(alloc: Global, first: &Record<'_>, text: &[u8]) -> Result<bool, Stop>
+pub(crate) fn is_of(alloc: Global, first: &LogRecord<'_>, text: &[u8]) -> Result<bool, ServerStop>
     ensures { IfOk result (λ same. IsTrue same → IsOf first.now.name.now first.now.body.now text.now) }
 {
     match config_of(first) {
@@ -69,12 +69,12 @@ fn without_cache(alloc: Global, config: &[u8]) -> Result<Option<String>, AllocEr
 
 /// The configuration in the first record. The errors are `NotOurs` and `OfVersion`, if the record is not this
 /// program's, or of another version of it.
-pub(crate) fn config_of<'a>(first: &Record<'a>) -> Result<&'a [u8], Stop>
+pub(crate) fn config_of<'a>(first: &LogRecord<'a>) -> Result<&'a [u8], ServerStop>
     ensures name { OnOk result (first.now.name.now ≡ program) }
     ensures body { IfOk result (λ config. first.now.body.now ≡ first_body config.now) }
 {
     if first.name != PROGRAM {
-        return Err(Stop::NotOurs);
+        return Err(ServerStop::NotOurs);
     }
     match first.body.strip_prefix(FRONT) {
         Some(config) => Ok(config),
@@ -83,10 +83,10 @@ pub(crate) fn config_of<'a>(first: &Record<'a>) -> Result<&'a [u8], Stop>
 }
 
 /// Why a journal whose first record has that body is not read.
-fn stop_of_version(body: &[u8]) -> Stop {
+fn stop_of_version(body: &[u8]) -> ServerStop {
     match version_in(body) {
-        Some(version) if version != VERSION => Stop::OfVersion(version),
-        _ => Stop::NotOurs,
+        Some(version) if version != VERSION => ServerStop::OfVersion(version),
+        _ => ServerStop::NotOurs,
     }
 }
 

@@ -7,9 +7,9 @@ ghost use Rattle.oai_journal.specs.Recovered.{current, disk_of};
 ghost use Rattle.std.specs.Prelude.{◌≡◌, IfOk, IsTrue, Some};
 
 use crate::firsts::{PROGRAM, config_of, is_of, write_first};
-use crate::stop::Stop;
-use oai_journal::{FileJournal, JournalFault, Kind, Record, Recovery, RecoveryFault};
-use oai_startup::Stop as Other;
+use crate::stop::ServerStop;
+use oai_journal::{FileJournal, JournalFault, Kind, LogRecord, Recovery, RecoveryFault};
+use oai_startup::Stop;
 use sqlite_disk::Disk;
 use std::alloc::Global;
 
@@ -19,19 +19,19 @@ pub fn create_journal<D: Disk + Drop>(
     disk: D,
     moment: i64,
     text: &[u8],
-) -> Result<FileJournal<D>, Stop>
+) -> Result<FileJournal<D>, ServerStop>
     ensures { IfOk result (λ journal. (first : Entry) × HoldsFirst D.Disk.seen D.Disk.may_leave journal first
         × (first.name ≡ program) × (first.body ≡ first_body text.now)) }
 {
     let body = write_first(alloc, text)?;
-    let first = Record {
+    let first = LogRecord {
         moment,
         kind: Kind::Journal,
         name: PROGRAM,
         body: &body,
     };
     if !first.is_fit() {
-        return Err(Stop::Common(Other::CannotRead));
+        return Err(ServerStop::Common(Stop::CannotRead));
     }
     match FileJournal::create(alloc, disk, &first) {
         Ok(journal) => Ok(journal),
@@ -40,7 +40,7 @@ pub fn create_journal<D: Disk + Drop>(
 }
 
 /// The journal on the disk, whose first record is read. The errors are `Damaged`, `InputFault` and `NoMemory`.
-pub fn begin_reading<D: Disk + Drop>(alloc: Global, disk: D) -> Result<Recovery<D>, Stop>
+pub fn begin_reading<D: Disk + Drop>(alloc: Global, disk: D) -> Result<Recovery<D>, ServerStop>
     ensures begun { IfOk result (λ recovery. IsTrue (D.Disk.is_clean (disk_of recovery))
         → HasBegun D.Disk.seen D.Disk.may_leave recovery) }
     ensures seen { IfOk result (λ recovery. D.Disk.seen (disk_of recovery) ≡ D.Disk.seen disk) }
@@ -54,7 +54,11 @@ pub fn begin_reading<D: Disk + Drop>(alloc: Global, disk: D) -> Result<Recovery<
 
 /// The journal on the disk, whose first record is read, and has the configuration in the text, ignoring the size of the
 /// cache. The errors are those of `begin_reading` and of `has_config`, and `NotOurs` if it has another one.
-pub fn begin_for<D: Disk + Drop>(alloc: Global, disk: D, text: &[u8]) -> Result<Recovery<D>, Stop>
+pub fn begin_for<D: Disk + Drop>(
+    alloc: Global,
+    disk: D,
+    text: &[u8],
+) -> Result<Recovery<D>, ServerStop>
     ensures begun { IfOk result (λ recovery. IsTrue (D.Disk.is_clean (disk_of recovery))
         → HasBegunFor D.Disk.seen D.Disk.may_leave text.now recovery) }
     ensures seen { IfOk result (λ recovery. D.Disk.seen (disk_of recovery) ≡ D.Disk.seen disk) }
@@ -63,7 +67,7 @@ pub fn begin_for<D: Disk + Drop>(alloc: Global, disk: D, text: &[u8]) -> Result<
     if has_config(alloc, &recovery, text)? {
         return Ok(recovery);
     }
-    Err(Stop::NotOurs)
+    Err(ServerStop::NotOurs)
 }
 
 /// Whether the first record, which was read, has the configuration in the text, ignoring the size of the cache. The
@@ -72,24 +76,27 @@ pub fn has_config<D: Disk + Drop>(
     alloc: Global,
     recovery: &Recovery<D>,
     text: &[u8],
-) -> Result<bool, Stop>
+) -> Result<bool, ServerStop>
     ensures { IfOk result (λ same. IsTrue same → (first : Entry) → current recovery.now ≡ Some first
         → IsOf first.name first.body text.now) }
 {
     match recovery.record() {
         Some(first) => is_of(alloc, &first, text),
-        None => Err(Stop::NotOurs),
+        None => Err(ServerStop::NotOurs),
     }
 }
 
 /// A copy of the configuration in the first record, which was read. The errors are `NotOurs`, `OfVersion` and
 /// `NoMemory`.
-pub fn config_text<D: Disk + Drop>(alloc: Global, recovery: &Recovery<D>) -> Result<Vec<u8>, Stop>
+pub fn config_text<D: Disk + Drop>(
+    alloc: Global,
+    recovery: &Recovery<D>,
+) -> Result<Vec<u8>, ServerStop>
     ensures { IfOk result (λ text. (first : Entry) → current recovery.now ≡ Some first
         → IsOf first.name first.body text.items) }
 {
     let Some(first) = recovery.record() else {
-        return Err(Stop::NotOurs);
+        return Err(ServerStop::NotOurs);
     };
     let mut text = Vec::new(alloc);
     text.extend_from_slice(config_of(&first)?)?;
@@ -97,18 +104,18 @@ pub fn config_text<D: Disk + Drop>(alloc: Global, recovery: &Recovery<D>) -> Res
 }
 
 /// Why the program stops if the journal could not be written.
-pub(crate) fn stop_of_journal(fault: JournalFault) -> Stop {
+pub(crate) fn stop_of_journal(fault: JournalFault) -> ServerStop {
     match fault {
-        JournalFault::NoRoom => Stop::Common(Other::NoMemory),
-        JournalFault::Failed => Stop::CannotWrite,
+        JournalFault::NoRoom => ServerStop::Common(Stop::NoMemory),
+        JournalFault::Failed => ServerStop::CannotWrite,
     }
 }
 
 /// Why the program stops if the journal cannot be read on.
-pub(crate) fn stop_of_reading(fault: RecoveryFault) -> Stop {
+pub(crate) fn stop_of_reading(fault: RecoveryFault) -> ServerStop {
     match fault {
-        RecoveryFault::Damaged(at) => Stop::Damaged(at),
-        RecoveryFault::Stopped(JournalFault::NoRoom) => Stop::Common(Other::NoMemory),
-        RecoveryFault::Stopped(JournalFault::Failed) => Stop::Common(Other::InputFault),
+        RecoveryFault::Damaged(at) => ServerStop::Damaged(at),
+        RecoveryFault::Stopped(JournalFault::NoRoom) => ServerStop::Common(Stop::NoMemory),
+        RecoveryFault::Stopped(JournalFault::Failed) => ServerStop::Common(Stop::InputFault),
     }
 }

@@ -1,10 +1,10 @@
 //! Why a replay of an archive's journal failed.
 use crate::journals::stop_of_reading;
-use crate::stop::{Aspect, Difference, Stop};
+use crate::stop::{Aspect, Difference, ServerStop};
 use oai_durable::{Progress, RecoverFault};
 use oai_item::Fault;
-use oai_journal::{Record, Recovery};
-use oai_startup::Stop as Other;
+use oai_journal::{LogRecord, Recovery};
+use oai_startup::Stop;
 use sqlite_disk::Disk;
 use std::alloc::Global;
 
@@ -15,17 +15,17 @@ pub(crate) struct Counted {
 }
 
 impl Progress for Counted {
-    fn note(&mut self, _entry: &Record<'_>, number: u64, _position: usize, _len: usize) {
+    fn note(&mut self, _entry: &LogRecord<'_>, number: u64, _position: usize, _len: usize) {
         self.records = number;
     }
 }
 
 /// Why the program stops if the recovery failed.
-pub fn stop_of_recovery(fault: RecoverFault) -> Stop {
+pub fn stop_of_recovery(fault: RecoverFault) -> ServerStop {
     match fault {
         RecoverFault::Journal(fault) => stop_of_reading(fault),
-        RecoverFault::Kind(_) => Stop::NotOurs,
-        RecoverFault::Performing(number, fault) => Stop::Performing(number, fault),
+        RecoverFault::Kind(_) => ServerStop::NotOurs,
+        RecoverFault::Performing(number, fault) => ServerStop::Performing(number, fault),
     }
 }
 
@@ -35,7 +35,7 @@ pub fn stop_of_checkpoint<D: Disk + Drop>(
     alloc: Global,
     fault: RecoverFault,
     recovery: &Recovery<D>,
-) -> Stop {
+) -> ServerStop {
     match fault {
         RecoverFault::Performing(_, Fault::Damaged) => unfit(alloc, recovery),
         _ => stop_of_recovery(fault),
@@ -43,18 +43,18 @@ pub fn stop_of_checkpoint<D: Disk + Drop>(
 }
 
 /// The error that the configuration does not allow the part that was read last.
-fn unfit<D: Disk + Drop>(alloc: Global, recovery: &Recovery<D>) -> Stop {
+fn unfit<D: Disk + Drop>(alloc: Global, recovery: &Recovery<D>) -> ServerStop {
     let Some(part) = recovery.record() else {
-        return Stop::NotOurs;
+        return ServerStop::NotOurs;
     };
     let Ok(name) = str::from_utf8(part.name) else {
-        return Stop::NotOurs;
+        return ServerStop::NotOurs;
     };
     match String::from_str(alloc, name) {
-        Ok(repository) => Stop::OtherConfig(Difference {
+        Ok(repository) => ServerStop::OtherConfig(Difference {
             repository,
             aspect: Aspect::Contents,
         }),
-        Err(_) => Stop::Common(Other::NoMemory),
+        Err(_) => ServerStop::Common(Stop::NoMemory),
     }
 }

@@ -1,11 +1,11 @@
 //! Why a program stops, its message, and its exit status.
 ghost use Rattle.std.specs.Prelude.{◌≡◌};
 ghost use Rattle.oai_archive.specs.Stops as spec;
-ghost use Rattle.oai_archive.specs.declared.stop.Stop.TheVariants as stop;
+ghost use Rattle.oai_archive.specs.declared.stop.ServerStop.TheVariants as stop;
 ghost use Rattle.oai_startup.specs.declared.stop.Stop.TheVariants as other;
 
 use oai_item::Fault;
-use oai_startup::Stop as Other;
+use oai_startup::Stop;
 use oai_time::{Clock, write_second};
 use std::alloc::AllocError;
 use std::error::Error;
@@ -13,9 +13,9 @@ use std::fmt;
 
 /// Why the server stopped.
 #[derive(Debug, PartialEq, Eq, Drop)]
-pub enum Stop {
+pub enum ServerStop {
     /// A cause that stops `oaihost` too.
-    Common(Other),
+    Common(Stop),
     /// The folder, or a file in it, could not be opened or created.
     CannotOpen,
     /// Another process uses the folder.
@@ -77,76 +77,76 @@ impl Aspect {
     }
 }
 
-impl Stop {
+impl ServerStop {
     /// The program's exit status: 2 if the configuration cannot be read, has a fault, or is not the journal's, or if there
     /// is no repository of the name, and 1 for each other cause.
     pub fn status(&self) -> u8
-        ensures { result ≡ spec.status_of self.now }
+        ensures { result ≡ spec.server_status_of self.now }
     {
         match self {
-            Stop::Common(cause) => cause.status(),
-            Stop::CannotOpen => 1,
-            Stop::InUse => 1,
-            Stop::NotOurs => 1,
-            Stop::OfVersion(_) => 1,
-            Stop::Damaged(_) => 1,
-            Stop::Performing(_, _) => 1,
-            Stop::CannotWrite => 1,
-            Stop::Jumped(_) => 1,
-            Stop::OtherConfig(_) => 2,
-            Stop::NoRepository => 2,
+            ServerStop::Common(cause) => cause.status(),
+            ServerStop::CannotOpen => 1,
+            ServerStop::InUse => 1,
+            ServerStop::NotOurs => 1,
+            ServerStop::OfVersion(_) => 1,
+            ServerStop::Damaged(_) => 1,
+            ServerStop::Performing(_, _) => 1,
+            ServerStop::CannotWrite => 1,
+            ServerStop::Jumped(_) => 1,
+            ServerStop::OtherConfig(_) => 2,
+            ServerStop::NoRepository => 2,
         }
     }
 }
 
-impl From<Other> for Stop {
+impl From<Stop> for ServerStop {
     ghost from_gives = { λ cause e. e ≡ stop.Common cause };
 
-    fn from(cause: Other) -> Stop {
-        Stop::Common(cause)
+    fn from(cause: Stop) -> ServerStop {
+        ServerStop::Common(cause)
     }
 }
 
-impl From<AllocError> for Stop {
+impl From<AllocError> for ServerStop {
     ghost from_gives = { λ _ e. e ≡ stop.Common other.NoMemory };
 
-    fn from(_refused: AllocError) -> Stop {
-        Stop::Common(Other::NoMemory)
+    fn from(_refused: AllocError) -> ServerStop {
+        ServerStop::Common(Stop::NoMemory)
     }
 }
 
 /// The program's message on standard error.
-impl fmt::Display for Stop {
+impl fmt::Display for ServerStop {
     ghost use Rattle.std.specs.Prelude.{Some};
-    ghost use Rattle.oai_archive.specs.Stops.{stop_text};
+    ghost use Rattle.oai_archive.specs.Stops.{server_stop_text};
 
-    ghost output = { λ stop. Some (stop_text stop) };
+    ghost output = { λ stop. Some (server_stop_text stop) };
 
     fn fmt<W: fmt::Write>(&self, f: &mut fmt::Formatter<W>) -> fmt::Result {
         match self {
-            Stop::Common(cause) => write!(f, "{cause}"),
-            Stop::CannotOpen => write!(f, "folder: cannot open"),
-            Stop::InUse => write!(f, "folder: in use"),
-            Stop::NotOurs => write!(f, "journal: not of this program"),
-            Stop::OfVersion(version) => write!(f, "journal: of version {version}"),
-            Stop::Damaged(at) => write!(f, "journal: damaged at byte {at}"),
-            Stop::Performing(number, fault) => {
+            ServerStop::Common(cause) => write!(f, "{cause}"),
+            ServerStop::CannotOpen => write!(f, "folder: cannot open"),
+            ServerStop::InUse => write!(f, "folder: in use"),
+            ServerStop::NotOurs => write!(f, "journal: not of this program"),
+            ServerStop::OfVersion(version) => write!(f, "journal: of version {version}"),
+            ServerStop::Damaged(at) => write!(f, "journal: damaged at byte {at}"),
+            ServerStop::Performing(number, fault) => {
                 let (fails, cause) = (performing_fails(), fault_word(*fault));
                 write!(f, "journal: record {number}{fails}{cause}")
             }
-            Stop::CannotWrite => write!(f, "journal: cannot write"),
-            Stop::Jumped(second) => write!(f, "clock: jumped to {}", Second(*second)),
-            Stop::OtherConfig(difference) => {
+            ServerStop::CannotWrite => write!(f, "journal: cannot write"),
+            ServerStop::Jumped(second) => write!(f, "clock: jumped to {}", Second(*second)),
+            ServerStop::OtherConfig(difference) => {
                 let name = difference.repository.as_str();
                 let (differs, word) = (config_differs(), difference.aspect.word());
                 write!(f, "{differs}{name}: {word}")
             }
-            Stop::NoRepository => write!(f, "dump: no such repository"),
+            ServerStop::NoRepository => write!(f, "dump: no such repository"),
         }
     }
 }
 
-impl Error for Stop {}
+impl Error for ServerStop {}
 
 /// The words before the name of a repository that differs.
 #[tactic(auto, unfolding(crate::specs::Stops::config_differs))]
@@ -166,7 +166,7 @@ fn performing_fails() -> &'static str
 
 /// The fault, in words.
 pub fn fault_word(fault: Fault) -> &'static str
-    ensures { result.now ≡ spec.fault_text fault }
+    ensures { result.now ≡ spec.store_fault_text fault }
 {
     match fault {
         Fault::NoMemory => "out of memory",

@@ -7,10 +7,10 @@ ghost use Rattle.std.specs.Prelude.{◌≡◌, ◌++◌, ◌∷◌, [], List, So
 
 use crate::firsts::config_of;
 use crate::journals::stop_of_reading;
-use crate::stop::Stop;
+use crate::stop::ServerStop;
 use oai_durable::{Progress, note_last};
 use oai_journal::Recovery;
-use oai_startup::Stop as Other;
+use oai_startup::Stop;
 use sqlite_disk::Disk;
 use std::alloc::Global;
 use std::io::Write;
@@ -23,17 +23,17 @@ pub fn verify_journal<D: Disk + Drop, W: Write>(
     alloc: Global,
     disk: D,
     writer: &mut W,
-) -> Result<(), Stop> {
+) -> Result<(), ServerStop> {
     let mut recovery = Recovery::new(alloc, disk);
     let mut records = 0;
     let Err(stop) = read_all(&mut recovery, &mut records) else {
         return write_verified(records, recovery.position(), writer);
     };
-    let Stop::Damaged(at) = stop else {
+    let ServerStop::Damaged(at) = stop else {
         return Err(stop);
     };
     match read_all(&mut recovery, &mut records) {
-        Err(Stop::Damaged(again)) if again > at => {}
+        Err(ServerStop::Damaged(again)) if again > at => {}
         Err(stop) => return Err(stop),
         Ok(()) => {}
     }
@@ -41,7 +41,7 @@ pub fn verify_journal<D: Disk + Drop, W: Write>(
 }
 
 /// Reads the whole journal; `records` is then the number of records read after the first one.
-fn read_all<D: Disk + Drop>(recovery: &mut Recovery<D>, records: &mut u64) -> Result<(), Stop>
+fn read_all<D: Disk + Drop>(recovery: &mut Recovery<D>, records: &mut u64) -> Result<(), ServerStop>
     ensures whole { OnOk result (IsTrue (D.Disk.is_clean (disk_of recovery.new))
         → IsVerified D.Disk.seen recovery.new records.new) }
 {
@@ -55,7 +55,10 @@ fn read_all<D: Disk + Drop>(recovery: &mut Recovery<D>, records: &mut u64) -> Re
 }
 
 /// Reads the records after the first one; `records` is then how many were read.
-fn read_rest<D: Disk + Drop>(recovery: &mut Recovery<D>, records: &mut u64) -> Result<(), Stop>
+fn read_rest<D: Disk + Drop>(
+    recovery: &mut Recovery<D>,
+    records: &mut u64,
+) -> Result<(), ServerStop>
     ensures whole { OnOk result (IsTrue (D.Disk.is_clean (disk_of recovery.new))
         → HasBegun D.Disk.seen D.Disk.may_leave recovery.old → IsVerified D.Disk.seen recovery.new records.new) }
     ensures clean { IsTrue (D.Disk.is_clean (disk_of recovery.new)) → IsTrue (D.Disk.is_clean (disk_of recovery.old)) }
@@ -66,11 +69,11 @@ fn read_rest<D: Disk + Drop>(recovery: &mut Recovery<D>, records: &mut u64) -> R
             return Ok(());
         }
     }
-    Err(Stop::Common(Other::InputFault))
+    Err(ServerStop::Common(Stop::InputFault))
 }
 
 /// Reads the next record; returns false if there is none.
-fn read_next<D: Disk + Drop>(recovery: &mut Recovery<D>) -> Result<bool, Stop>
+fn read_next<D: Disk + Drop>(recovery: &mut Recovery<D>) -> Result<bool, ServerStop>
     ensures next { IfOk result (λ more. IsTrue (D.Disk.is_clean (disk_of recovery.new))
         → (first : Entry) (entries : List Entry)
         → HasRecovered D.Disk.seen D.Disk.may_leave recovery.old first entries → IsTrue more
@@ -94,7 +97,10 @@ fn read_next<D: Disk + Drop>(recovery: &mut Recovery<D>) -> Result<bool, Stop>
 pub fn read_over<D: Disk + Drop, P: Progress>(
     recovery: &mut Recovery<D>,
     progress: &mut P,
-) -> Result<(), Stop> {
+) -> Result<(), ServerStop>
+    ensures begun { OnOk result (IsTrue (D.Disk.is_clean (disk_of recovery.new))
+        → HasBegun D.Disk.seen D.Disk.may_leave recovery.new) }
+{
     for count in 0..u64::MAX {
         if !read_next(recovery)? {
             break;
@@ -108,23 +114,23 @@ pub fn read_over<D: Disk + Drop, P: Progress>(
 }
 
 /// Whether the first record, which was read, is this program's.
-fn check_program<D: Disk + Drop>(recovery: &Recovery<D>) -> Result<(), Stop> {
+fn check_program<D: Disk + Drop>(recovery: &Recovery<D>) -> Result<(), ServerStop> {
     match recovery.record() {
         Some(first) => match config_of(&first) {
             Ok(_) => Ok(()),
             Err(stop) => Err(stop),
         },
-        None => Err(Stop::NotOurs),
+        None => Err(ServerStop::NotOurs),
     }
 }
 
 /// Writes the line for a journal of that many records and bytes.
-fn write_verified<W: Write>(records: u64, bytes: usize, writer: &mut W) -> Result<(), Stop> {
+fn write_verified<W: Write>(records: u64, bytes: usize, writer: &mut W) -> Result<(), ServerStop> {
     if writeln!(writer, "ok {records} {bytes}").is_err() {
-        return Err(Stop::Common(Other::OutputFault));
+        return Err(ServerStop::Common(Stop::OutputFault));
     }
     if writer.flush().is_err() {
-        return Err(Stop::Common(Other::OutputFault));
+        return Err(ServerStop::Common(Stop::OutputFault));
     }
     Ok(())
 }

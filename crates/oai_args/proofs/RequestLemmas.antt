@@ -8,10 +8,10 @@ use Rattle.oai_names.specs.declared.list_verbs.ListVerb.{ListVerb}
 use Rattle.oai_names.specs.declared.list_verbs.ListVerb.TheVariants as list
 use Rattle.oai_time.specs.declared.granularity.Granularity.{Granularity}
 use Rattle.oai_args.specs.Arguments.{key_of, known_keys, role_of, given, once, is_never, suits, arguments_in}
-use Rattle.oai_args.specs.Asks.{AskOrError, asks, bad_verb, bad_argument, at_most_once, NamesVerb, IsOf, IsGetRecord, IsList, IsAsk, IsAskOrError}
+use Rattle.oai_args.specs.Asks.{AskOrError, asks, bad_verb, bad_argument, at_most_once, NamesVerb, IsVerbRequest, IsGetRecord, IsList, IsAsk, IsAskOrError}
 use Rattle.oai_args.specs.Bounds.{is_none_or_set_spec, are_bounds}
 use Rattle.oai_args.specs.Pairs.{Pair, has_only_keys, has_xml_values}
-use Rattle.oai_args.specs.Requests.{provided, verb_named, list_of_verb, suit, get_record_of, first_list_of, first_of, next_of, form_of, asked_or_bad, asked_of_verb, asked_verb, request_in, request_of, IsReadFrom, GivesTheAnswer, lists_records}
+use Rattle.oai_args.specs.Requests.{provided, verb_named, list_of_verb, suit, get_record_of, first_list_of, first_of, next_of, form_of, asked_or_bad, asked_of_verb, asked_verb, request_in, request_of, IsReadFrom, GivesTheAnswer, is_by_record_verb}
 use Rattle.oai_names.specs.Optional.{◌>>=◌}
 use Rattle.oai_args.specs.Steps.{result_of}
 use Rattle.oai_args.specs.Verbs.{verbs, name_of, verb_of_list}
@@ -23,8 +23,8 @@ use Rattle.oai_args.specs.declared.requests.Ask.TheVariants as ask
 use Rattle.oai_args.specs.declared.requests.ArgFault.{ArgFault}
 use Rattle.oai_args.specs.declared.roles.Key.{Key}
 use Rattle.oai_args.specs.declared.roles.Key.TheVariants.{Identifier, MetadataPrefix, From, Until, Set, ResumptionToken}
-use Rattle.oai_args.specs.declared.roles.Part.{Part}
-use Rattle.oai_args.specs.declared.roles.Part.TheVariants.{First, Next}
+use Rattle.oai_args.specs.declared.roles.Pagination.{Pagination}
+use Rattle.oai_args.specs.declared.roles.Pagination.TheVariants.{First, Next}
 use Rattle.oai_args.specs.declared.roles.Role.TheVariants.{Optional}
 use Rattle.oai_args.specs.declared.verbs.Verb.{Verb}
 use Rattle.oai_args.specs.declared.verbs.Verb.TheVariants.{Identify, ListMetadataFormats, ListSets, GetRecord, ListIdentifiers, ListRecords}
@@ -87,7 +87,7 @@ seven a b c d e f g h =
 seven_from : (a b c d e f g : Bool) → a ≡ true → b ≡ true → c ≡ true → d ≡ true → e ≡ true → f ≡ true → g ≡ true → (a && b && c && d && e && f && g) ≡ true
 seven_from a b c d e f g p q r s t u v = rw (p, q, r, s, t, u, v) refl
 
-suited_at : (part : Part) (verb : Verb) (pairs : List Pair) → suit part verb (arguments_in pairs) ≡ true → (k : Key) → suits part (role_of verb k) (given (key_of k) pairs) ≡ true
+suited_at : (part : Pagination) (verb : Verb) (pairs : List Pair) → suit part verb (arguments_in pairs) ≡ true → (k : Key) → suits part (role_of verb k) (given (key_of k) pairs) ≡ true
 unfolding suit arguments_in
 suited_at part verb pairs h k =
     let test : Key → Bool = λ key. suits part (role_of verb key) (given (key_of key) pairs) in
@@ -101,16 +101,16 @@ suited_at part verb pairs h k =
       | ResumptionToken ↦ parts.6
     ]
 
-known_at : (part : Part) (verb : Verb) (pairs : List Pair) → suit part verb (arguments_in pairs) ≡ true → has_only_keys known_keys pairs ≡ true
+known_at : (part : Pagination) (verb : Verb) (pairs : List Pair) → suit part verb (arguments_in pairs) ≡ true → has_only_keys known_keys pairs ≡ true
 unfolding suit arguments_in
 known_at part verb pairs h =
     let test : Key → Bool = λ key. suits part (role_of verb key) (given (key_of key) pairs) in
     (seven (has_only_keys known_keys pairs) (test Identifier) (test MetadataPrefix) (test From) (test Until) (test Set) (test ResumptionToken) h).0
 
-is_of : (part : Part) (verb : Verb) (pairs : List Pair) → NamesVerb pairs verb → has_xml_values pairs ≡ true → suit part verb (arguments_in pairs) ≡ true → IsOf part verb pairs
+is_of : (part : Pagination) (verb : Verb) (pairs : List Pair) → NamesVerb pairs verb → has_xml_values pairs ≡ true → suit part verb (arguments_in pairs) ≡ true → IsVerbRequest part verb pairs
 is_of part verb pairs named texts h = record { named = named; known = known_at part verb pairs h; suited = suited_at part verb pairs h; texts = texts }
 
-suit_from : (part : Part) (verb : Verb) (pairs : List Pair) → IsOf part verb pairs → suit part verb (arguments_in pairs) ≡ true
+suit_from : (part : Pagination) (verb : Verb) (pairs : List Pair) → IsVerbRequest part verb pairs → suit part verb (arguments_in pairs) ≡ true
 unfolding suit arguments_in
 suit_from part verb pairs h =
     let test : Key → Bool = λ key. suits part (role_of verb key) (given (key_of key) pairs) in
@@ -148,13 +148,13 @@ made_as granularity pairs made request same h =
     let IsMade : Ask → Type 0 = λ a. IsAsk granularity pairs a in
     subst IsMade same h
 
-formats_is : (granularity : Granularity) (pairs : List Pair) (request : Ask) → IsOf First ListMetadataFormats pairs → first_of granularity ListMetadataFormats (arguments_in pairs) ≡ Some request → IsAsk granularity pairs request
+formats_is : (granularity : Granularity) (pairs : List Pair) (request : Ask) → IsVerbRequest First ListMetadataFormats pairs → first_of granularity ListMetadataFormats (arguments_in pairs) ≡ Some request → IsAsk granularity pairs request
 unfolding first_of arguments_in
 formats_is granularity pairs request asked made =
     let identifier : Given = given (key_of Identifier) pairs in
     made_as granularity pairs (ask.Formats (once identifier)) request (cc) (asked, optional-is identifier (asked.suited Identifier))
 
-item_is : (granularity : Granularity) (pairs : List Pair) (request : Ask) → IsOf First GetRecord pairs → get_record_of (arguments_in pairs) ≡ Some request → IsAsk granularity pairs request
+item_is : (granularity : Granularity) (pairs : List Pair) (request : Ask) → IsVerbRequest First GetRecord pairs → get_record_of (arguments_in pairs) ≡ Some request → IsAsk granularity pairs request
 unfolding get_record_of arguments_in
 item_is granularity pairs request asked made =
     let i = once-then (given (key_of Identifier) pairs) _ request made in
@@ -162,7 +162,7 @@ item_is granularity pairs request asked made =
     let parts = provided-is (is_prefix p.0) (ask.Get i.0 p.0) request p.2 in
     made_as granularity pairs _ request parts.1 (record { asked = asked; identified = i.1; formatted = p.1; syntax = parts.0 })
 
-list_is : (granularity : Granularity) (verb : ListVerb) (pairs : List Pair) (request : Ask) → IsOf First (verb_of_list verb) pairs
+list_is : (granularity : Granularity) (verb : ListVerb) (pairs : List Pair) (request : Ask) → IsVerbRequest First (verb_of_list verb) pairs
     → suits First Optional (given (key_of From) pairs) ≡ true → suits First Optional (given (key_of Until) pairs) ≡ true → suits First Optional (given (key_of Set) pairs) ≡ true
     → first_list_of granularity verb (arguments_in pairs) ≡ Some request → IsAsk granularity pairs request
 unfolding first_list_of arguments_in
@@ -184,7 +184,7 @@ list_is granularity verb pairs request asked starts ends selected made =
       bounds = tests.2;
     })
 
-first_is : (granularity : Granularity) (verb : Verb) (pairs : List Pair) (request : Ask) → IsOf First verb pairs → first_of granularity verb (arguments_in pairs) ≡ Some request → IsAsk granularity pairs request
+first_is : (granularity : Granularity) (verb : Verb) (pairs : List Pair) (request : Ask) → IsVerbRequest First verb pairs → first_of granularity verb (arguments_in pairs) ≡ Some request → IsAsk granularity pairs request
 unfolding first_of
 first_is granularity Identify pairs request asked made = made_as granularity pairs ask.Identify request (cc) asked
 first_is granularity ListMetadataFormats pairs request asked made = formats_is granularity pairs request asked made
@@ -193,13 +193,13 @@ first_is granularity GetRecord pairs request asked made = item_is granularity pa
 first_is granularity ListIdentifiers pairs request asked made = list_is granularity list.Identifiers pairs request asked (asked.suited From) (asked.suited Until) (asked.suited Set) made
 first_is granularity ListRecords pairs request asked made = list_is granularity list.Records pairs request asked (asked.suited From) (asked.suited Until) (asked.suited Set) made
 
-resume_is : (granularity : Granularity) (verb : ListVerb) (pairs : List Pair) (request : Ask) → IsOf Next (verb_of_list verb) pairs
+resume_is : (granularity : Granularity) (verb : ListVerb) (pairs : List Pair) (request : Ask) → IsVerbRequest Next (verb_of_list verb) pairs
     → (once (given (key_of ResumptionToken) pairs) >>= (λ token. Some (ask.Resume verb token))) ≡ Some request → IsAsk granularity pairs request
 resume_is granularity verb pairs request asked made =
     let t = once-then (given (key_of ResumptionToken) pairs) _ request made in
     made_as granularity pairs (ask.Resume verb t.0) request (cc (t.2)) (asked, t.1)
 
-next_is : (granularity : Granularity) (verb : Verb) (pairs : List Pair) (request : Ask) → IsOf Next verb pairs → next_of verb (arguments_in pairs) ≡ Some request → IsAsk granularity pairs request
+next_is : (granularity : Granularity) (verb : Verb) (pairs : List Pair) (request : Ask) → IsVerbRequest Next verb pairs → next_of verb (arguments_in pairs) ≡ Some request → IsAsk granularity pairs request
 unfolding next_of arguments_in
 next_is granularity Identify pairs request asked made = cc
 next_is granularity ListMetadataFormats pairs request asked made = cc
@@ -263,7 +263,7 @@ token_of : (pairs : List Pair) → (arguments_in pairs).token ≡ given (key_of 
 unfolding arguments_in
 token_of pairs = refl
 
-first_from : (granularity : Granularity) (verb : Verb) (pairs : List Pair) (request : Ask) → IsOf First verb pairs → is_never (given (key_of ResumptionToken) pairs) ≡ true
+first_from : (granularity : Granularity) (verb : Verb) (pairs : List Pair) (request : Ask) → IsVerbRequest First verb pairs → is_never (given (key_of ResumptionToken) pairs) ≡ true
     → first_of granularity verb (arguments_in pairs) ≡ Some request → request_of granularity pairs ≡ asks request
 unfolding request_of
 first_from granularity verb pairs request asked never made =
@@ -284,7 +284,7 @@ list_from granularity verb pairs prefix from until set h =
     rw (h.formatted, h.starts, once-at_most_once from, h.ends, once-at_most_once until, h.selected, once-at_most_once set)
     (rw (h.prefix_syntax, h.set_syntax, h.bounds) refl)
 
-next_from : (granularity : Granularity) (verb : ListVerb) (pairs : List Pair) (token : List ℕ) → IsOf Next (verb_of_list verb) pairs → given (key_of ResumptionToken) pairs ≡ Once token → request_of granularity pairs ≡ asks (ask.Resume verb token)
+next_from : (granularity : Granularity) (verb : ListVerb) (pairs : List Pair) (token : List ℕ) → IsVerbRequest Next (verb_of_list verb) pairs → given (key_of ResumptionToken) pairs ≡ Once token → request_of granularity pairs ≡ asks (ask.Resume verb token)
 unfolding request_of next_of
 next_from granularity verb pairs token asked is =
     let given_once : (arguments_in pairs).token ≡ Once token = token_of pairs ∙ is in
@@ -369,7 +369,7 @@ read_from granularity pairs result e =
     subst Is (sym e) (answered_as granularity pairs (request_of granularity pairs) refl)
 
 -- ListSets is never asked for with a metadataPrefix
-records_asked : (granularity : Granularity) (pairs : List Pair) (request : Ask) → IsAsk granularity pairs request → lists_records request ≡ true
+records_asked : (granularity : Granularity) (pairs : List Pair) (request : Ask) → IsAsk granularity pairs request → is_by_record_verb request ≡ true
 records_asked granularity pairs ask.Identify h = refl
 records_asked granularity pairs (ask.Formats identifier) h = refl
 records_asked granularity pairs ask.Sets h = refl
@@ -379,6 +379,6 @@ records_asked granularity pairs (ask.List list.Records prefix from until set) h 
 records_asked granularity pairs (ask.List list.Sets prefix from until set) h = absurd (true≢false (sym (h.asked.suited MetadataPrefix) ∙ ap is_never h.formatted))
 records_asked granularity pairs (ask.Resume verb token) h = refl
 
-pub records_read : (granularity : Granularity) (pairs : List Pair) (result : Result Ask ArgFault) → IsReadFrom granularity pairs result → IfOk result (λ request. lists_records request ≡ true)
+pub records_read : (granularity : Granularity) (pairs : List Pair) (result : Result Ask ArgFault) → IsReadFrom granularity pairs result → IfOk result (λ request. is_by_record_verb request ≡ true)
 records_read granularity pairs (Ok request) is = records_asked granularity pairs request (asks_is granularity pairs request is)
 records_read granularity pairs (Err fault) is = tt

@@ -8,8 +8,8 @@ use Rattle.oai_args.specs.declared.roles.Key.{Key}
 use Rattle.oai_args.specs.declared.roles.Key.TheVariants as key
 use Rattle.oai_args.specs.declared.roles.Role.{Role}
 use Rattle.oai_args.specs.declared.roles.Role.TheVariants.{Required, Optional, Exclusive, Absent}
-use Rattle.oai_args.specs.declared.roles.Part.{Part}
-use Rattle.oai_args.specs.declared.roles.Part.TheVariants.{First, Next}
+use Rattle.oai_args.specs.declared.roles.Pagination.{Pagination}
+use Rattle.oai_args.specs.declared.roles.Pagination.TheVariants.{First, Next}
 use Rattle.oai_args.specs.declared.verbs.Verb.{Verb}
 use Rattle.oai_args.specs.declared.verbs.Verb.TheVariants.{ListMetadataFormats, ListSets, GetRecord, ListIdentifiers, ListRecords}
 
@@ -80,7 +80,7 @@ is_often _ = false
 
 -- an argument with that role is given as often as required: in a first request the required ones once, the optional
 -- ones at most once and no others; in a request for the next part of a list the exclusive one once and no others
-abbrev pub suits : Part → Role → Given → Bool
+abbrev pub suits : Pagination → Role → Given → Bool
 suits First Required given = is_once given
 suits First Optional given = not (is_often given)
 suits First Exclusive given = is_never given

@@ -13,8 +13,8 @@ use Rattle.oai_args.specs.declared.requests.Ask.{Ask}
 use Rattle.oai_args.specs.declared.requests.Ask.TheVariants as ask
 use Rattle.oai_args.specs.declared.roles.Key.{Key}
 use Rattle.oai_args.specs.declared.roles.Key.TheVariants.{Identifier, MetadataPrefix, From, Until, Set, ResumptionToken}
-use Rattle.oai_args.specs.declared.roles.Part.{Part}
-use Rattle.oai_args.specs.declared.roles.Part.TheVariants.{First, Next}
+use Rattle.oai_args.specs.declared.roles.Pagination.{Pagination}
+use Rattle.oai_args.specs.declared.roles.Pagination.TheVariants.{First, Next}
 use Rattle.oai_args.specs.declared.verbs.Verb.{Verb}
 use Rattle.oai_args.specs.declared.verbs.Verb.TheVariants.{Identify, ListMetadataFormats, ListSets, GetRecord}
 
@@ -31,7 +31,7 @@ NamesVerb pairs verb = given (codes "verb") pairs ≡ Once (name_of verb)
 -- the pairs are those of a first request of the verb, or of one for the next part of its list: `verb` is given once,
 -- with the verb's name; every key is known; each argument is given as often as its role requires; every value is a text
 -- of XML characters
-pub record IsOf (part : Part) (verb : Verb) (pairs : List Pair) : Type 0 where
+pub record IsVerbRequest (part : Pagination) (verb : Verb) (pairs : List Pair) : Type 0 where
   pub named : NamesVerb pairs verb
   pub known : has_only_keys known_keys pairs ≡ true
   pub suited : (key : Key) → suits part (role_of verb key) (given (key_of key) pairs) ≡ true
@@ -52,7 +52,7 @@ IsGivenAtMostOnce key pairs value = given (key_of key) pairs ≡ at_most_once va
 
 -- GetRecord (section 4.1): identifier is any text, and metadataPrefix has its syntax
 pub record IsGetRecord (pairs : List Pair) (identifier prefix : List ℕ) : Type 0 where
-  pub asked : IsOf First GetRecord pairs
+  pub asked : IsVerbRequest First GetRecord pairs
   pub identified : IsGiven Identifier pairs identifier
   pub formatted : IsGiven MetadataPrefix pairs prefix
   pub syntax : is_prefix prefix ≡ true
@@ -61,7 +61,7 @@ pub record IsGetRecord (pairs : List Pair) (identifier prefix : List ℕ) : Type
 -- ListSets this is never true: it has no metadataPrefix
 pub record IsList (granularity : Granularity) (verb : Verb) (pairs : List Pair)
     (prefix : List ℕ) (from until set : Option (List ℕ)) : Type 0 where
-  pub asked : IsOf First verb pairs
+  pub asked : IsVerbRequest First verb pairs
   pub formatted : IsGiven MetadataPrefix pairs prefix
   pub starts : IsGivenAtMostOnce From pairs from
   pub ends : IsGivenAtMostOnce Until pairs until
@@ -73,15 +73,15 @@ pub record IsList (granularity : Granularity) (verb : Verb) (pairs : List Pair)
 -- the pairs make this request in a repository with the granularity: a case for each form. The identifier of
 -- ListMetadataFormats (section 4.4) and the resumptionToken of a list (section 3.5) are any texts
 abbrev pub IsAsk : Granularity → List Pair → Ask → Type 0
-IsAsk granularity pairs ask.Identify = IsOf First Identify pairs
+IsAsk granularity pairs ask.Identify = IsVerbRequest First Identify pairs
 IsAsk granularity pairs (ask.Formats identifier) =
-    IsOf First ListMetadataFormats pairs × IsGivenAtMostOnce Identifier pairs identifier
-IsAsk granularity pairs ask.Sets = IsOf First ListSets pairs
+    IsVerbRequest First ListMetadataFormats pairs × IsGivenAtMostOnce Identifier pairs identifier
+IsAsk granularity pairs ask.Sets = IsVerbRequest First ListSets pairs
 IsAsk granularity pairs (ask.Get identifier prefix) = IsGetRecord pairs identifier prefix
 IsAsk granularity pairs (ask.List verb prefix from until set) =
     IsList granularity (verb_of_list verb) pairs prefix from until set
 IsAsk granularity pairs (ask.Resume verb token) =
-    IsOf Next (verb_of_list verb) pairs × IsGiven ResumptionToken pairs token
+    IsVerbRequest Next (verb_of_list verb) pairs × IsGiven ResumptionToken pairs token
 
 -- the pairs make this request; or no verb is named; or a verb is, and they make no request
 abbrev pub IsAskOrError : Granularity → List Pair → AskOrError → Type 0

@@ -16,8 +16,8 @@ use Rattle.oai_args.specs.declared.requests.Ask.TheVariants as ask
 use Rattle.oai_args.specs.declared.requests.ArgFault.{ArgFault}
 use Rattle.oai_args.specs.declared.requests.ArgFault.TheVariants.{BadVerb, BadArgument, NoMemory}
 use Rattle.oai_args.specs.declared.roles.Key.TheVariants as key
-use Rattle.oai_args.specs.declared.roles.Part.{Part}
-use Rattle.oai_args.specs.declared.roles.Part.TheVariants.{First, Next}
+use Rattle.oai_args.specs.declared.roles.Pagination.{Pagination}
+use Rattle.oai_args.specs.declared.roles.Pagination.TheVariants.{First, Next}
 use Rattle.oai_args.specs.declared.verbs.Verb.{Verb}
 use Rattle.oai_args.specs.declared.verbs.Verb.TheVariants.{Identify, ListMetadataFormats, ListSets, GetRecord, ListIdentifiers, ListRecords}
 
@@ -37,7 +37,7 @@ list_of_verb ListRecords = Some list.Records
 list_of_verb _ = None
 
 -- each argument suits its role
-unfoldable pub suit : Part → Verb → Arguments → Bool
+unfoldable pub suit : Pagination → Verb → Arguments → Bool
 suit part verb given =
     given.are_keys_known
     && suits part (role_of verb key.Identifier) given.identifier
@@ -121,9 +121,9 @@ IsReadFrom granularity pairs (Err BadArgument) = request_of granularity pairs �
 IsReadFrom granularity pairs (Err NoMemory) = pairs ≢ []
 
 -- a request for a list of records, from the first on, is by a verb of such lists; other requests are unrestricted
-abbrev pub lists_records : Ask → Bool
-lists_records (ask.List verb prefix from until set) = is_of_records verb
-lists_records request = true
+abbrev pub is_by_record_verb : Ask → Bool
+is_by_record_verb (ask.List verb prefix from until set) = is_of_records verb
+is_by_record_verb request = true
 
 -- ---- the law of the function and the relation
 

@@ -5,7 +5,7 @@ ghost use Rattle.oai_args.specs.Requests.{asked_verb, suit};
 ghost use Rattle.oai_args.specs.Steps.{arguments_with};
 
 use crate::givens::Given;
-use crate::roles::{Key, Part};
+use crate::roles::{Key, Pagination};
 use crate::verbs::Verb;
 use oai_names::is_xml_text;
 use std::alloc::{AllocError, Global};
@@ -103,7 +103,7 @@ impl Arguments {
 
     /// Whether every key is known, and each argument is given as often as its role requires.
     #[tactic(auto, unfolding(crate::specs::Requests::suit))]
-    pub(crate) fn suit(&self, part: Part, verb: Verb) -> bool
+    pub(crate) fn suit(&self, part: Pagination, verb: Verb) -> bool
         ensures { result ≡ suit part verb self.now }
     {
         self.are_keys_known

@@ -6,7 +6,7 @@ ghost use Rattle.oai_args.specs.Steps.{result_of};
 use crate::arguments::Arguments;
 use crate::bounds::{are_not_turned, none_or_bound};
 use crate::requests::{ArgFault, Ask};
-use crate::roles::Part;
+use crate::roles::Pagination;
 use crate::verbs::Verb;
 use oai_names::{ListVerb, Text, is_prefix, is_set_spec};
 use oai_time::Granularity;
@@ -35,12 +35,12 @@ impl Arguments {
         ensures { result ≡ spec.form_of granularity verb self.old }
     {
         if self.token.is_never() {
-            if self.suit(Part::First, verb) {
+            if self.suit(Pagination::First, verb) {
                 self.take_first(granularity, verb)
             } else {
                 None
             }
-        } else if self.suit(Part::Next, verb) {
+        } else if self.suit(Pagination::Next, verb) {
             self.take_next(verb)
         } else {
             None

@@ -1,6 +1,6 @@
 ghost use Rattle.std.specs.Prelude.{◌≡◌, true, IfOk};
 ghost use Rattle.oai_args.specs.Pairs.{decoded_pairs};
-ghost use Rattle.oai_args.specs.Requests.{GivesTheAnswer, IsReadFrom, lists_records};
+ghost use Rattle.oai_args.specs.Requests.{GivesTheAnswer, IsReadFrom, is_by_record_verb};
 
 use crate::arguments::Arguments;
 use crate::bounds::BoundText;
@@ -70,7 +70,7 @@ pub enum ArgFault {
 /// `List` is by `Identifiers` or `Records`.
 pub fn read_request(alloc: Global, query: &[u8], granularity: Granularity) -> Result<Ask, ArgFault>
     ensures read { IsReadFrom granularity (decoded_pairs query.now) result }
-    ensures lists { IfOk result (λ ask. lists_records ask ≡ true) }
+    ensures lists { IfOk result (λ ask. is_by_record_verb ask ≡ true) }
 {
     match Arguments::read(alloc, query) {
         Ok(mut arguments) => arguments.take_request(granularity),

@@ -28,7 +28,7 @@ pub(crate) enum Role {
 
 /// Which requests of a verb are meant.
 #[derive(Clone, Copy)]
-pub(crate) enum Part {
+pub(crate) enum Pagination {
     /// Those without a resumptionToken.
     First,
     /// Those for the next part of a list.
@@ -75,20 +75,20 @@ fn role_in_list(key: Key) -> Role
     }
 }
 
-impl Part {
+impl Pagination {
     /// Whether an argument with the role is given as often as such a request requires.
     pub(crate) fn suits(self, role: Role, given: &Given) -> bool
         ensures { result ≡ suits self role given.now }
     {
         match (self, role) {
-            (Part::First, Role::Required) => given.is_once(),
-            (Part::First, Role::Optional) => !given.is_often(),
-            (Part::First, Role::Exclusive) => given.is_never(),
-            (Part::First, Role::Absent) => given.is_never(),
-            (Part::Next, Role::Required) => given.is_never(),
-            (Part::Next, Role::Optional) => given.is_never(),
-            (Part::Next, Role::Exclusive) => given.is_once(),
-            (Part::Next, Role::Absent) => given.is_never(),
+            (Pagination::First, Role::Required) => given.is_once(),
+            (Pagination::First, Role::Optional) => !given.is_often(),
+            (Pagination::First, Role::Exclusive) => given.is_never(),
+            (Pagination::First, Role::Absent) => given.is_never(),
+            (Pagination::Next, Role::Required) => given.is_never(),
+            (Pagination::Next, Role::Optional) => given.is_never(),
+            (Pagination::Next, Role::Exclusive) => given.is_once(),
+            (Pagination::Next, Role::Absent) => given.is_never(),
         }
     }
 }

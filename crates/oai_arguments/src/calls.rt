@@ -38,6 +38,8 @@ pub enum Called<'a> {
         /// Whether it reports no progress.
         is_quiet: bool,
     },
+    /// Writes the canonical text of the XML element in a file, or in the standard input (`-`).
+    Xml(&'a str),
 }
 
 /// How the program serves.
@@ -83,6 +85,7 @@ fn of_texts<'a>(name: &str, given: &ArgMatches<'a>) -> Called<'a> {
             folder: text_of(given, "FOLDER"),
             name: text_of(given, "NAME"),
         },
+        "xml" => Called::Xml(text_of(given, "FILE")),
         _ => Called::Checkpoint {
             config: text_of(given, "CONFIG"),
             folder: text_of(given, "FOLDER"),

@@ -1,5 +1,7 @@
 //! The commands of the program, as `clap` reads them.
-use crate::texts::{CHECK_END, CHECKPOINT_END, DUMP_END, PROGRAM_END, SERVE_END, VERIFY_END};
+use crate::texts::{
+    CHECK_END, CHECKPOINT_END, DUMP_END, PROGRAM_END, SERVE_END, VERIFY_END, XML_END,
+};
 use clap::{Arg, ArgAction, Command};
 use std::alloc::{AllocError, Global};
 
@@ -12,7 +14,7 @@ pub(crate) fn program<'a>(alloc: Global, version: &'a str) -> Result<Command<'a>
         .subcommand_required(true);
     let top = top.subcommand(serve(alloc)?)?.subcommand(check(alloc)?)?;
     let top = top.subcommand(verify(alloc)?)?.subcommand(dump(alloc)?)?;
-    top.subcommand(checkpoint(alloc)?)
+    top.subcommand(checkpoint(alloc)?)?.subcommand(xml(alloc)?)
 }
 
 /// The command that serves.
@@ -76,6 +78,18 @@ fn checkpoint<'a>(alloc: Global) -> Result<Command<'a>, AllocError> {
         .arg(wanted(alloc, "CONFIG", "The file of the configuration"))?
         .arg(wanted(alloc, "FOLDER", "The folder of the journal"))?
         .arg(quiet(alloc))
+}
+
+/// The command that writes the canonical text of an XML element.
+fn xml<'a>(alloc: Global) -> Result<Command<'a>, AllocError> {
+    Command::new(alloc, "xml")
+        .about("Write the canonical text of an XML element, or say where it is none")
+        .after_help(XML_END)
+        .arg(wanted(
+            alloc,
+            "FILE",
+            "The file of the element; - means the standard input",
+        ))
 }
 
 /// An argument that has to be there, at its place.

@@ -19,3 +19,6 @@ pub(crate) const DUMP_END: &str =
 
 pub(crate) const CHECKPOINT_END: &str =
     "Example: oaihostd checkpoint archive.json archive{n}{n}No server may run meanwhile. All open lists end.";
+
+pub(crate) const XML_END: &str =
+    "Example: oaihostd xml record.xml{n}{n}The text is an XML document without a document type, of UTF-8.";

@@ -12,31 +12,31 @@ use Rattle.oai_device.specs.Device.{CountsFailures}
 -- ---- the lists
 
 -- the list of items under each number that is in use
-abbrev pub Lists : Type 0
-Lists = ℕ → Option (List ItemState)
+abbrev pub VersionLists : Type 0
+VersionLists = ℕ → Option (List ItemState)
 
 -- no number is in use
-abbrev pub no_lists : Lists
+abbrev pub no_lists : VersionLists
 no_lists v = None
 
 -- these lists, with that list under the number
-abbrev pub with_list : ℕ → List ItemState → Lists → Lists
+abbrev pub with_list : ℕ → List ItemState → VersionLists → VersionLists
 with_list v items lists n = if n == v then Some items else lists n
 
 -- these lists, without that number
-abbrev pub without_list : ℕ → Lists → Lists
+abbrev pub without_list : ℕ → VersionLists → VersionLists
 without_list v lists n = if n == v then None else lists n
 
 -- the list under that number, empty if it is not in use
-abbrev pub list_at : Lists → ℕ → List ItemState
+abbrev pub list_at : VersionLists → ℕ → List ItemState
 list_at lists v = unwrap_or (lists v) []
 
 -- only the list under that number may have changed
-abbrev pub ChangesOnly : ℕ → Lists → Lists → Type 0
+abbrev pub ChangesOnly : ℕ → VersionLists → VersionLists → Type 0
 ChangesOnly v old new = new ≡ with_list v (list_at new v) old
 
 -- each list rises strictly by datestamp and identifier
-abbrev pub AreInOrder : Lists → Type 0
+abbrev pub AreInOrder : VersionLists → Type 0
 AreInOrder lists = (v : ℕ) → are_in_order (list_at lists v) ≡ true
 
 -- ---- the faults

@@ -9,7 +9,7 @@ use Rattle.std.proofs.lemmas.List.Elements.{filter-append}
 use Rattle.oai_host.proofs.RunLemmas.{all_answered, exchanged_last}
 use Rattle.oai_host.specs.Hosts.{HostState}
 use Rattle.oai_http.specs.declared.exchanges.Call.{Call}
-use Rattle.oai_cli.specs.Asked.{AreAsked, AreDone, AreEnded, IsLineOutcome}
+use Rattle.oai_cli.specs.Asked.{AreAsked, AreDone, AreDoneAndCounted, IsLineOutcome}
 use Rattle.oai_cli.specs.Inputs.{IsNextLine, IsUnread, left, unread, IsReadSoFar}
 use Rattle.oai_cli.specs.ExchangeLines.{IsLineDone, IsUnspecified, is_bad, is_line_filled, shown, parse_exchange}
 use Rattle.oai_cli.specs.NumberedLines.{AreFirst, line_count, lines_of}
@@ -20,7 +20,7 @@ use Rattle.oai_cli.proofs.ReadLemmas.{counted_next, known_so, number_next, read_
 
 -- ---- lines that are done
 
-pub ended_none : (host : HostState) (known : Option (List ℕ)) → AreEnded host host 0 (Appends known known) []
+pub ended_none : (host : HostState) (known : Option (List ℕ)) → AreDoneAndCounted host host 0 (Appends known known) []
 ended_none host known = record {
   honest = refl;
   counted = refl;
@@ -64,7 +64,7 @@ done_line front line old mid new Before Last Writes join full done last =
     }
 
 ended_as : (front : List (List ℕ)) (line : List ℕ) (old mid new : HostState) (was is : ℕ) (Before Writes : List ℕ → Type 0) → is ≡ min (was + 1) (2 ^ 64 - 1) → new.honest ≡ mid.honest
-    → AreEnded old mid was Before front → AreDone (front ++ line ∷ []) old new Writes → AreEnded old new is Writes (front ++ line ∷ [])
+    → AreDoneAndCounted old mid was Before front → AreDone (front ++ line ∷ []) old new Writes → AreDoneAndCounted old new is Writes (front ++ line ∷ [])
 ended_as front line old mid new was is Before Writes counted honest ended done = record {
   honest = honest ∙ ended.honest;
   counted = counted_next front line was is counted ended.counted;
@@ -72,13 +72,13 @@ ended_as front line old mid new was is Before Writes counted honest ended done =
 }
 
 pub ended_empty : (front : List (List ℕ)) (line : List ℕ) (old new : HostState) (was is : ℕ) (Writes : List ℕ → Type 0) → is ≡ min (was + 1) (2 ^ 64 - 1) → is_line_filled line ≡ false
-    → AreEnded old new was Writes front → AreEnded old new is Writes (front ++ line ∷ [])
+    → AreDoneAndCounted old new was Writes front → AreDoneAndCounted old new is Writes (front ++ line ∷ [])
 ended_empty front line old new was is Writes counted empty ended =
     ended_as front line old new new was is Writes Writes counted refl ended (done_empty front line old new Writes empty ended.done)
 
 ended_line : (front : List (List ℕ)) (line : List ℕ) (old mid new : HostState) (was is : ℕ) (from before after : Option (List ℕ)) → is ≡ min (was + 1) (2 ^ 64 - 1)
-    → is_line_filled line ≡ true → new.honest ≡ mid.honest → IsLineDone line mid new (Appends before after) → AreEnded old mid was (Appends from before) front
-    → AreEnded old new is (Appends from after) (front ++ line ∷ [])
+    → is_line_filled line ≡ true → new.honest ≡ mid.honest → IsLineDone line mid new (Appends before after) → AreDoneAndCounted old mid was (Appends from before) front
+    → AreDoneAndCounted old new is (Appends from after) (front ++ line ∷ [])
 ended_line front line old mid new was is from before after counted full honest last ended =
     ended_as front line old mid new was is (Appends from before) (Appends from after) counted honest ended
     (done_line front line old mid new (Appends from before) (Appends before after) (Appends from after) (appends_both from before after) full ended.done last)
@@ -93,7 +93,7 @@ ended_stopped : (front : List (List ℕ)) (line : List ℕ) (old mid new : HostS
     → is_line_filled line ≡ true
     → (is_none (parse_exchange line) ≡ true → (stop ≡ BadExchange is) × (new ≡ mid) × (after ≡ before))
     → (is_none (parse_exchange line) ≡ false → (stop ≡ OutputFault) × IsLineDone line mid new IsUnspecified)
-    → AreEnded old mid was (Appends from before) front → IsLineOutcome front line old (Err stop) new is (Appends from after)
+    → AreDoneAndCounted old mid was (Appends from before) front → IsLineOutcome front line old (Err stop) new is (Appends from after)
 ended_stopped front line old mid new was is from before after stop counted full bad good ended = elim (cases_Bool (is_none (parse_exchange line))) [
   | inl none ↦
       let so = bad none in
@@ -119,7 +119,7 @@ pub ended_so : (front : List (List ℕ)) (line : List ℕ) (old mid new : HostSt
     → is_line_filled line ≡ true → (is_none (parse_exchange line) ≡ true → result ≡ Err (BadExchange is)) → (is_none (parse_exchange line) ≡ true → new ≡ mid) → (is_none (parse_exchange line) ≡ true → after ≡ before)
     → (is_none (parse_exchange line) ≡ false → IfErr result (λ (stop : Stop). stop ≡ OutputFault)) → OnOk result (IsLineDone line mid new (Appends before after))
     → (is_none (parse_exchange line) ≡ false → IsLineDone line mid new IsUnspecified) → new.honest ≡ mid.honest
-    → AreEnded old mid was (Appends from before) front → IsLineOutcome front line old result new is (Appends from after)
+    → AreDoneAndCounted old mid was (Appends from before) front → IsLineOutcome front line old result new is (Appends from after)
 ended_so front line old mid new was is from before after (Ok done) counted full bad bad_host bad_written good last performed honest ended =
     ended_line front line old mid new was is from before after counted full honest last ended
 ended_so front line old mid new was is from before after (Err stop) counted full bad bad_host bad_written good last performed honest ended =
@@ -146,19 +146,19 @@ stopped_there front lines others line old new is Writes NoMemory cut ended = let
 
 -- it stops at a line
 pub asked_stopped : (known : Option (List ℕ)) (lines others : Option (List (List ℕ))) (line : List ℕ) (old mid new : HostState) (was is : ℕ) (Before Writes : List ℕ → Type 0) (stop : Stop)
-    → IsNextLine lines (Ok true) line others → ((front : List (List ℕ)) → AreEnded old mid was Before front → IsLineOutcome front line old (Err stop) new is Writes)
-    → IsReadSoFar known lines (AreEnded old mid was Before) → IfSome known (λ (input : List ℕ). AreAsked (lines_of input) old (Err stop) new Writes)
+    → IsNextLine lines (Ok true) line others → ((front : List (List ℕ)) → AreDoneAndCounted old mid was Before front → IsLineOutcome front line old (Err stop) new is Writes)
+    → IsReadSoFar known lines (AreDoneAndCounted old mid was Before) → IfSome known (λ (input : List ℕ). AreAsked (lines_of input) old (Err stop) new Writes)
 asked_stopped known lines others line old mid new was is Before Writes stop next goes so_far =
-    read_to known lines others line (AreEnded old mid was Before) (λ all. AreAsked all old (Err stop) new Writes) next
+    read_to known lines others line (AreDoneAndCounted old mid was Before) (λ all. AreAsked all old (Err stop) new Writes) next
     (λ front rest all cut ended. stopped_there front all rest line old new is Writes stop cut (goes front ended)) so_far
 
 -- there is no line more
 pub asked_whole : (known : Option (List ℕ)) (lines others : Option (List (List ℕ))) (line : List ℕ) (old new : HostState) (count : ℕ) (Writes : List ℕ → Type 0)
-    → IsNextLine lines (Ok false) line others → IsReadSoFar known lines (AreEnded old new count Writes)
+    → IsNextLine lines (Ok false) line others → IsReadSoFar known lines (AreDoneAndCounted old new count Writes)
     → IfSome known (λ (input : List ℕ). AreAsked (lines_of input) old (Ok tt) new Writes)
 asked_whole known lines others line old new count Writes next so_far =
-    known_so known (λ (input : List ℕ). AreEnded old new count Writes (lines_of input)) (λ (input : List ℕ). AreDone (lines_of input) old new Writes) (λ input ended. ended.done)
-    (read_whole known lines others line (AreEnded old new count Writes) next so_far)
+    known_so known (λ (input : List ℕ). AreDoneAndCounted old new count Writes (lines_of input)) (λ (input : List ℕ). AreDone (lines_of input) old new Writes) (λ input ended. ended.done)
+    (read_whole known lines others line (AreDoneAndCounted old new count Writes) next so_far)
 
 -- the input is not read to its end: the lines that were read are done
 begun_so : (lines : List (List ℕ)) (old new : HostState) (Writes : List ℕ → Type 0) (stop : Stop) → IsUnread stop → AreFirst lines (λ front. AreDone front old new Writes)
@@ -167,9 +167,9 @@ begun_so lines old new Writes stop (inl is) begun = subst (λ (s : Stop). AreAsk
 begun_so lines old new Writes stop (inr is) begun = subst (λ (s : Stop). AreAsked lines old (Err s) new Writes) (sym is) begun
 
 pub asked_unread : (known : Option (List ℕ)) (lines : Option (List (List ℕ))) (old new : HostState) (count : ℕ) (Writes : List ℕ → Type 0) (stop : Stop) → IsUnread stop
-    → IsReadSoFar known lines (AreEnded old new count Writes) → IfSome known (λ (input : List ℕ). AreAsked (lines_of input) old (Err stop) new Writes)
+    → IsReadSoFar known lines (AreDoneAndCounted old new count Writes) → IfSome known (λ (input : List ℕ). AreAsked (lines_of input) old (Err stop) new Writes)
 asked_unread known lines old new count Writes stop cause so_far =
-    read_front known lines (AreEnded old new count Writes) (λ all. AreAsked all old (Err stop) new Writes)
+    read_front known lines (AreDoneAndCounted old new count Writes) (λ all. AreAsked all old (Err stop) new Writes)
     (λ front others all cut ended. begun_so all old new Writes stop cause (record { front = front; others = others; cut = cut; holds = ended.done })) so_far
 
 -- nothing of it is read
@@ -177,7 +177,7 @@ pub asked_none : (known : Option (List ℕ)) (host : HostState) (written : Optio
     → IfSome known (λ (input : List ℕ). AreAsked (lines_of input) host (Err stop) host (Appends written written))
 asked_none known host written stop is =
     asked_unread known (left unread known) host host 0 (Appends written written) stop (inr is)
-    (read_none known (AreEnded host host 0 (Appends written written)) (ended_none host written))
+    (read_none known (AreDoneAndCounted host host 0 (Appends written written)) (ended_none host written))
 
 -- ---- what was written is kept
 

@@ -4,7 +4,7 @@ use Rattle.std.specs.Prelude.{OnOk}
 use Rattle.oai_front.specs.Fronts.{IsOpening, State}
 use Rattle.oai_front.specs.Performing.{Steps}
 use Rattle.oai_front.specs.declared.numbers.ConnId.{ConnId}
-use Rattle.oai_cli.specs.Outputs.{ArePiecesAnswered, IsPieceAnswered, IsServed, AnswersPieces, TimedPiece, is_taking, IsOpenedFault, IsReadOnFault}
+use Rattle.oai_cli.specs.Outputs.{ArePiecesAnswered, IsPieceAnswered, IsConnectionServed, AnswersPieces, TimedPiece, is_taking, IsOpenedFault, IsReadOnFault}
 use Rattle.oai_cli.specs.declared.serve.streams.StreamFault.{StreamFault}
 use Rattle.oai_cli.specs.declared.serve.streams.StreamFault.TheVariants as stream
 
@@ -46,7 +46,7 @@ pieces_answered step number moment piece old new Writes (Err fault) answered = t
 -- a connection that was opened, served and forgotten
 pub served_so : {H : Type 0} (step : Steps H) (conn : ConnId) (old opened left new : State H) (AtEnd : Type 0) (result : Result Unit StreamFault) → IsOpening old (Ok conn) opened
     → OnOk result (AnswersPieces step conn.number opened left) → OnOk result ((is_taking conn.number left ≡ false) ⊎ AtEnd) → new.handler ≡ left.handler
-    → OnOk result (IsServed step old new AtEnd)
+    → OnOk result (IsConnectionServed step old new AtEnd)
 served_so step conn old opened left new AtEnd (Ok done) opens pieces over handler = record {
   conn = conn;
   opened = opened;

@@ -18,7 +18,7 @@ use Rattle.oai_cli.specs.ExchangeLines.{IsUnspecified, is_line_filled}
 use Rattle.oai_cli.specs.Outputs.{StaysApart, OthersStay}
 use Rattle.oai_cli.specs.NumberedLines.{lines_of}
 use Rattle.oai_cli.specs.Stops.{StopsTracing}
-use Rattle.oai_cli.specs.Traces.{AreFollowed, AreTraced, AreTracedTo, BeginsOnly, HasBegun, IsBrokenOff, IsFirst, IsFollowed, IsFollowedOn, IsConnectionOf, IsUnopenable, IsTraced, Shown, Tracing, number_or, shown_on, nothing_traced, AreLinesCounted, IsBroken, IsLine, IsUnopened}
+use Rattle.oai_cli.specs.Traces.{AreEventsTraced, AreTraced, AreTracedTo, BeginsOnly, HasReadEvent, IsBrokenOff, IsFirst, IsFollowed, IsFollowedOn, IsConnectionOf, IsUnopenable, IsTraced, Shown, Tracing, number_or, shown_on, nothing_traced, AreLinesCounted, IsBroken, IsLine, IsUnopened}
 use Rattle.oai_cli.specs.declared.trace.events.Event.{Event}
 use Rattle.oai_startup.specs.declared.stop.Stop.{Stop}
 use Rattle.oai_startup.specs.declared.stop.Stop.TheVariants.{BadConfig, BadExchange, BadPiece, CannotRead, DeviceFault, InputFault, NoMemory, OutputFault, SocketFault, TooManyConnections, Usage}
@@ -98,7 +98,7 @@ line_forgotten step line number event old mid known full parsed_as of =
 
 -- what it tells is followed on its connection, or is not to the end
 line_broken : {H : Type 0} (step : Steps H) (line : List ℕ) (number : ℕ) (old new : Tracing H) (Writes : List ℕ → Type 0) (stop : Stop) → IsBroken stop
-    → HasBegun line old new.front → IsLine step line number old (Err stop) new Writes
+    → HasReadEvent line old new.front → IsLine step line number old (Err stop) new Writes
 line_broken step line number old new Writes stop (inl is) begun = subst (λ (s : Stop). IsLine step line number old (Err s) new Writes) (sym is) (inl refl, inr begun)
 line_broken step line number old new Writes stop (inr is) begun = subst (λ (s : Stop). IsLine step line number old (Err s) new Writes) (sym is) (inr refl, inr begun)
 
@@ -140,7 +140,7 @@ followed_text step event (Some conn) old new Writes on = (
 
 -- an empty line more
 passed_more : {H : Type 0} (step : Steps H) (front : List (List ℕ)) (line : List ℕ) (old : State H) (new : Tracing H) (Writes : List ℕ → Type 0) → is_line_filled line ≡ false
-    → AreFollowed step front old new Writes → AreFollowed step (front ++ line ∷ []) old new Writes
+    → AreEventsTraced step front old new Writes → AreEventsTraced step (front ++ line ∷ []) old new Writes
 passed_more step front line old new Writes empty done = record {
   events = done.events;
   read =
@@ -152,8 +152,8 @@ passed_more step front line old new Writes empty done = record {
 
 -- a line more that tells an event
 followed_more : {H : Type 0} (step : Steps H) (front : List (List ℕ)) (line : List ℕ) (event : Event) (old : State H) (mid new : Tracing H) (from was is : Option (List ℕ))
-    → is_line_filled line ≡ true → parse_event line ≡ Some event → IsFollowed step event mid new (Appends was is) → AreFollowed step front old mid (Appends from was)
-    → AreFollowed step (front ++ line ∷ []) old new (Appends from is)
+    → is_line_filled line ≡ true → parse_event line ≡ Some event → IsFollowed step event mid new (Appends was is) → AreEventsTraced step front old mid (Appends from was)
+    → AreEventsTraced step (front ++ line ∷ []) old new (Appends from is)
 followed_more step front line event old mid new from was is full parsed_as last done =
     let said = followed_text step event last.conn last.mid new (Appends was is) last.on in
     let shown : Shown = record { event = event; text = said.0 } in
@@ -177,13 +177,13 @@ followed_more step front line event old mid new from was is full parsed_as last 
     }
 
 -- where nothing is said of what was written
-followed_unsaid : {H : Type 0} (step : Steps H) (lines : List (List ℕ)) (old : State H) (new : Tracing H) (Writes : List ℕ → Type 0) → AreFollowed step lines old new Writes
-    → AreFollowed step lines old new IsUnspecified
+followed_unsaid : {H : Type 0} (step : Steps H) (lines : List (List ℕ)) (old : State H) (new : Tracing H) (Writes : List ℕ → Type 0) → AreEventsTraced step lines old new Writes
+    → AreEventsTraced step lines old new IsUnspecified
 followed_unsaid step lines old new Writes done = record { events = done.events; read = done.read; run = done.run; written = tt }
 
 -- what is not written any more
 followed_on : {H : Type 0} (step : Steps H) (lines : List (List ℕ)) (old : State H) (new : Tracing H) (a b c : Option (List ℕ)) → Appends b c []
-    → AreFollowed step lines old new (Appends a b) → AreFollowed step lines old new (Appends a c)
+    → AreEventsTraced step lines old new (Appends a b) → AreEventsTraced step lines old new (Appends a c)
 followed_on step lines old new a b c none done =
     let text : List ℕ = flat_map (λ (e : Shown). e.text) done.events in
     record {
@@ -200,7 +200,7 @@ pub counted_more : {H : Type 0} (step : Steps H) (front : List (List ℕ)) (line
 counted_more {H} step front line old mid new was is from before after counted (inl passed) done = record {
   counted = counted_next front line was is counted done.counted;
   followed =
-      subst (λ (t : Tracing H). AreFollowed step (front ++ line ∷ []) old t (Appends from after)) (sym passed.same)
+      subst (λ (t : Tracing H). AreEventsTraced step (front ++ line ∷ []) old t (Appends from after)) (sym passed.same)
       (followed_on step (front ++ line ∷ []) old mid from before after passed.written (passed_more step front line old mid (Appends from before) passed.empty done.followed));
 }
 counted_more step front line old mid new was is from before after counted (inr says) done = record {
@@ -234,7 +234,7 @@ unread_stops stop (inr is) = subst StopsTracing (sym is) tt
 
 -- the lines in front were followed, and the next one may have begun
 broken_off : {H : Type 0} (step : Steps H) (front lines others : List (List ℕ)) (old : State H) (mid : Tracing H) (new : State H) (Writes : List ℕ → Type 0)
-    → lines ≡ front ++ others → AreFollowed step front old mid Writes → BeginsOnly others mid new → IsBrokenOff step lines old new
+    → lines ≡ front ++ others → AreEventsTraced step front old mid Writes → BeginsOnly others mid new → IsBrokenOff step lines old new
 broken_off step front lines others old mid new Writes cut done next =
     record { front = front; others = others; cut = cut; mid = mid; followed = followed_unsaid step front old mid Writes done; next = next }
 
@@ -250,7 +250,7 @@ stopped_there {H} step front lines others line old mid new was is from before af
   holds = (
     here.1,
     here.2,
-    (new.names, subst (λ (t : Tracing H). AreFollowed step front old t (Appends from after)) (sym here.3) (followed_on step front old mid from before after here.4 done.followed)),
+    (new.names, subst (λ (t : Tracing H). AreEventsTraced step front old t (Appends from after)) (sym here.3) (followed_on step front old mid from before after here.4 done.followed)),
   );
 }
 stopped_there step front lines others line old mid new was is from before after (TooManyConnections at) counted cut here done = record {
@@ -336,7 +336,7 @@ traced_none {H} step known front Writes stop is =
 -- ---- what was written is kept
 
 followed_kept : {H : Type 0} (step : Steps H) (lines : List (List ℕ)) (old : State H) (new : Tracing H) (a b c : Option (List ℕ)) → Keeps b c
-    → AreFollowed step lines old new (Appends a b) → AreFollowed step lines old new (Appends a c)
+    → AreEventsTraced step lines old new (Appends a b) → AreEventsTraced step lines old new (Appends a c)
 followed_kept step lines old new a b c kept done =
     record { events = done.events; read = done.read; run = done.run; written = appends_kept a b c (flat_map (λ (e : Shown). e.text) done.events) done.written kept }
 

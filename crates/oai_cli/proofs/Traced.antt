@@ -11,7 +11,7 @@ use Rattle.oai_front.specs.declared.faults.PieceFault.{PieceFault}
 use Rattle.oai_front.specs.declared.numbers.ConnId.{ConnId}
 use Rattle.oai_cli.specs.EventLines.{shown_close, shown_output}
 use Rattle.oai_cli.specs.Outputs.{StaysApart, IsEmptied, output_in, output_of, with_output}
-use Rattle.oai_cli.specs.Traces.{ComesOn, EndsOn, IsLabelled, IsTraced, Names, Tracing, reads_no_more, left_on, name_on, shown_on}
+use Rattle.oai_cli.specs.Traces.{ComesOn, EndsOn, IsLabelled, IsTraced, ConnectionLabels, Tracing, reads_no_more, left_on, name_on, shown_on}
 use Rattle.oai_cli.specs.declared.trace.events.Event.{Event}
 use Rattle.oai_startup.proofs.KnownLemmas.{appends_both}
 
@@ -73,7 +73,7 @@ left_open number old mid emptied is =
     emptied ∙ sym (ap (λ (test : Bool). cond test None (option_map (with_output []) (connection_numbered number old.connections))) (over_before number old mid false emptied is))
 
 -- what its label stands for
-pub named_over : {H : Type 0} (conn : ConnId) (label : ℕ) (old mid : State H) (before after : Names) → IsEmptied conn.number old mid
+pub named_over : {H : Type 0} (conn : ConnId) (label : ℕ) (old mid : State H) (before after : ConnectionLabels) → IsEmptied conn.number old mid
     → reads_no_more (connection_numbered conn.number mid.connections) ≡ true → after label ≡ Some None → ((other : ℕ) → other ≢ label → after other ≡ before other)
     → IsLabelled label (name_on conn (connection_numbered conn.number old.connections)) before after
 unfolding name_on
@@ -82,7 +82,7 @@ named_over conn label old mid before after emptied is none others = record {
   others = others;
 }
 
-pub named_open : {H : Type 0} (conn : ConnId) (label : ℕ) (old mid : State H) (names : Names) → IsEmptied conn.number old mid
+pub named_open : {H : Type 0} (conn : ConnId) (label : ℕ) (old mid : State H) (names : ConnectionLabels) → IsEmptied conn.number old mid
     → reads_no_more (connection_numbered conn.number mid.connections) ≡ false → names label ≡ Some (Some conn)
     → IsLabelled label (name_on conn (connection_numbered conn.number old.connections)) names names
 unfolding name_on

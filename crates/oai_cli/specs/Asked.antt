@@ -31,14 +31,14 @@ AreAsked lines old (Err stop) new Writes = AreFirst lines (λ front. AreDone fro
 -- ---- while the lines are performed
 
 -- the lines were done, and that many were counted
-pub record AreEnded (old new : HostState) (count : ℕ) (Writes : List ℕ → Type 0) (lines : List (List ℕ)) : Type 0 where
+pub record AreDoneAndCounted (old new : HostState) (count : ℕ) (Writes : List ℕ → Type 0) (lines : List (List ℕ)) : Type 0 where
   pub honest : new.honest ≡ old.honest
   pub counted : count ≡ line_count (length lines)
   pub done : AreDone lines old new Writes
 
 -- the effect of one line more
 abbrev pub IsLineOutcome : List (List ℕ) → List ℕ → HostState → Result Unit Stop → HostState → ℕ → (List ℕ → Type 0) → Type 0
-IsLineOutcome front line old (Ok done) new count Writes = AreEnded old new count Writes (front ++ line ∷ [])
+IsLineOutcome front line old (Ok done) new count Writes = AreDoneAndCounted old new count Writes (front ++ line ∷ [])
 IsLineOutcome front line old (Err (BadExchange number)) new count Writes =
     (is_bad line ≡ true) × (number ≡ line_count (length front + 1)) × AreDone front old new Writes
 IsLineOutcome front line old (Err stop) new count Writes = (stop ≡ OutputFault) × AreDone (front ++ line ∷ []) old new IsUnspecified

@@ -89,7 +89,7 @@ pub record AnswersPieces {H : Type 0} (step : Steps H) (number : ℕ) (old new :
   pub run : ArePiecesAnswered step number old pieces new
 
 -- a connection was opened, pieces came on it, up to the end of what is read or of what it takes, and it was dropped
-pub record IsServed {H : Type 0} (step : Steps H) (old new : State H) (AtEnd : Type 0) : Type 0 where
+pub record IsConnectionServed {H : Type 0} (step : Steps H) (old new : State H) (AtEnd : Type 0) : Type 0 where
   pub conn : ConnId
   pub opened : State H
   pub left : State H

@@ -24,20 +24,20 @@ use Rattle.std.specs.Ordering.{nat_cmp}
 -- ---- the connections of the labels
 
 -- the connections of the labels: a connection, or a dropped one; a label that was in no line yet has none
-abbrev pub Names : Type 0
-Names = ℕ → Option (Option ConnId)
+abbrev pub ConnectionLabels : Type 0
+ConnectionLabels = ℕ → Option (Option ConnId)
 
 -- the front, and the connections of the labels
 pub record Tracing (H : Type 0) : Type 0 where
   pub front : State H
-  pub names : Names
+  pub names : ConnectionLabels
 
 -- before the first line
 abbrev pub nothing_traced : {H : Type 0} → State H → Tracing H
 nothing_traced front = record { front = front; names = λ label. None }
 
 -- the label has that connection, or a dropped one, and each other label is unchanged
-pub record IsLabelled (label : ℕ) (conn : Option ConnId) (old new : Names) : Type 0 where
+pub record IsLabelled (label : ℕ) (conn : Option ConnId) (old new : ConnectionLabels) : Type 0 where
   pub own : new label ≡ Some conn
   pub others : (other : ℕ) → other ≢ label → new other ≡ old other
 
@@ -116,7 +116,7 @@ pub record Shown : Type 0 where
   pub text : List ℕ
 
 -- the lines that are not empty are events; these were followed in order, and what was written for them is in that order
-pub record AreFollowed {H : Type 0} (step : Steps H) (lines : List (List ℕ)) (old : State H) (new : Tracing H) (Writes : List ℕ → Type 0) : Type 0 where
+pub record AreEventsTraced {H : Type 0} (step : Steps H) (lines : List (List ℕ)) (old : State H) (new : Tracing H) (Writes : List ℕ → Type 0) : Type 0 where
   pub events : List Shown
   pub read : map parse_event (filter is_line_filled lines) ≡ map (λ e. Some e.event) events
   pub run : Chain (λ e before after. IsFollowed step e.event before after (λ text. text ≡ e.text)) events (nothing_traced old) new
@@ -124,7 +124,7 @@ pub record AreFollowed {H : Type 0} (step : Steps H) (lines : List (List ℕ)) (
 
 -- the lines were followed, and the front is left in that state
 abbrev pub AreTracedTo : {H : Type 0} → Steps H → State H → State H → (List ℕ → Type 0) → List (List ℕ) → Type 0
-AreTracedTo step old new Writes lines = (names : Names) × AreFollowed step lines old (record { front = new; names = names }) Writes
+AreTracedTo step old new Writes lines = (names : ConnectionLabels) × AreEventsTraced step lines old (record { front = new; names = names }) Writes
 
 -- the line is bad, and those before it were followed
 abbrev pub IsBadBehind : {H : Type 0} → Steps H → State H → State H → (List ℕ → Type 0) → List (List ℕ) → List ℕ → Type 0
@@ -136,7 +136,7 @@ pub record IsFullBehind {H : Type 0} (step : Steps H) (old new : State H) (Write
   pub event : Event
   pub parsed_as : parse_event line ≡ Some event
   pub mid : Tracing H
-  pub followed : AreFollowed step front old mid Writes
+  pub followed : AreEventsTraced step front old mid Writes
   pub refused : IsUnopenable event.label mid new
 
 -- the number of the connection of the label, or else of the next that is opened
@@ -146,7 +146,7 @@ number_or next (Some None) = next
 number_or next (Some (Some conn)) = conn.number
 
 -- the line is an event, and only the connection of its label may have changed
-pub record HasBegun {H : Type 0} (line : List ℕ) (old : Tracing H) (new : State H) : Type 0 where
+pub record HasReadEvent {H : Type 0} (line : List ℕ) (old : Tracing H) (new : State H) : Type 0 where
   pub event : Event
   pub parsed_as : parse_event line ≡ Some event
   pub others : OthersStay (number_or (old.front.last + 1) (old.names event.label)) old.front new
@@ -154,7 +154,7 @@ pub record HasBegun {H : Type 0} (line : List ℕ) (old : Tracing H) (new : Stat
 -- nothing was done, or the first of the lines has begun
 abbrev pub BeginsOnly : {H : Type 0} → List (List ℕ) → Tracing H → State H → Type 0
 BeginsOnly [] old new = new ≡ old.front
-BeginsOnly (line ∷ lines) old new = (new ≡ old.front) ⊎ HasBegun line old new
+BeginsOnly (line ∷ lines) old new = (new ≡ old.front) ⊎ HasReadEvent line old new
 
 -- the first of the lines were followed, but what was written is not specified; the next one may have begun
 pub record IsBrokenOff {H : Type 0} (step : Steps H) (lines : List (List ℕ)) (old new : State H) : Type 0 where
@@ -162,7 +162,7 @@ pub record IsBrokenOff {H : Type 0} (step : Steps H) (lines : List (List ℕ)) (
   pub others : List (List ℕ)
   pub cut : lines ≡ front ++ others
   pub mid : Tracing H
-  pub followed : AreFollowed step front old mid IsUnspecified
+  pub followed : AreEventsTraced step front old mid IsUnspecified
   pub next : BeginsOnly others mid new
 
 -- the effect of the lines: all were followed, or all before the first that is bad or for which no connection can be
@@ -211,9 +211,9 @@ IsLine step line number old (Err (BadPiece at)) new Writes =
     (at ≡ number) × (is_line_filled line ≡ true) × (parse_event line ≡ None) × (new ≡ old) × Writes []
 IsLine step line number old (Err (TooManyConnections at)) new Writes =
     (at ≡ number) × ((event : Event) × (parse_event line ≡ Some event) × IsUnopenable event.label old new.front) × Writes []
-IsLine step line number old (Err stop) new Writes = IsBroken stop × ((new.front ≡ old.front) ⊎ HasBegun line old new.front)
+IsLine step line number old (Err stop) new Writes = IsBroken stop × ((new.front ≡ old.front) ⊎ HasReadEvent line old new.front)
 
 -- the lines were followed, and that many were counted
 pub record AreLinesCounted {H : Type 0} (step : Steps H) (old : State H) (new : Tracing H) (count : ℕ) (Writes : List ℕ → Type 0) (lines : List (List ℕ)) : Type 0 where
   pub counted : count ≡ line_count (length lines)
-  pub followed : AreFollowed step lines old new Writes
+  pub followed : AreEventsTraced step lines old new Writes

@@ -7,7 +7,7 @@ ghost use Rattle.oai_cli.specs.Inputs.{numbered};
 ghost use Rattle.oai_cli.specs.ExchangeLines as spec;
 ghost use Rattle.oai_cli.specs.NumberedLines.{lines_of};
 ghost use Rattle.oai_cli.specs.Stops.{StopsAsking};
-ghost use Rattle.oai_cli.specs.Asked.{AreEnded, IsLineOutcome};
+ghost use Rattle.oai_cli.specs.Asked.{AreDoneAndCounted, IsLineOutcome};
 ghost use Rattle.oai_startup.specs.declared.stop.Stop.TheVariants.{BadExchange, OutputFault};
 
 pub(crate) mod answers;
@@ -81,7 +81,7 @@ fn ask_line<V: Versions + Drop, W: Write>(
     ensures empty { line.now ≡ [] → result ≡ Ok tt }
     ensures done { (first : HostState) (from : Option (List ℕ)) (front : List (List ℕ)) (count : ℕ)
         → number ≡ numbered true count
-        → AreEnded first host.old count (Appends from (W.Write.contents writer.old)) front
+        → AreDoneAndCounted first host.old count (Appends from (W.Write.contents writer.old)) front
         → IsLineOutcome front line.now first result host.new number
         (Appends from (W.Write.contents writer.new)) }
 {

@@ -3,7 +3,7 @@ use Rattle.std.proofs.Common.{◌≡◌, ℕ, true, List, Option, Some, None, re
 use Rattle.std.specs.Prelude.{codes}
 use Rattle.serde_json.specs.Data.{Data}
 use Rattle.oai_names.specs.Optional.{◌>>=◌}
-use Rattle.oai_deposit.specs.Json.{has_members, text_at, texts_at}
+use Rattle.oai_json.specs.Json.{has_members, text_at, texts_at}
 use Rattle.oai_settings.specs.declared.settings.FormatSettings.{FormatSettings}
 use Rattle.oai_config.specs.ReadingWork.{two_texts}
 use Rattle.oai_config.specs.Shapes.{format_members, format_in}

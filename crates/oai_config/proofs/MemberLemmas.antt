@@ -3,9 +3,9 @@ use Rattle.std.proofs.Common.{◌≡◌, ◌∙◌, ℕ, Option, Some, List, [],
 use Rattle.std.specs.List.{AllZip}
 use Rattle.serde_json.specs.Data.{Data}
 use Rattle.oai_names.specs.Optional.{◌>>=◌, each_of}
-use Rattle.oai_deposit.specs.Json.{elements_at}
-use Rattle.oai_deposit.proofs.MemberLemmas.{elements_again, elements_take}
-use Rattle.oai_deposit.proofs.ReadingLemmas.{Some-injective, bind-Some}
+use Rattle.oai_json.specs.Json.{elements_at}
+use Rattle.oai_json.proofs.MemberLemmas.{elements_again, elements_take}
+use Rattle.oai_json.proofs.ReadingLemmas.{Some-injective, bind-Some}
 use Rattle.oai_config.specs.Written.{HasList}
 
 -- what the reading takes is written so, and what is written so is read

@@ -16,7 +16,7 @@ use Rattle.oai_settings.specs.Settings.{IsConfigured, config_fault, passes_numbe
 use Rattle.oai_config.specs.declared.faults.ReadFault.{ReadFault}
 use Rattle.oai_config.specs.declared.faults.ReadFault.TheVariants.{BadJson, BadShape, BadName, DuplicateName, BadFormat, BadDate, BadNumber, TooMany, NoMemory}
 use Rattle.oai_config.specs.declared.host_settings.HostSettings.{HostSettings}
-use Rattle.oai_config.specs.Configs.{NamedConfig, IsHostConfig, is_cache, names_of}
+use Rattle.oai_config.specs.Configs.{NamedConfig, IsHostConfig, is_cache, repository_names}
 use Rattle.oai_config.specs.Reading.{HasSettings, HaveSettings, IsLowest}
 use Rattle.oai_config.specs.Causes.{is_wrong_alone, is_wrong_together, names_told}
 use Rattle.oai_config.specs.ReadingWork.{AreMade, HasSettingsOr, IsLowestOf, IsMade, IsWhole, read_fault_of, first_together, lower, or_alone}
@@ -148,11 +148,11 @@ at_last_good found entries whole taken left so_far none causes first =
 
 -- ---- the rules
 
-names_same : (settings : List Settings) (entries : List NamedConfig) → HaveSettings settings entries → names_of entries ≡ names_told settings
+names_same : (settings : List Settings) (entries : List NamedConfig) → HaveSettings settings entries → repository_names entries ≡ names_told settings
 names_same [] [] are = refl
 names_same [] (h ∷ entries) are = absurd are
 names_same (s ∷ settings) [] are = absurd are
-names_same (s ∷ settings) (h ∷ entries) are = ap (λ name. name ∷ names_of entries) are.0.name ∙ ap (λ names. s.name ∷ names) (names_same settings entries are.1)
+names_same (s ∷ settings) (h ∷ entries) are = ap (λ name. name ∷ repository_names entries) are.0.name ∙ ap (λ names. s.name ∷ names) (names_same settings entries are.1)
 
 as_many : (settings : List Settings) (entries : List NamedConfig) → HaveSettings settings entries → length entries ≡ length settings
 as_many [] [] are = refl

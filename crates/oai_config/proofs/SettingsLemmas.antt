@@ -5,7 +5,7 @@ use Rattle.serde_json.specs.Data.{Data}
 use Rattle.oai_time.specs.declared.granularity.Granularity.{Granularity}
 use Rattle.oai_item.specs.declared.deleted_record.DeletedRecord.{DeletedRecord}
 use Rattle.oai_names.specs.Optional.{◌>>=◌}
-use Rattle.oai_deposit.specs.Json.{has_members, number_at, text_at, texts_at}
+use Rattle.oai_json.specs.Json.{has_members, number_at, text_at, texts_at}
 use Rattle.oai_settings.specs.declared.settings.FormatSettings.{FormatSettings}
 use Rattle.oai_settings.specs.declared.settings.Settings.{Settings}
 use Rattle.oai_config.specs.declared.repositories.Rules.{Rules}

@@ -5,16 +5,16 @@ use Rattle.std.proofs.lemmas.Bool.Decides.{Decides-eqb}
 use Rattle.serde_json.specs.Data.{Data, number, string}
 use Rattle.serde_json.specs.Find.{get}
 use Rattle.oai_item.specs.ShortTexts.{is_short_text}
-use Rattle.oai_deposit.specs.Json.{has_members, number_at, size, text_at, texts_at}
+use Rattle.oai_json.specs.Json.{has_members, number_at, size, text_at, texts_at}
 use Rattle.oai_settings.specs.declared.settings.FormatSettings.{FormatSettings}
 use Rattle.oai_settings.specs.declared.settings.Settings.{Settings}
 use Rattle.oai_config.specs.declared.host_settings.HostSettings.{HostSettings}
 use Rattle.oai_names.specs.Optional.{◌>>=◌, tested}
 use Rattle.oai_config.specs.Shapes.{format_members, format_in, deleted_at, granularity_at, formats_at, repository_members, settings_of, base_at, repositories_at, host_members, told_of, format_from, settings_from, told_from}
 use Rattle.oai_config.specs.Written.{HasText, HasNumber, HasList, IsFormat, IsRepository, IsHost, ConfigShapeLaw}
-use Rattle.oai_deposit.proofs.ShapeLemmas.{of_size}
-use Rattle.oai_deposit.proofs.MemberLemmas.{number_again, number_takes, text_again, text_takes, texts_are, texts_take}
-use Rattle.oai_deposit.proofs.ReadingLemmas.{Some-injective, bind-Some}
+use Rattle.oai_json.proofs.MemberLemmas.{of_size}
+use Rattle.oai_json.proofs.MemberLemmas.{number_again, number_takes, text_again, text_takes, texts_are, texts_take}
+use Rattle.oai_json.proofs.ReadingLemmas.{Some-injective, bind-Some}
 use Rattle.oai_config.proofs.MemberLemmas.{IsUndone, list_again, list_takes}
 use Rattle.oai_config.proofs.WordLemmas.{deleted_again, deleted_takes, granularity_again, granularity_takes}
 use Rattle.oai_config.proofs.SettingsLemmas.{settings_of-Some}

@@ -5,7 +5,7 @@ use Rattle.std.specs.Option.{option_map_or}
 use Rattle.serde_json.specs.Data.{Data}
 use Rattle.serde_json.specs.View.{view}
 use Rattle.serde_json.specs.declared.value.Value.{Value}
-use Rattle.oai_deposit.specs.Json.{TakesMemory, json_in}
+use Rattle.oai_json.specs.Json.{TakesMemory, json_in}
 use Rattle.oai_settings.specs.declared.settings.Settings.{Settings}
 use Rattle.oai_config.specs.declared.faults.ReadFault.{ReadFault}
 use Rattle.oai_config.specs.declared.faults.ReadFault.TheVariants.{BadJson, BadShape, BadName, DuplicateName, BadFormat, BadDate, BadNumber, TooMany, NoMemory}
@@ -17,7 +17,7 @@ use Rattle.oai_config.specs.Causes.{is_wrong_alone, is_wrong, applies, fault_num
 use Rattle.oai_config.specs.Reading.{IsLowest, IsRead}
 use Rattle.oai_config.specs.ReadingWork.{GivesRead, IsJsonText, IsMade}
 use Rattle.oai_config.proofs.CauseLemmas.{same_lowest}
-use Rattle.oai_deposit.proofs.JsonLemmas.{takes-read}
+use Rattle.oai_json.proofs.JsonLemmas.{takes-read}
 
 -- ---- what the text tells
 

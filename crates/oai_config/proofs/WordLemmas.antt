@@ -11,9 +11,9 @@ use Rattle.oai_item.specs.declared.deleted_record.DeletedRecord.TheVariants.{No,
 use Rattle.oai_names.specs.Optional.{◌>>=◌}
 use Rattle.oai_config.specs.Shapes.{deleted_of, deleted_at, granularity_of, granularity_at, granularity_word}
 use Rattle.oai_config.specs.Written.{HasText}
-use Rattle.oai_deposit.specs.Json.{text_at}
-use Rattle.oai_deposit.proofs.MemberLemmas.{text_again, text_takes}
-use Rattle.oai_deposit.proofs.ReadingLemmas.{Some-injective, bind-Some}
+use Rattle.oai_json.specs.Json.{text_at}
+use Rattle.oai_json.proofs.MemberLemmas.{text_again, text_takes}
+use Rattle.oai_json.proofs.ReadingLemmas.{Some-injective, bind-Some}
 
 -- ---- what is kept
 

@@ -3,7 +3,7 @@ use Rattle.std.specs.Prelude.{ℕ, Bool, true, false, ◌==◌, ◌||◌, not, n
 use Rattle.std.specs.List.{list_any}
 use Rattle.std.specs.Option.{option_map_or}
 use Rattle.oai_item.specs.Rules.{has_repeat}
-use Rattle.oai_deposit.specs.Json.{json_in}
+use Rattle.oai_json.specs.Json.{json_in}
 use Rattle.oai_settings.specs.declared.settings.Settings.{Settings}
 use Rattle.oai_settings.specs.Config.{is_repository_name}
 use Rattle.oai_settings.specs.Settings.{has_shape, are_formats, earliest_of, passes_number, are_numbers}

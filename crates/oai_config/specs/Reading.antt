@@ -1,7 +1,7 @@
 -- The result of reading a configuration: the configuration, or the lowest cause that applies anywhere in the text.
 use Rattle.std.specs.Prelude.{◌≡◌, ◌<◌, ℕ, Bool, true, false, List, codes, Some, Result, Ok, Err}
 use Rattle.std.specs.List.{AllZip}
-use Rattle.oai_deposit.specs.Json.{TakesMemory}
+use Rattle.oai_json.specs.Json.{TakesMemory}
 use Rattle.oai_settings.specs.declared.settings.Settings.{Settings}
 use Rattle.oai_settings.specs.Settings.{Configures}
 use Rattle.oai_config.specs.declared.faults.ReadFault.{ReadFault}

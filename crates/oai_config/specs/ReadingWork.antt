@@ -4,7 +4,7 @@ use Rattle.std.specs.Prelude.{◌≡◌, ◌||◌, ℕ, Bool, false, nat_le, if�
 use Rattle.std.specs.List.{list_any}
 use Rattle.serde_json.specs.Data.{Data}
 use Rattle.oai_names.specs.Optional.{◌>>=◌}
-use Rattle.oai_deposit.specs.Json.{TakesMemory, json_in, number_at, text_at, texts_at}
+use Rattle.oai_json.specs.Json.{TakesMemory, json_in, number_at, text_at, texts_at}
 use Rattle.oai_settings.specs.declared.settings.ConfigFault.{ConfigFault}
 use Rattle.oai_settings.specs.declared.settings.ConfigFault.TheVariants as alone
 use Rattle.oai_settings.specs.declared.settings.FormatSettings.{FormatSettings}

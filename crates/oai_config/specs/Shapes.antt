@@ -10,7 +10,7 @@ use Rattle.oai_item.specs.ShortTexts.{is_short_text}
 use Rattle.oai_item.specs.declared.deleted_record.DeletedRecord.{DeletedRecord}
 use Rattle.oai_item.specs.declared.deleted_record.DeletedRecord.TheVariants.{No, Transient, Persistent}
 use Rattle.oai_answers.specs.Documents.{deleted_text}
-use Rattle.oai_deposit.specs.Json.{elements_at, has_members, json_in, number_at, text_at, texts_at}
+use Rattle.oai_json.specs.Json.{elements_at, has_members, json_in, number_at, text_at, texts_at}
 use Rattle.oai_settings.specs.declared.settings.FormatSettings.{FormatSettings}
 use Rattle.oai_settings.specs.declared.settings.Settings.{Settings}
 use Rattle.oai_config.specs.declared.host_settings.HostSettings.{HostSettings}

@@ -29,8 +29,8 @@ abbrev pub has_space : List ℕ → Bool
 has_space text = list_any is_space text
 
 -- the byte is an at sign
-abbrev pub is_at : ℕ → Bool
-is_at b = b == 64
+abbrev pub is_at_sign : ℕ → Bool
+is_at_sign b = b == 64
 
 -- the byte is a dot
 abbrev pub is_dot : ℕ → Bool
@@ -43,12 +43,12 @@ has_two_parts host = not (length (before_first is_dot host) == 0) && not (length
 -- an address (OAI-PMH 2.0, section 4.2): a name, an at sign, and a host of two parts or more, without white space
 unfoldable pub is_address : List ℕ → Bool
 is_address text =
-    not (has_space text) && not (length (before_first is_at text) == 0) && has_two_parts (after_first is_at text)
+    not (has_space text) && not (length (before_first is_at_sign text) == 0) && has_two_parts (after_first is_at_sign text)
 
 -- the namespace is none of those of XML (Namespaces in XML 1.0, section 3) and of OAI-PMH itself (OAI-PMH 2.0, section
 -- 3.2)
-abbrev pub is_free : List ℕ → Bool
-is_free namespace =
+abbrev pub is_unreserved_namespace : List ℕ → Bool
+is_unreserved_namespace namespace =
     not (bytes_eq namespace (codes "http://www.w3.org/XML/1998/namespace"))
     && not (bytes_eq namespace (codes "http://www.w3.org/2000/xmlns/"))
     && not (bytes_eq namespace (codes "http://www.openarchives.org/OAI/2.0/"))
@@ -65,16 +65,16 @@ unfoldable pub named : List ℕ → List ℕ → List ℕ
 named what name = what ++ name ++ codes ": "
 
 -- a line
-unfoldable pub line : List ℕ → List ℕ
-line text = text ++ codes "\n"
+unfoldable pub text_line : List ℕ → List ℕ
+text_line text = text ++ codes "\n"
 
 -- a line about a repository
 unfoldable pub warning : List ℕ → List ℕ → List ℕ
-warning name what = named (codes "warning: repository ") name ++ line what
+warning name what = named (codes "warning: repository ") name ++ text_line what
 
 -- a line about a format of a repository
 unfoldable pub format_warning : List ℕ → List ℕ → List ℕ → List ℕ
-format_warning name prefix what = named (codes "warning: repository ") name ++ named (codes "format ") prefix ++ line what
+format_warning name prefix what = named (codes "warning: repository ") name ++ named (codes "format ") prefix ++ text_line what
 
 -- the line, unless the test passes
 abbrev pub warning_unless : Bool → List ℕ → List ℕ → List ℕ
@@ -92,7 +92,7 @@ address_warning name address = warning_unless (is_address address) name (codes "
 unfoldable pub namespace_warnings : List ℕ → Format → List ℕ
 namespace_warnings name format =
     format_warning_unless (may_be_identifier format.namespace) name format (codes "namespace is no URI")
-    ++ format_warning_unless (is_free format.namespace) name format (codes "namespace is kept for others")
+    ++ format_warning_unless (is_unreserved_namespace format.namespace) name format (codes "namespace is kept for others")
 
 -- of a format: its schema (OAI-PMH 2.0, section 3.4), its namespace, and the name of its root
 unfoldable pub format_warnings : List ℕ → Format → List ℕ

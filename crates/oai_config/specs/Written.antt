@@ -5,7 +5,7 @@ use Rattle.serde_json.specs.Data.{Data, Num, string, number}
 use Rattle.serde_json.specs.Find.{get, as_u64}
 use Rattle.oai_item.specs.ShortTexts.{is_short_text}
 use Rattle.oai_answers.specs.Documents.{deleted_text}
-use Rattle.oai_deposit.specs.Json.{size, array_of}
+use Rattle.oai_json.specs.Json.{size, array_of}
 use Rattle.oai_settings.specs.declared.settings.FormatSettings.{FormatSettings}
 use Rattle.oai_settings.specs.declared.settings.Settings.{Settings}
 use Rattle.oai_config.specs.declared.host_settings.HostSettings.{HostSettings}

@@ -1,5 +1,5 @@
 ghost use Rattle.std.specs.Prelude.{◌≡◌, length};
-ghost use Rattle.oai_config.specs.Configs.{AreNamed, IsHostConfig, names_of};
+ghost use Rattle.oai_config.specs.Configs.{AreNamed, IsHostConfig, repository_names};
 ghost use Rattle.oai_config.specs.Reading.{IsRead};
 ghost use Rattle.oai_config.specs.ReadingWork.{IsMade};
 
@@ -102,7 +102,7 @@ impl Config {
     /// The repositories, in the order of the text. Allocates nothing.
     pub fn into_repositories(self) -> Sequence<NamedConfig>
         ensures repositories { result ≡ self.repositories }
-        ensures named { AreNamed (names_of self.repositories) }
+        ensures named { AreNamed (repository_names self.repositories) }
         ensures valid { IsHostConfig self }
     {
         let Config { repositories, .. } = self;

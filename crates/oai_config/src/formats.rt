@@ -6,14 +6,14 @@ ghost use Rattle.oai_config.specs.ReadingWork.{GivesRead};
 
 use crate::faults::ReadFault;
 use crate::members::{read_texts, read_two};
-use oai_deposit::has_members;
+use oai_json::has_members;
 use oai_names::Sequence;
 use oai_settings::FormatSettings;
 use serde_json::Value;
 use std::alloc::Global;
 
 /// The format of each value, in order; `BadShape` at the first that has none.
-#[tactic(auto, using(oai_deposit::proofs::ReadingLemmas::starts))]
+#[tactic(auto, using(oai_json::proofs::ReadingLemmas::starts))]
 pub(crate) fn each_format(
     alloc: Global,
     values: &[Value],

@@ -2,11 +2,11 @@ ghost use Rattle.std.specs.Prelude.{map};
 ghost use Rattle.serde_json.specs.Find.{as_str};
 ghost use Rattle.serde_json.specs.View.{view};
 ghost use Rattle.oai_names.specs.Optional.{each_of};
-ghost use Rattle.oai_deposit.specs.Json as json;
+ghost use Rattle.oai_json.specs.Json as json;
 ghost use Rattle.oai_config.specs.ReadingWork.{GivesRead, GivesView, two_texts};
 
 use crate::faults::ReadFault;
-use oai_deposit::{elements_at, number_at, text_at};
+use oai_json::{elements_at, number_at, text_at};
 use oai_names::{Sequence, Text};
 use serde_json::Value;
 use std::alloc::Global;
@@ -47,7 +47,7 @@ pub(crate) fn read_number(value: &Value, name: &str) -> Result<Option<u64>, Read
 }
 
 /// A copy of the texts of the member with that name; `BadShape` if there is no such list of strings.
-#[tactic(auto, unfolding(oai_deposit::specs::Json::texts_at))]
+#[tactic(auto, unfolding(oai_json::specs::Json::texts_at))]
 pub(crate) fn read_texts(
     alloc: Global,
     value: &Value,
@@ -62,7 +62,7 @@ pub(crate) fn read_texts(
 }
 
 /// A copy of the text of each string; `BadShape` at the first value that is none.
-#[tactic(auto, using(oai_deposit::proofs::ReadingLemmas::starts))]
+#[tactic(auto, using(oai_json::proofs::ReadingLemmas::starts))]
 fn texts_in(alloc: Global, values: &[Value]) -> Result<Sequence<Text>, ReadFault>
     ensures { GivesRead result (each_of as_str (map view values.now)) }
 {

@@ -1,5 +1,5 @@
 ghost use Rattle.std.specs.Prelude.{◌≡◌, map};
-ghost use Rattle.oai_deposit.specs.Json.{has_members};
+ghost use Rattle.oai_json.specs.Json.{has_members};
 ghost use Rattle.serde_json.specs.View.{view};
 ghost use Rattle.oai_names.specs.Optional.{each_of};
 ghost use Rattle.oai_config.specs.Shapes as shape;
@@ -8,8 +8,8 @@ ghost use Rattle.oai_config.specs.ReadingWork.{GivesView, GivesRead, rules_from,
 use crate::faults::ReadFault;
 use crate::formats::each_format;
 use crate::members::{read_number, read_text, read_texts};
-use oai_deposit::{elements_at, has_members, text_at};
 use oai_item::DeletedRecord;
+use oai_json::{elements_at, has_members, text_at};
 use oai_names::{Sequence, Text};
 use oai_settings::{FormatSettings, Settings};
 use oai_time::Granularity;
@@ -32,7 +32,7 @@ pub(crate) fn repositories_at(
 }
 
 /// The settings of a repository below the base in each value, in order; `BadShape` at the first that has none.
-#[tactic(auto, using(oai_deposit::proofs::ReadingLemmas::starts))]
+#[tactic(auto, using(oai_json::proofs::ReadingLemmas::starts))]
 fn each_repository(
     alloc: Global,
     base: &str,

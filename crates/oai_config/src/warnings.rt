@@ -171,10 +171,10 @@ fn put_named(what: &str, name: &str, out: &mut String) -> Result<(), AllocError>
 }
 
 /// Appends the text and a line end.
-#[tactic(auto, unfolding(crate::specs::Warnings::line))]
+#[tactic(auto, unfolding(crate::specs::Warnings::text_line))]
 fn put_line(text: &str, out: &mut String) -> Result<(), AllocError>
     ensures { OnOk result (Appends (string_bytes out.old) (string_bytes out.new)
-        (spec.line text.now)) }
+        (spec.text_line text.now)) }
 {
     put(text, out)?;
     put("\n", out)?;
@@ -265,12 +265,12 @@ fn has_space(text: &str) -> bool
 fn is_space(b: u8) -> bool
     ensures { result ≡ is_space b }
 {
-    b == 32 || b == 9 || b == 10 || b == 13
+    b == 32 || b == 9 || b == 13 || b == 10
 }
 
 /// Whether a namespace is not a reserved one.
 fn is_free(namespace: &str) -> bool
-    ensures { result ≡ spec.is_free namespace.now }
+    ensures { result ≡ spec.is_unreserved_namespace namespace.now }
 {
     namespace != "http://www.w3.org/XML/1998/namespace"
         && namespace != "http://www.w3.org/2000/xmlns/"

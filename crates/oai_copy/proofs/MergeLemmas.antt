@@ -10,7 +10,7 @@ use Rattle.oai_names.proofs.Lists.{all-weaker}
 use Rattle.oai_item.specs.Item.{ItemState}
 use Rattle.oai_item.specs.Items.{is_named}
 use Rattle.oai_copy.specs.Copies.{are_listed, caught_up, is_listed_before}
-use Rattle.oai_copy.specs.Merges.{IsTaken, goes_first, is_not_behind, is_same_named, last_of, never_fall, with_first}
+use Rattle.oai_copy.specs.Merges.{IsLastPopped, goes_first, is_not_behind, is_same_named, last_of, never_fall, with_first}
 use Rattle.oai_copy.proofs.OrderLemmas.{before-after, before-apart, before-unnamed, eq-turned, eq_is, listed-trans, not_behind, not_behind-after}
 use Rattle.oai_copy.proofs.ListedLemmas.{find_caught, find_front, find_joined, find_last, last_is_first, listed_caught, none_under, pushed, same_listed}
 
@@ -222,7 +222,7 @@ merging_goes_on older newer older_left newer_left (r ∷ moved) item older_after
 
 -- what was taken by the code
 pub merging_taken : (older newer older_left newer_left moved : List ItemState) (item : ItemState) (older_after newer_after : List ItemState) → IsMerging older newer older_left newer_left moved
-    → IsTaken older_left newer_left (Some item) older_after newer_after → IsMerging older newer older_after newer_after (with_first item moved)
+    → IsLastPopped older_left newer_left (Some item) older_after newer_after → IsMerging older newer older_after newer_after (with_first item moved)
 merging_taken older newer older_left newer_left moved item older_after newer_after m taken =
     elim (cases_Bool (goes_first (last_of older_left) (last_of newer_left))) [
       | inl first ↦

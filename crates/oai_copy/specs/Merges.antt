@@ -32,8 +32,8 @@ goes_first (Some older) None = false
 goes_first (Some older) (Some newer) = is_not_behind older newer
 
 -- the last item of one of two lists was taken out, if there is one; the other list is unchanged
-abbrev pub IsTaken : List ItemState → List ItemState → Option ItemState → List ItemState → List ItemState → Type 0
-IsTaken older newer taken older_left newer_left =
+abbrev pub IsLastPopped : List ItemState → List ItemState → Option ItemState → List ItemState → List ItemState → Type 0
+IsLastPopped older newer taken older_left newer_left =
     (goes_first (last_of older) (last_of newer) ≡ true → (newer ≡ newer_left ++ option_to_list taken) × (older_left ≡ older))
     × (goes_first (last_of older) (last_of newer) ≡ false → (older ≡ older_left ++ option_to_list taken) × (newer_left ≡ newer))
 

@@ -3,7 +3,7 @@ ghost use Rattle.std.specs.Option.{option_copied, option_to_list};
 ghost use Rattle.std.specs.Ordering.{nat_cmp};
 ghost use Rattle.std.specs.Cmp.Lexicographic.{slice_cmp};
 ghost use Rattle.oai_copy.specs.Copies.{are_listed, caught_up};
-ghost use Rattle.oai_copy.specs.Merges.{IsArranged, IsTaken, goes_first, is_same_named, never_fall, with_first};
+ghost use Rattle.oai_copy.specs.Merges.{IsArranged, IsLastPopped, goes_first, is_same_named, never_fall, with_first};
 
 use oai_item::Item;
 use std::alloc::{AllocError, Global};
@@ -72,7 +72,7 @@ fn merge(older: &mut Vec<Item>, newer: &mut Vec<Item>, merged: &mut Vec<Item>)
 /// Removes the item with the greatest identifier from two lists, each in the order of its identifiers; of equal ones,
 /// that of the newer list.
 fn take_last(older: &mut Vec<Item>, newer: &mut Vec<Item>) -> Option<Item>
-    ensures taken { IsTaken older.old.items newer.old.items result older.new.items newer.new.items }
+    ensures taken { IsLastPopped older.old.items newer.old.items result older.new.items newer.new.items }
     ensures none { IsNone result → (older.old.items ≡ []) × (newer.old.items ≡ []) }
     ensures fewer { vec_len older.new + vec_len newer.new + length (option_to_list result)
         ≡ vec_len older.old + vec_len newer.old }

@@ -4,14 +4,14 @@ use Rattle.oai_durable.specs.Checkpoints.{Saving}
 use Rattle.oai_durable.specs.Journaled.{Replaying}
 use Rattle.oai_host.specs.Exchanged.{IsHandled}
 use Rattle.oai_host.specs.Hosts.{HostState, Repository}
-use Rattle.oai_host.specs.Redone.{redone_all, reply_all}
+use Rattle.oai_host.specs.Redone.{redone_repositories, reply_all}
 use Rattle.oai_host.specs.Saved.{emptied_in, ended_in, parts_in, restored_in}
 
 -- the states of the repositories: after calls and parts, the answer to a call, their parts, their state after all lists
 -- ended, and their initial state
 abbrev pub archive : Saving (List Repository)
 archive = record {
-  leaving = record { redone = redone_all; restored = restored_in };
+  leaving = record { redone = redone_repositories; restored = restored_in };
   reply = reply_all;
   parts = parts_in;
   ended = ended_in;

@@ -2,7 +2,7 @@
 use Rattle.std.specs.Prelude.{ℕ, List, ◌++◌, codes, decimal}
 use Rattle.oai_daemon.specs.declared.notes.Note.{Note}
 use Rattle.oai_daemon.specs.declared.notes.Note.TheVariants.{Clock, Failed, OtherConfig, Recovered, Recovering}
-use Rattle.oai_archive.specs.Stops.{fault_text, jump_text}
+use Rattle.oai_archive.specs.Stops.{jump_text, store_fault_text}
 
 unfoldable pub last_record : List ℕ
 last_record = codes ", and the last record is of "
@@ -14,4 +14,4 @@ note_text (Recovered records bytes seconds) =
     codes "recovered: " ++ decimal records ++ codes " records, " ++ decimal bytes ++ codes " bytes, " ++ decimal seconds ++ codes " s"
 note_text (Clock now last) = codes "clock: at " ++ jump_text now ++ last_record ++ jump_text last
 note_text OtherConfig = codes "config: another one: the open lists have ended"
-note_text (Failed count fault) = codes "answered 500: " ++ decimal count ++ codes " times: " ++ fault_text fault
+note_text (Failed count fault) = codes "answered 500: " ++ decimal count ++ codes " times: " ++ store_fault_text fault

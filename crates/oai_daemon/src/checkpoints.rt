@@ -2,7 +2,7 @@
 use crate::places::Place;
 use crate::renewals::{Renewal, renew};
 use crate::starts::keep_checkpoint;
-use oai_archive::{Stop, begin_reading, verify_journal};
+use oai_archive::{ServerStop, begin_reading, verify_journal};
 use oai_startup::config_in;
 use std::alloc::Global;
 use std::io::Write;
@@ -22,11 +22,11 @@ pub fn checkpoint_folder<P: Place, C: Clock, W: Write>(
     clock: &C,
     text: &[u8],
     writer: &mut W,
-) -> Result<(), Stop> {
+) -> Result<(), ServerStop> {
     let config = config_in(alloc, text)?;
     place.lock()?;
     if !place.find_journal()? {
-        return Err(Stop::CannotOpen);
+        return Err(ServerStop::CannotOpen);
     }
     let renewal = Renewal {
         text,

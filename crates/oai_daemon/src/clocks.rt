@@ -2,8 +2,8 @@
 ghost use Rattle.oai_daemon.specs.Ends.{moment_at};
 ghost use Rattle.std.specs.Prelude.{◌≡◌};
 
-use oai_archive::Stop;
-use oai_startup::Stop as Other;
+use oai_archive::ServerStop;
+use oai_startup::Stop;
 use std::cell::Cell;
 use std::io;
 use std::rt::Clock;
@@ -67,10 +67,10 @@ fn has_jumped(last: (u64, u64), now: (u64, u64)) -> bool {
 }
 
 /// The clock's moment, in seconds from 1970 on. The error is `InputFault`.
-pub(crate) fn moment_of<C: Clock>(clock: &C) -> Result<i64, Stop> {
+pub(crate) fn moment_of<C: Clock>(clock: &C) -> Result<i64, ServerStop> {
     match clock.since_1970() {
         Ok(time) => Ok(to_moment(time.as_secs())),
-        Err(_) => Err(Stop::Common(Other::InputFault)),
+        Err(_) => Err(ServerStop::Common(Stop::InputFault)),
     }
 }
 

@@ -1,6 +1,6 @@
 //! What a startup has to know of the records of a journal.
 use oai_durable::Progress;
-use oai_journal::{Kind, Record};
+use oai_journal::{Kind, LogRecord};
 
 /// What a startup has to know of the records of a journal that were read.
 #[derive(Clone, Copy, Debug)]
@@ -41,7 +41,7 @@ impl Dates {
 }
 
 impl Progress for Dates {
-    fn note(&mut self, entry: &Record<'_>, _number: u64, position: usize, _len: usize) {
+    fn note(&mut self, entry: &LogRecord<'_>, _number: u64, position: usize, _len: usize) {
         self.position = position;
         match entry.kind {
             Kind::Journal => {}

@@ -5,11 +5,11 @@ ghost use Rattle.std.specs.Prelude.{◌≡◌, IfOk, IsTrue};
 
 use crate::notes::Note;
 use crate::places::Place;
-use oai_archive::Stop;
+use oai_archive::ServerStop;
 use oai_device::FileDevice;
 use oai_journal::Recovery;
 use oai_serving::{Listener, Socket};
-use oai_startup::Stop as Other;
+use oai_startup::Stop;
 use sqlite_disk::{Disk, Files};
 use sqlite_std_file::{FileFrom, OpenError, Start, Unknown, Wary, open};
 use std::fs::{self, DirBuilder, File, OpenOptions, TryLockError};
@@ -67,13 +67,13 @@ impl<'a, S: Start> HostPlace<'a, S> {
     }
 
     /// The path of the file with that name in the folder.
-    fn path(&self, name: &str) -> Result<String, Stop> {
+    fn path(&self, name: &str) -> Result<String, ServerStop> {
         let folder = self.folder;
         Ok(format!(in self.rt.alloc(); "{folder}/{name}")?)
     }
 
     /// Removes the file with that name, if it exists.
-    fn remove(&self, name: &str) -> Result<(), Stop> {
+    fn remove(&self, name: &str) -> Result<(), ServerStop> {
         match fs::remove_file(self.rt, self.path(name)?.as_str()) {
             Ok(()) => Ok(()),
             Err(error) if error.kind() == ErrorKind::NotFound => Ok(()),
@@ -82,19 +82,19 @@ impl<'a, S: Start> HostPlace<'a, S> {
     }
 
     /// Syncs the folder with that name in the folder, such as `.`.
-    fn sync(&self, name: &str) -> Result<(), Stop> {
+    fn sync(&self, name: &str) -> Result<(), ServerStop> {
         let folder = match File::open(self.rt, self.path(name)?.as_str()) {
             Ok(folder) => folder,
             Err(error) => return Err(stop_of(error)),
         };
         match folder.sync_all() {
             Ok(()) => Ok(()),
-            Err(_) => Err(Stop::CannotWrite),
+            Err(_) => Err(ServerStop::CannotWrite),
         }
     }
 
     /// Creates the folder, unless it exists.
-    fn make_folder(&self) -> Result<(), Stop> {
+    fn make_folder(&self) -> Result<(), ServerStop> {
         let made = DirBuilder::new()
             .mode(FOLDER_MODE)
             .create(self.rt, self.folder);
@@ -107,7 +107,7 @@ impl<'a, S: Start> HostPlace<'a, S> {
 
     /// Opens the file with that name for reading and writing. It is created if it does not exist, and truncated if
     /// `emptied`.
-    fn open_file(&self, name: &str, emptied: bool) -> Result<File, Stop> {
+    fn open_file(&self, name: &str, emptied: bool) -> Result<File, ServerStop> {
         let opened = OpenOptions::new()
             .read(true)
             .write(true)
@@ -123,19 +123,19 @@ impl<'a, S: Start> HostPlace<'a, S> {
 
     /// The disk over the file with that name, whose contents are those of `S`. The error is `InUse` if one was opened
     /// before.
-    fn served_disk(&mut self, name: &str) -> Result<FileFrom<S>, Stop>
+    fn served_disk(&mut self, name: &str) -> Result<FileFrom<S>, ServerStop>
         ensures { IfOk result (λ disk. ⟦<FileFrom<S> as Disk>⟧.seen disk ≡ S.Start.db) }
     {
         let path = self.path(name)?;
         match self.start.take() {
             Some(start) => disk_at(self.rt, path.as_str(), start),
-            None => Err(Stop::InUse),
+            None => Err(ServerStop::InUse),
         }
     }
 }
 
 /// The disk over the file at the path, whose contents are those of `S`.
-fn disk_at<S: Start>(rt: &HostRuntime, path: &str, start: S) -> Result<FileFrom<S>, Stop>
+fn disk_at<S: Start>(rt: &HostRuntime, path: &str, start: S) -> Result<FileFrom<S>, ServerStop>
     ensures { IfOk result (λ disk. ⟦<FileFrom<S> as Disk>⟧.seen disk ≡ S.Start.db) }
 {
     match open(rt, path, start) {
@@ -153,20 +153,20 @@ fn database_of<S: Start>(files: Files<FileFrom<S>>) -> FileFrom<S>
 }
 
 /// Why the server stops if the file of a journal could not be opened.
-fn stop_of_opening(error: OpenError) -> Stop {
+fn stop_of_opening(error: OpenError) -> ServerStop {
     match error {
-        OpenError::OutOfMemory => Stop::Common(Other::NoMemory),
-        OpenError::Busy => Stop::InUse,
-        OpenError::HotJournal => Stop::CannotOpen,
+        OpenError::OutOfMemory => ServerStop::Common(Stop::NoMemory),
+        OpenError::Busy => ServerStop::InUse,
+        OpenError::HotJournal => ServerStop::CannotOpen,
         OpenError::Io(error) => stop_of(error),
     }
 }
 
 /// Why the server stops if a file or a folder could not be opened, created or removed.
-fn stop_of(error: io::Error) -> Stop {
+fn stop_of(error: io::Error) -> ServerStop {
     match error.kind() {
-        ErrorKind::OutOfMemory => Stop::Common(Other::NoMemory),
-        _ => Stop::CannotOpen,
+        ErrorKind::OutOfMemory => ServerStop::Common(Stop::NoMemory),
+        _ => ServerStop::CannotOpen,
     }
 }
 
@@ -187,7 +187,7 @@ impl<S: Start> Place for HostPlace<'_, S> {
 
     ghost held = { Some S.Start.db };
 
-    fn lock(&mut self) -> Result<(), Stop> {
+    fn lock(&mut self) -> Result<(), ServerStop> {
         self.make_folder()?;
         let file = self.open_file("lock", false)?;
         match file.try_lock() {
@@ -195,23 +195,23 @@ impl<S: Start> Place for HostPlace<'_, S> {
                 self.lock = Some(file);
                 Ok(())
             }
-            Err(TryLockError::WouldBlock) => Err(Stop::InUse),
+            Err(TryLockError::WouldBlock) => Err(ServerStop::InUse),
             Err(TryLockError::Error(error)) => Err(stop_of(error)),
         }
     }
 
-    fn listen(&mut self) -> Result<Listener, Stop> {
+    fn listen(&mut self) -> Result<Listener, ServerStop> {
         let address = SocketAddr::new(self.address, self.port);
         match Listener::bind(self.rt.alloc(), self.rt, address) {
             Ok(listener) => Ok(listener),
             Err(error) if error.kind() == ErrorKind::OutOfMemory => {
-                Err(Stop::Common(Other::NoMemory))
+                Err(ServerStop::Common(Stop::NoMemory))
             }
-            Err(_) => Err(Stop::Common(Other::SocketFault)),
+            Err(_) => Err(ServerStop::Common(Stop::SocketFault)),
         }
     }
 
-    fn find_journal(&mut self) -> Result<bool, Stop> {
+    fn find_journal(&mut self) -> Result<bool, ServerStop> {
         self.remove("journal.new")?;
         self.remove("journal.new-wal")?;
         match fs::symlink_metadata(self.rt, self.path("journal")?.as_str()) {
@@ -221,52 +221,52 @@ impl<S: Start> Place for HostPlace<'_, S> {
         }
     }
 
-    fn read_journal(&mut self) -> Result<FileFrom<Wary>, Stop> {
+    fn read_journal(&mut self) -> Result<FileFrom<Wary>, ServerStop> {
         disk_at(self.rt, self.path("journal")?.as_str(), Wary)
     }
 
-    fn begin_journal(&mut self) -> Result<FileFrom<Unknown>, Stop> {
+    fn begin_journal(&mut self) -> Result<FileFrom<Unknown>, ServerStop> {
         drop(self.open_file("journal.new", true)?);
         disk_at(self.rt, self.path("journal.new")?.as_str(), Unknown)
     }
 
-    fn empty_pages(&mut self) -> Result<FileDevice<File>, Stop> {
+    fn empty_pages(&mut self) -> Result<FileDevice<File>, ServerStop> {
         match self.open_file("pages", true) {
             Ok(file) => Ok(FileDevice::new(file)),
-            Err(Stop::CannotOpen) => Err(Stop::Common(Other::DeviceFault)),
+            Err(ServerStop::CannotOpen) => Err(ServerStop::Common(Stop::DeviceFault)),
             Err(stop) => Err(stop),
         }
     }
 
-    fn open_journal(&mut self) -> Result<FileFrom<S>, Stop> {
+    fn open_journal(&mut self) -> Result<FileFrom<S>, ServerStop> {
         self.served_disk("journal")
     }
 
-    fn open_begun(&mut self) -> Result<FileFrom<S>, Stop> {
+    fn open_begun(&mut self) -> Result<FileFrom<S>, ServerStop> {
         self.served_disk("journal.new")
     }
 
-    fn keep_journal(&mut self, _begun: &Recovery<FileFrom<S>>) -> Result<(), Stop>
+    fn keep_journal(&mut self, _begun: &Recovery<FileFrom<S>>) -> Result<(), ServerStop>
         requires synced { IsTrue (⟦<FileFrom<S> as Disk>⟧.is_clean (disk_of _begun.now))
             → IsReadBack ⟦<FileFrom<S> as Disk>⟧.seen ⟦<FileFrom<S> as Disk>⟧.may_leave _begun.now }
     {
         let new = self.path("journal.new")?;
         let kept = self.path("journal")?;
         if fs::rename(self.rt, new.as_str(), kept.as_str()).is_err() {
-            return Err(Stop::CannotWrite);
+            return Err(ServerStop::CannotWrite);
         }
         self.remove("journal.new-wal")?;
         self.sync(".")?;
         self.sync("..")
     }
 
-    fn announce(&mut self, port: &Listener) -> Result<(), Stop> {
+    fn announce(&mut self, port: &Listener) -> Result<(), ServerStop> {
         let Ok(address) = port.address() else {
-            return Err(Stop::Common(Other::SocketFault));
+            return Err(ServerStop::Common(Stop::SocketFault));
         };
         match println!(self.rt; "listening on {address}") {
             Ok(()) => Ok(()),
-            Err(_) => Err(Stop::Common(Other::OutputFault)),
+            Err(_) => Err(ServerStop::Common(Stop::OutputFault)),
         }
     }
 

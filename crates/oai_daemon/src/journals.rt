@@ -10,7 +10,7 @@ use crate::notes::Note;
 use crate::origins::Origin;
 use crate::places::Place;
 use crate::renewals::{Renewal, renew};
-use oai_archive::{Stop, begin_reading, create_journal, has_config, read_over};
+use oai_archive::{ServerStop, begin_reading, create_journal, has_config, read_over};
 use oai_host::Config;
 use oai_journal::Recovery;
 use sqlite_disk::Disk;
@@ -31,7 +31,7 @@ pub(crate) fn prepare<P: Place, C: Clock>(
     clock: &C,
     text: &[u8],
     config: &Config,
-) -> Result<Origin, Stop> {
+) -> Result<Origin, ServerStop> {
     if !place.find_journal()? {
         let disk = place.begin_journal()?;
         drop(create_journal(alloc, disk, moment_of(clock)?, text)?);
@@ -57,7 +57,7 @@ fn origin_of<D: Disk + Drop, C: Clock>(
     clock: &C,
     renewal: &Renewal<'_>,
     journal: &mut Recovery<D>,
-) -> Result<Origin, Stop> {
+) -> Result<Origin, ServerStop> {
     if !has_config(alloc, journal, renewal.text)? {
         return Ok(Origin::Reconfigured);
     }
@@ -73,7 +73,7 @@ fn is_due<D: Disk + Drop, C: Clock>(
     clock: &C,
     config: &Config,
     journal: &mut Recovery<D>,
-) -> Result<bool, Stop> {
+) -> Result<bool, ServerStop> {
     if journal.file_len() <= MAX_TAIL {
         return Ok(false);
     }
@@ -104,7 +104,7 @@ pub(crate) fn keep<P: Place>(
     origin: Origin,
     records: u64,
     begun: &Recovery<P::Disk>,
-) -> Result<(), Stop>
+) -> Result<(), ServerStop>
     requires synced { IsTrue (P.Disk.Disk.is_clean (disk_of begun.now))
         → IsReadBack P.Disk.Disk.seen P.Disk.Disk.may_leave begun.now }
     ensures fresh { OnOk result (origin ≡ Begun → records ≡ 0) }
@@ -112,7 +112,7 @@ pub(crate) fn keep<P: Place>(
     match (origin, records) {
         (Origin::Found, _) => Ok(()),
         (Origin::Begun, 0) => place.keep_journal(begun),
-        (Origin::Begun, _) => Err(Stop::CannotWrite),
+        (Origin::Begun, _) => Err(ServerStop::CannotWrite),
         (Origin::Shortened, _) => place.keep_journal(begun),
         (Origin::Reconfigured, _) => {
             place.keep_journal(begun)?;

@@ -3,7 +3,7 @@
 ghost use Rattle.oai_daemon.specs.Archives.{archive};
 ghost use Rattle.oai_daemon.specs.Lives.{BeginsWithAll, HasLived};
 ghost use Rattle.oai_daemon.specs.declared.origins.Origin.{Origin as From};
-ghost use Rattle.oai_durable.specs.Checkpoints.{AreStages, IsHistory, Stage};
+ghost use Rattle.oai_durable.specs.Checkpoints.{AreStages, IsHistory, JournalStage};
 ghost use Rattle.oai_durable.specs.Journaled.{Parts};
 ghost use Rattle.oai_host.specs.Hosts.{HostState, Repository};
 ghost use Rattle.oai_host.specs.Saved.{emptied_in};
@@ -26,7 +26,7 @@ use sqlite_std_file::{FileFrom, Start};
 /// record follows. All else in it was performed, and its answer held back; or it is a checkpoint, at which all lists
 /// ended and the number of each next list was raised. A theorem, proved by an empty function.
 pub fn archive_law()
-    ensures { (begun : List Repository) (stages : List Stage) (left : List Entry)
+    ensures { (begun : List Repository) (stages : List JournalStage) (left : List Entry)
         → emptied_in begun ≡ begun
         → AreStages archive begun [] stages left
         → IsHistory archive begun stages left }

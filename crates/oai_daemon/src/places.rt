@@ -5,7 +5,7 @@ ghost use Rattle.oai_serving.specs.Accepted.{PassesNone, known_of};
 ghost use Rattle.std.specs.Prelude.{◌≡◌, ℕ, IfOk, IfSome, IsTrue, List, None, Option};
 
 use crate::notes::Note;
-use oai_archive::Stop;
+use oai_archive::ServerStop;
 use oai_device::PageDevice;
 use oai_journal::Recovery;
 use oai_serving::{Sockets, Stream};
@@ -34,42 +34,42 @@ pub trait Place {
     ghost held: { Option (List ℕ) } = { None };
 
     /// Opens the folder, or creates it, and locks it until the end. The errors are `CannotOpen` and `InUse`.
-    fn lock(&mut self) -> Result<(), Stop>;
+    fn lock(&mut self) -> Result<(), ServerStop>;
 
     /// Listens at the port; connections wait until they are accepted, and none has been accepted or closed yet. The errors are
     /// `SocketFault` and `NoMemory`.
-    fn listen(&mut self) -> Result<Self::Port, Stop>
+    fn listen(&mut self) -> Result<Self::Port, ServerStop>
         ensures { IfOk result (λ port. PassesNone (known_of (Self.Port.Sockets.accepted port) (Self.Port.Sockets.gone port))) };
 
     /// Removes what an earlier startup left of a journal that it began, and returns whether there is a journal.
-    fn find_journal(&mut self) -> Result<bool, Stop>;
+    fn find_journal(&mut self) -> Result<bool, ServerStop>;
 
     /// The disk of the folder's journal, to be read.
-    fn read_journal(&mut self) -> Result<Self::OldDisk, Stop>;
+    fn read_journal(&mut self) -> Result<Self::OldDisk, ServerStop>;
 
     /// The disk of a journal that is begun beside the folder's: it is empty.
-    fn begin_journal(&mut self) -> Result<Self::NewDisk, Stop>;
+    fn begin_journal(&mut self) -> Result<Self::NewDisk, ServerStop>;
 
     /// The device of the pages, empty.
-    fn empty_pages(&mut self) -> Result<Self::Pages, Stop>;
+    fn empty_pages(&mut self) -> Result<Self::Pages, ServerStop>;
 
     /// The disk of the folder's journal, to be served.
-    fn open_journal(&mut self) -> Result<Self::Disk, Stop>
+    fn open_journal(&mut self) -> Result<Self::Disk, ServerStop>
         ensures { IfOk result (λ disk. IfSome held (λ file. Self.Disk.Disk.seen disk ≡ file)) };
 
     /// The disk of the journal that was begun and written, to be read back and served.
-    fn open_begun(&mut self) -> Result<Self::Disk, Stop>
+    fn open_begun(&mut self) -> Result<Self::Disk, ServerStop>
         ensures { IfOk result (λ disk. IfSome held (λ file. Self.Disk.Disk.seen disk ≡ file)) };
 
     /// Replaces the folder's journal, if there is one, by the journal that was begun. It was read to its end, and all
     /// its bytes are synced.
-    fn keep_journal(&mut self, begun: &Recovery<Self::Disk>) -> Result<(), Stop>
+    fn keep_journal(&mut self, begun: &Recovery<Self::Disk>) -> Result<(), ServerStop>
         requires synced { IsTrue (Self.Disk.Disk.is_clean (disk_of begun.now))
             → IsReadBack Self.Disk.Disk.seen Self.Disk.Disk.may_leave begun.now };
 
     /// Writes to standard output at which port it listens. The error is `OutputFault`, or `SocketFault` if the port is
     /// not known.
-    fn announce(&mut self, port: &Self::Port) -> Result<(), Stop>;
+    fn announce(&mut self, port: &Self::Port) -> Result<(), ServerStop>;
 
     /// Reports to the operator what the server does. A report that cannot be written ends nothing.
     fn tell(&mut self, note: Note);

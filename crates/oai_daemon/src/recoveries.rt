@@ -9,10 +9,10 @@ use crate::dates::Dates;
 use crate::notes::Note;
 use crate::origins::Origin;
 use crate::places::Place;
-use oai_archive::{Stop, stop_of_checkpoint, stop_of_recovery};
+use oai_archive::{ServerStop, stop_of_checkpoint, stop_of_recovery};
 use oai_durable::{Progress, RecoverFault, recover};
-use oai_http::Replayed;
-use oai_journal::{Record, Recovery};
+use oai_journal::{LogRecord, Recovery};
+use oai_replay::Replayed;
 use sqlite_disk::Disk;
 use std::alloc::Global;
 use std::rt::Clock;
@@ -37,7 +37,7 @@ struct Meter<'a, P, C> {
 }
 
 impl<P: Place, C: Clock> Progress for Meter<'_, P, C> {
-    fn note(&mut self, entry: &Record<'_>, number: u64, position: usize, len: usize) {
+    fn note(&mut self, entry: &LogRecord<'_>, number: u64, position: usize, len: usize) {
         self.dates.note(entry, number, position, len);
         let second = second_of(self.clock);
         if second > self.last {
@@ -62,7 +62,7 @@ impl<'a, P: Place, C: Clock> Meter<'a, P, C> {
 
     /// Reports the totals of the recovery, and whether the clock is far from the last record. The error is
     /// `InputFault` if the clock cannot be read.
-    fn end(&mut self, records: u64, position: usize) -> Result<(), Stop> {
+    fn end(&mut self, records: u64, position: usize) -> Result<(), ServerStop> {
         let seconds = second_of(self.clock).saturating_sub(self.begun);
         self.place.tell(Note::Recovered(records, position, seconds));
         let moment = moment_of(self.clock)?;
@@ -85,7 +85,7 @@ pub(crate) fn recover_all<D: Disk + Drop, P: Place, H: Replayed, C: Clock>(
     origin: Origin,
     handler: &mut H,
     recovery: &mut Recovery<D>,
-) -> Result<u64, Stop>
+) -> Result<u64, ServerStop>
     ensures recovered { IfOk result (λ count. IsTrue (D.Disk.is_clean (disk_of recovery.new)) → (first : Entry)
         → HasRecovered D.Disk.seen D.Disk.may_leave recovery.old first []
         → IsRecovered H.kept H.is_honest (record { redone = H.redone; restored = H.restored })
@@ -109,7 +109,7 @@ fn stop_of<D: Disk + Drop>(
     origin: Origin,
     fault: RecoverFault,
     recovery: &Recovery<D>,
-) -> Stop {
+) -> ServerStop {
     match origin {
         Origin::Found => stop_of_recovery(fault),
         Origin::Begun => stop_of_recovery(fault),

@@ -4,10 +4,10 @@ use crate::origins::Origin;
 use crate::places::Place;
 use crate::recoveries::recover_all;
 use crate::starts::host_in;
-use oai_archive::{Stop, check_differences, config_text, write_checkpoint};
+use oai_archive::{ServerStop, check_differences, config_text, write_checkpoint};
 use oai_host::Config;
-use oai_http::Replayed;
 use oai_journal::Recovery;
+use oai_replay::Replayed;
 use oai_startup::config_in;
 use std::alloc::Global;
 use std::rt::Clock;
@@ -32,7 +32,7 @@ pub(crate) fn renew<P: Place, C: Clock>(
     clock: &C,
     renewal: &Renewal<'_>,
     old: &mut Recovery<P::OldDisk>,
-) -> Result<(), Stop> {
+) -> Result<(), ServerStop> {
     let text = config_text(alloc, old)?;
     let config = config_in(alloc, &text)?;
     check_differences(alloc, &config, renewal.config)?;
@@ -48,7 +48,7 @@ fn renew_by<P: Place, H: Replayed + Drop, C: Clock>(
     renewal: &Renewal<'_>,
     mut handler: H,
     old: &mut Recovery<P::OldDisk>,
-) -> Result<(), Stop> {
+) -> Result<(), ServerStop> {
     recover_all(alloc, place, clock, Origin::Found, &mut handler, old)?;
     save(alloc, place, clock, renewal, &mut handler)
 }
@@ -60,7 +60,7 @@ fn save<P: Place, H: Replayed, C: Clock>(
     clock: &C,
     renewal: &Renewal<'_>,
     handler: &mut H,
-) -> Result<(), Stop> {
+) -> Result<(), ServerStop> {
     let disk = place.begin_journal()?;
     let moment = moment_of(clock)?;
     drop(write_checkpoint(alloc, disk, moment, renewal.text, handler, renewal.raise)?);

@@ -1,5 +1,5 @@
 //! A startup, and the service after it.
-ghost use Rattle.oai_daemon.specs.Ends.{outcome_of, stop_of};
+ghost use Rattle.oai_daemon.specs.Ends.{serve_outcome, stop_of};
 ghost use Rattle.oai_daemon.specs.Lives.{HasLived};
 ghost use Rattle.oai_daemon.specs.Starts.{HasResumed, HasServed};
 ghost use Rattle.oai_serving.specs.Accepted.{PassesNone, known_of};
@@ -10,14 +10,15 @@ use crate::origins::Origin;
 use crate::places::Place;
 use crate::starts::{Started, start};
 use crate::watched::Watched;
-use oai_archive::Stop;
+use oai_archive::ServerStop;
 use oai_durable::{Journaled, resume};
 use oai_host::Host;
-use oai_http::{Replayed, Settled};
+use oai_http::Settled;
 use oai_journal::{FileJournal, Journal};
 use oai_paged::PagedVersions;
+use oai_replay::Replayed;
 use oai_serving::{ServeFault, Server, Sockets, Stream};
-use oai_startup::{Stop as Other, config_in};
+use oai_startup::{Stop, config_in};
 use std::alloc::Global;
 use std::rt::Clock;
 
@@ -39,8 +40,8 @@ pub struct Ended<S, K, H> {
 impl<S, K, H> Ended<S, K, H> {
     /// Why the program stops: `CannotWrite` if the journal could not be written or synced, `Jumped` if the clock
     /// jumped, `InputFault` if it could not be read, and `SocketFault` if it could not wait for readiness.
-    pub fn outcome(&self) -> Result<(), Stop>
-        ensures { result ≡ outcome_of self.now.result self.now.jumped }
+    pub fn outcome(&self) -> Result<(), ServerStop>
+        ensures { result ≡ serve_outcome self.now.result self.now.jumped }
     {
         match self.result {
             Ok(()) => Ok(()),
@@ -69,7 +70,7 @@ pub fn serve<'a, P: Place, C: Clock>(
     place: &'a mut P,
     clock: &C,
     text: &[u8],
-) -> Result<Ended<P::Link, P::Port, Hosting<'a, P>>, Stop>
+) -> Result<Ended<P::Link, P::Port, Hosting<'a, P>>, ServerStop>
     ensures { IfOk result (λ ended. HasLived ⟦<FileJournal<P::Disk> as Journal>⟧ P.Disk.Disk.seen P.Disk.Disk.is_clean
         P.Link.Stream.contents P.Link.Stream.remaining P.held text.now ended.origin
         (known_of (P.Port.Sockets.accepted ended.port) (P.Port.Sockets.gone ended.port)) ended.result ended.server) }
@@ -81,7 +82,7 @@ pub fn serve<'a, P: Place, C: Clock>(
 }
 
 /// Opens the folder, and listens.
-fn open<P: Place>(place: &mut P) -> Result<P::Port, Stop>
+fn open<P: Place>(place: &mut P) -> Result<P::Port, ServerStop>
     ensures { IfOk result (λ port. PassesNone (known_of (P.Port.Sockets.accepted port) (P.Port.Sockets.gone port))) }
 {
     place.lock()?;
@@ -95,7 +96,7 @@ fn serve_over<'a, P: Place, H: Replayed + Drop, C: Clock>(
     clock: &C,
     started: Started<P::Disk, H>,
     port: P::Port,
-) -> Result<Ended<P::Link, P::Port, Watched<'a, Journaled<H, FileJournal<P::Disk>>, P>>, Stop>
+) -> Result<Ended<P::Link, P::Port, Watched<'a, Journaled<H, FileJournal<P::Disk>>, P>>, ServerStop>
     ensures resumed { IfOk result (λ ended. HasResumed (record {
       step = H.step;
       Kept = H.Kept;
@@ -116,7 +117,7 @@ fn serve_over<'a, P: Place, H: Replayed + Drop, C: Clock>(
         ..
     } = started;
     let Some(journaled) = resume(alloc, handler, recovery) else {
-        return Err(Stop::Common(Other::InputFault));
+        return Err(ServerStop::Common(Stop::InputFault));
     };
     place.announce(&port)?;
     let watched = Watched::new(journaled, place);
@@ -130,13 +131,13 @@ fn serve_at<S: Stream + Drop, K: Sockets<S> + Drop, H: Settled + Drop, C: Clock>
     origin: Origin,
     handler: H,
     mut port: K,
-) -> Result<Ended<S, K, H>, Stop>
+) -> Result<Ended<S, K, H>, ServerStop>
     ensures served { IfOk result (λ ended. HasServed H.step H.settled S.contents S.remaining handler
         (known_of (K.accepted port) (K.gone port)) (known_of (K.accepted ended.port) (K.gone ended.port)) ended.result ended.server) }
     ensures origin { IfOk result (λ ended. ended.origin ≡ origin) }
 {
     let Ok(mut server) = Server::new(alloc, handler) else {
-        return Err(Stop::Common(Other::NoMemory));
+        return Err(ServerStop::Common(Stop::NoMemory));
     };
     let result = server.serve(&mut port, clock);
     Ok(Ended {
@@ -149,13 +150,13 @@ fn serve_at<S: Stream + Drop, K: Sockets<S> + Drop, H: Settled + Drop, C: Clock>
 }
 
 /// Why the server stops when its service ended, and the clock jumped to that second, or did not jump.
-fn stop_of(fault: ServeFault, jumped: Option<u64>) -> Stop
+fn stop_of(fault: ServeFault, jumped: Option<u64>) -> ServerStop
     ensures { result ≡ stop_of fault jumped }
 {
     match (fault, jumped) {
-        (ServeFault::Wait, _) => Stop::Common(Other::SocketFault),
-        (ServeFault::Clock, Some(second)) => Stop::Jumped(to_moment(second)),
-        (ServeFault::Clock, None) => Stop::Common(Other::InputFault),
-        (ServeFault::Unsettled, _) => Stop::CannotWrite,
+        (ServeFault::Wait, _) => ServerStop::Common(Stop::SocketFault),
+        (ServeFault::Clock, Some(second)) => ServerStop::Jumped(to_moment(second)),
+        (ServeFault::Clock, None) => ServerStop::Common(Stop::InputFault),
+        (ServeFault::Unsettled, _) => ServerStop::CannotWrite,
     }
 }

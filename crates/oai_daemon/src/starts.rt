@@ -9,11 +9,11 @@ use crate::journals::{keep, prepare};
 use crate::origins::Origin;
 use crate::places::Place;
 use crate::recoveries::recover_all;
-use oai_archive::{Stop, begin_for};
+use oai_archive::{ServerStop, begin_for};
 use oai_host::{Config, Host};
-use oai_http::Replayed;
 use oai_journal::Recovery;
 use oai_paged::PagedVersions;
+use oai_replay::Replayed;
 use oai_startup::host_on;
 use sqlite_disk::Disk;
 use std::alloc::Global;
@@ -41,7 +41,7 @@ pub(crate) fn start<P: Place, C: Clock>(
     clock: &C,
     text: &[u8],
     config: Config,
-) -> Result<Started<P::Disk, Host<PagedVersions<P::Pages>>>, Stop>
+) -> Result<Started<P::Disk, Host<PagedVersions<P::Pages>>>, ServerStop>
     requires read { IsRead text.now (Ok config) }
     requires rules { HaveRules config }
     ensures { IfOk result (λ started. HasStarted P.Disk.Disk.seen P.Disk.Disk.may_leave P.Disk.Disk.is_clean P.held
@@ -61,7 +61,7 @@ fn start_by<P: Place, H: Replayed + Drop, C: Clock>(
     text: &[u8],
     origin: Origin,
     mut handler: H,
-) -> Result<Started<P::Disk, H>, Stop>
+) -> Result<Started<P::Disk, H>, ServerStop>
     ensures { IfOk result (λ started. HasReplayed H.kept H.is_honest (record { redone = H.redone; restored = H.restored })
         P.Disk.Disk.seen P.Disk.Disk.may_leave P.Disk.Disk.is_clean P.held text.now (H.kept handler)
         started.origin started.records started.handler started.recovery) }
@@ -79,7 +79,7 @@ fn start_by<P: Place, H: Replayed + Drop, C: Clock>(
 }
 
 /// The disk of the journal with that origin, to be served.
-fn open_for<P: Place>(place: &mut P, origin: Origin) -> Result<P::Disk, Stop>
+fn open_for<P: Place>(place: &mut P, origin: Origin) -> Result<P::Disk, ServerStop>
     ensures { IfOk result (λ disk. IfSome P.held (λ file. P.Disk.Disk.seen disk ≡ file)) }
 {
     match origin {
@@ -97,13 +97,15 @@ pub(crate) fn keep_checkpoint<P: Place, C: Clock>(
     clock: &C,
     text: &[u8],
     config: Config,
-) -> Result<(), Stop> {
+) -> Result<(), ServerStop> {
     let host = host_in(alloc, place, config)?;
     dropped(start_by(alloc, place, clock, text, Origin::Shortened, host))
 }
 
 /// Whether it started.
-fn dropped<D: Disk + Drop, H: Drop>(started: Result<Started<D, H>, Stop>) -> Result<(), Stop> {
+fn dropped<D: Disk + Drop, H: Drop>(
+    started: Result<Started<D, H>, ServerStop>,
+) -> Result<(), ServerStop> {
     match started {
         Ok(_) => Ok(()),
         Err(stop) => Err(stop),
@@ -115,7 +117,7 @@ pub(crate) fn host_in<P: Place>(
     alloc: Global,
     place: &mut P,
     config: Config,
-) -> Result<Host<PagedVersions<P::Pages>>, Stop>
+) -> Result<Host<PagedVersions<P::Pages>>, ServerStop>
     ensures { IfOk result (λ host. host.repositories ≡ map begun config.repositories) }
 {
     let pages = place.empty_pages()?;

@@ -1,8 +1,9 @@
-pub mod JsonLemmas
+pub mod DumpLemmas
 pub mod LineLemmas
-pub mod MemberLemmas
 pub mod ReaderLemmas
 pub mod ReadingLemmas
 pub mod RecordLemmas
 pub mod ShapeLemmas
 pub mod TokenLemmas
+pub mod ValueLemmas
+pub mod WrittenLemmas

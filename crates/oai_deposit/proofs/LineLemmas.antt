@@ -4,13 +4,13 @@ use Rattle.serde_json.specs.Data.{Data}
 use Rattle.oai_item.specs.declared.changes.Change.{Change}
 use Rattle.oai_deposit.specs.declared.faults.LineFault.{LineFault}
 use Rattle.oai_deposit.specs.declared.faults.LineFault.TheVariants.{NoMemory, Refused}
-use Rattle.oai_deposit.specs.Json.{TakesMemory, json_in}
+use Rattle.oai_json.specs.Json.{TakesMemory, json_in}
 use Rattle.oai_deposit.specs.Lines.{change_asked, line_of, shape_of, value_asked}
-use Rattle.oai_deposit.specs.Readings.{Gives}
-use Rattle.oai_deposit.proofs.JsonLemmas.{takes-read}
+use Rattle.oai_deposit.specs.Readings.{ReturnsReading}
+use Rattle.oai_json.proofs.JsonLemmas.{takes-read}
 
 pub line_gives : (line : List ℕ) (d : Data) (P : Type 0) (result : Result Change LineFault) → json_in line ≡ Some d
-    → Gives P result (change_asked (shape_of d)) → Gives (TakesMemory line) result (line_of line)
+    → ReturnsReading P result (change_asked (shape_of d)) → ReturnsReading (TakesMemory line) result (line_of line)
 unfolding line_of
 line_gives line d P (Ok change) is gives = ap value_asked is ∙ gives
 line_gives line d P (Err (Refused refusal)) is gives = ap value_asked is ∙ gives

@@ -14,8 +14,8 @@ use Rattle.oai_item.specs.declared.fields.Field.{Field}
 use Rattle.oai_item.specs.Item.{Metadata, is_before, are_rising}
 use Rattle.oai_names.specs.Optional.{◌>>=◌, each_of}
 use Rattle.oai_deposit.specs.Lines.{field_list_of, record_of, records_of}
-use Rattle.oai_deposit.proofs.JsonLemmas.{members_in-members_view, seen}
-use Rattle.oai_deposit.proofs.ReadingLemmas.{bind-Some, Some-injective}
+use Rattle.oai_json.proofs.JsonLemmas.{members_in-members_view, seen}
+use Rattle.oai_json.proofs.ReadingLemmas.{bind-Some, Some-injective}
 
 pub records_of-Object : (m : BTreeMap (String Global) Value) → records_of (view (Object m)) ≡ each_of record_of (map seen m.entries)
 unfolding records_of

@@ -11,12 +11,12 @@ use Rattle.serde_json.specs.Data.{Data, array, boolean, member, no_members, null
 use Rattle.serde_json.specs.Find.{get}
 use Rattle.oai_item.specs.Item.{Metadata}
 use Rattle.oai_names.specs.Optional.{◌>>=◌}
-use Rattle.oai_deposit.specs.Json.{has_each, has_members, size, text_at, texts_at}
+use Rattle.oai_json.specs.Json.{has_each, has_members, size, text_at, texts_at}
 use Rattle.oai_deposit.specs.Lines.{Shape, deposits, deletes, purges, purge_shape, purge_members, adds_set, records_at, records_of, deposit_shape, deposit_members, deletion_shape, deletion_members, set_shape, set_members, shape_of}
 use Rattle.oai_deposit.specs.Shapes.{written_records, IsDeposit, IsDeletion, IsPurge, IsNewSet, IsShape, ShapeLaw}
-use Rattle.oai_deposit.proofs.MemberLemmas.{member_again, member_takes, text_again, text_takes, texts_are, texts_take}
+use Rattle.oai_json.proofs.MemberLemmas.{member_again, member_takes, of_another_size, of_size, text_again, text_takes, texts_are, texts_take}
 use Rattle.oai_deposit.proofs.ReaderLemmas.{records}
-use Rattle.oai_deposit.proofs.ReadingLemmas.{Some-injective, bind-Some}
+use Rattle.oai_json.proofs.ReadingLemmas.{Some-injective, bind-Some}
 
 -- ---- members
 
@@ -27,20 +27,6 @@ records_take d rs is = member_takes (codes "records") d records_of written_recor
 records_again : (d : Data) (rs : List Metadata) → get (codes "records") d ≡ Some (written_records rs) → records_at d ≡ Some rs
 unfolding records_at
 records_again d rs is = member_again (codes "records") d records_of written_records rs records is
-
-both : (a b : Bool) → (a && b) ≡ true → a ≡ true
-both true b is = refl
-both false b is = absurd cc
-
--- an object of exactly these members is of their number
-pub of_size : (names : List (List ℕ)) (d : Data) → has_members names d ≡ true → size d ≡ length names
-unfolding has_members
-of_size names d is = eqb-true _ _ (both (eqb (size d) (length names)) (has_each names d) is)
-
--- an object of another number of members
-of_another_size : (names : List (List ℕ)) (d : Data) (n : ℕ) → size d ≡ n → eqb n (length names) ≡ false → has_members names d ≡ false
-unfolding has_members
-of_another_size names d n is other = ap (λ m. eqb m (length names) && has_each names d) is ∙ ap (λ b. b && has_each names d) other
 
 -- ---- a deposit
 

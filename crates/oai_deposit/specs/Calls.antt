@@ -1,7 +1,7 @@
 -- What the calls return that read parts of a line: words that the contract of the whole does not need.
 use Rattle.std.specs.Prelude.{◌||◌, Bool}
 use Rattle.serde_json.specs.Data.{Data}
-use Rattle.oai_deposit.specs.Json.{has_members}
+use Rattle.oai_json.specs.Json.{has_members}
 use Rattle.oai_deposit.specs.Lines.{deposit_members, deletion_members, purge_members, set_members}
 
 -- the condition that is always true: memory may run out anywhere

@@ -15,7 +15,7 @@ use Rattle.oai_item.specs.declared.refusals.LineRefusal.{LineRefusal}
 use Rattle.oai_item.specs.declared.refusals.LineRefusal.TheVariants.{BadJson, BadCommand, BadIdentifier, BadSetSpec, BadText}
 use Rattle.oai_item.specs.Item.{Metadata}
 use Rattle.oai_item.specs.ShortTexts.{is_short_text}
-use Rattle.oai_deposit.specs.Json.{json_in, members_in, has_members, elements_of, text_at, texts_at}
+use Rattle.oai_json.specs.Json.{json_in, members_in, has_members, elements_of, text_at, texts_at}
 
 -- ---- the shapes. `ShapeLaw` (Shapes.antt) says which objects they are
 

@@ -17,8 +17,8 @@ GivesBy view condition (Err (Refused refusal)) reading = reading ≡ Err refusal
 GivesBy view condition (Err NoMemory) reading = condition
 
 -- a call returned the part itself; or out of memory, and then the condition is true
-abbrev pub Gives : {A : Type 0} → Type 0 → Result A LineFault → Result A LineRefusal → Type 0
-Gives condition result reading = GivesBy (λ x. x) condition result reading
+abbrev pub ReturnsReading : {A : Type 0} → Type 0 → Result A LineFault → Result A LineRefusal → Type 0
+ReturnsReading condition result reading = GivesBy (λ x. x) condition result reading
 
 -- a call returned the part, seen by the view; or, if there is none, that refusal; or out of memory, and then the
 -- condition is true

@@ -4,7 +4,7 @@ use Rattle.serde_json.specs.Data.{Data, string}
 use Rattle.serde_json.specs.Find.{get}
 use Rattle.oai_item.specs.declared.fields.Field.{Field}
 use Rattle.oai_item.specs.Item.{Metadata}
-use Rattle.oai_deposit.specs.Json.{size, array_of, object_of}
+use Rattle.oai_json.specs.Json.{size, array_of, object_of}
 use Rattle.oai_deposit.specs.Lines.{Shape, deposits, deletes, purges, adds_set, shape_of}
 
 -- [TEXT,..]

@@ -5,16 +5,9 @@ use Rattle.json.specs.Token.{Token}
 use Rattle.serde_json.specs.Data.{Data}
 use Rattle.oai_item.specs.declared.fields.Field.{Field}
 use Rattle.oai_item.specs.Item.{Metadata, is_before}
-use Rattle.oai_deposit.specs.Json.{json_in}
+use Rattle.oai_json.specs.Json.{json_in}
+use Rattle.oai_json.specs.Tokens.{array_tokens, text_tokens}
 use Rattle.oai_deposit.specs.Lines.{deposits, shape_of}
-
--- the array of these elements, each by its tokens
-abbrev pub array_tokens : {A : Type 0} → (A → List Token) → List A → List Token
-array_tokens tokens elements = Token.begin_array ∷ (flat_map tokens elements ++ Token.end_array ∷ [])
-
--- TEXT
-abbrev pub text_tokens : List ℕ → List Token
-text_tokens text = Token.string text ∷ []
 
 -- [NAME,TEXT]
 abbrev pub field_tokens : Field → List Token

@@ -1,15 +1,16 @@
-//! Deposit lines: the change that a line of JSON requests of a repository, or why the line is refused. And what a JSON
-//! value has, for other readers of JSON.
+//! Deposit lines: the change that a line of JSON requests of a repository, or why the line is refused; and what a
+//! repository holds, as the lines that deposit it again.
 #![tactic(auto)]
 
 mod deposit_texts;
+mod dump_values;
+mod dumps;
 mod faults;
 mod lines;
 mod members;
 mod records;
 mod tokens;
-mod values;
 
+pub use dumps::{deletion_line, deposit_line, dump_law, set_line};
 pub use faults::LineFault;
 pub use lines::{read_line, shape_law};
-pub use values::{elements_at, has_members, number_at, read_json, text_at};

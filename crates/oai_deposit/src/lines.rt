@@ -7,9 +7,9 @@ ghost use Rattle.oai_names.specs.Sets.{may_be_set_spec};
 ghost use Rattle.oai_item.specs.ShortTexts.{is_short_text};
 ghost use Rattle.oai_item.specs.declared.refusals.LineRefusal.TheVariants.{BadIdentifier, BadSetSpec, BadText};
 ghost use Rattle.oai_deposit.specs.Calls.{Anywhere, has_command_members};
-ghost use Rattle.oai_deposit.specs.Json as json;
+ghost use Rattle.oai_json.specs.Json as json;
 ghost use Rattle.oai_deposit.specs.Lines as lines;
-ghost use Rattle.oai_deposit.specs.Readings.{FindsBy, Gives, passed};
+ghost use Rattle.oai_deposit.specs.Readings.{FindsBy, ReturnsReading, passed};
 ghost use Rattle.oai_deposit.specs.Shapes.{ShapeLaw};
 
 use crate::deposit_texts::DepositTexts;
@@ -17,9 +17,9 @@ use crate::faults::LineFault;
 use crate::members::{command_text, texts_at};
 use crate::records::{have_xml_texts, records_at};
 use crate::tokens::read_deposit;
-use crate::values::{has_members, read_json};
 use json::Scratch;
 use oai_item::{Change, LineRefusal, is_short_text};
+use oai_json::{has_members, read_json};
 use oai_names::{Identifier, NameFault, Sequence, SetSpec, Text};
 use serde_json::Value;
 use std::alloc::Global;
@@ -32,7 +32,7 @@ use std::alloc::Global;
 /// once.
 #[tactic(auto, unfolding(crate::specs::Lines::line_of))]
 pub fn read_line(alloc: Global, line: &[u8]) -> Result<Change, LineFault>
-    ensures { Gives (json.TakesMemory line.now) result (lines.line_of line.now) }
+    ensures { ReturnsReading (json.TakesMemory line.now) result (lines.line_of line.now) }
 {
     let mut scratch = Scratch::new(alloc);
     match read_deposit(alloc, line, &mut scratch) {
@@ -44,7 +44,7 @@ pub fn read_line(alloc: Global, line: &[u8]) -> Result<Change, LineFault>
 /// Reads a line of any command, with its members in any order, by its JSON value.
 #[tactic(auto, unfolding(crate::specs::Lines::line_of))]
 fn read_any(alloc: Global, line: &[u8]) -> Result<Change, LineFault>
-    ensures { Gives (json.TakesMemory line.now) result (lines.line_of line.now) }
+    ensures { ReturnsReading (json.TakesMemory line.now) result (lines.line_of line.now) }
 {
     match read_json(alloc, line)? {
         Some(value) => read_value(alloc, &value),
@@ -61,7 +61,7 @@ pub fn shape_law()
 /// The change that the value requests, by the shape that its members have.
 #[tactic(auto, unfolding(crate::specs::Lines::shape_of))]
 fn read_value(alloc: Global, value: &Value) -> Result<Change, LineFault>
-    ensures { Gives (has_command_members (view value.now) ≡ true) result
+    ensures { ReturnsReading (has_command_members (view value.now) ≡ true) result
         (lines.change_asked (lines.shape_of (view value.now))) }
 {
     if has_members(value, &["deposit", "sets", "records"]) {
@@ -80,7 +80,7 @@ fn read_value(alloc: Global, value: &Value) -> Result<Change, LineFault>
 /// The deposit of an object with its members. The whole shape is read before its texts are tested.
 #[tactic(auto, unfolding(crate::specs::Lines::deposit_shape))]
 fn deposit_of(alloc: Global, value: &Value) -> Result<Change, LineFault>
-    ensures { Gives Anywhere result (lines.change_asked (lines.deposit_shape (view value.now))) }
+    ensures { ReturnsReading Anywhere result (lines.change_asked (lines.deposit_shape (view value.now))) }
 {
     let identifier = command_text(value, "deposit")?;
     let sets = texts_at(alloc, value, "sets")?;
@@ -96,7 +96,7 @@ fn deposit_of(alloc: Global, value: &Value) -> Result<Change, LineFault>
 /// The deposit of these texts.
 #[tactic(auto, unfolding(crate::specs::Lines::asked_change))]
 fn deposit_from(alloc: Global, texts: DepositTexts<'_>) -> Result<Change, LineFault>
-    ensures { Gives (may_be_identifier texts.entry.identifier.now ≡ true) result
+    ensures { ReturnsReading (may_be_identifier texts.entry.identifier.now ≡ true) result
         (lines.asked_change (lines.deposits texts.entry.identifier.now
         (map (λ text. text.now) texts.entry.sets.items) texts.entry.records)) }
 {
@@ -120,7 +120,7 @@ fn deposit_from(alloc: Global, texts: DepositTexts<'_>) -> Result<Change, LineFa
 /// The deletion of an object with its member.
 #[tactic(auto, unfolding(crate::specs::Lines::deletion_shape))]
 fn deletion_of(alloc: Global, value: &Value) -> Result<Change, LineFault>
-    ensures { Gives (is_some (lines.deletion_shape (view value.now)) ≡ true) result
+    ensures { ReturnsReading (is_some (lines.deletion_shape (view value.now)) ≡ true) result
         (lines.change_asked (lines.deletion_shape (view value.now))) }
 {
     let identifier = command_text(value, "delete")?;
@@ -130,7 +130,7 @@ fn deletion_of(alloc: Global, value: &Value) -> Result<Change, LineFault>
 /// The deletion of the item with this identifier.
 #[tactic(auto, unfolding(crate::specs::Lines::asked_change))]
 fn deletion_from(alloc: Global, identifier: &str) -> Result<Change, LineFault>
-    ensures { Gives (may_be_identifier identifier.now ≡ true) result
+    ensures { ReturnsReading (may_be_identifier identifier.now ≡ true) result
         (lines.asked_change (lines.deletes identifier.now)) }
 {
     Ok(Change::Delete {
@@ -141,7 +141,7 @@ fn deletion_from(alloc: Global, identifier: &str) -> Result<Change, LineFault>
 /// The purge of an object with its member.
 #[tactic(auto, unfolding(crate::specs::Lines::purge_shape, crate::specs::Lines::asked_change))]
 fn purge_of(alloc: Global, value: &Value) -> Result<Change, LineFault>
-    ensures { Gives (is_some (lines.purge_shape (view value.now)) ≡ true) result
+    ensures { ReturnsReading (is_some (lines.purge_shape (view value.now)) ≡ true) result
         (lines.change_asked (lines.purge_shape (view value.now))) }
 {
     let before = command_text(value, "purge")?;
@@ -153,7 +153,7 @@ fn purge_of(alloc: Global, value: &Value) -> Result<Change, LineFault>
 /// The new set of an object with its members.
 #[tactic(auto, unfolding(crate::specs::Lines::set_shape))]
 fn new_set_of(alloc: Global, value: &Value) -> Result<Change, LineFault>
-    ensures { Gives (is_some (lines.set_shape (view value.now)) ≡ true) result
+    ensures { ReturnsReading (is_some (lines.set_shape (view value.now)) ≡ true) result
         (lines.change_asked (lines.set_shape (view value.now))) }
 {
     let spec = command_text(value, "set")?;
@@ -164,7 +164,7 @@ fn new_set_of(alloc: Global, value: &Value) -> Result<Change, LineFault>
 /// The new set of these texts.
 #[tactic(auto, unfolding(crate::specs::Lines::asked_change))]
 fn new_set_from(alloc: Global, spec: &str, name: &str) -> Result<Change, LineFault>
-    ensures { Gives (may_be_set_spec spec.now ≡ true) result
+    ensures { ReturnsReading (may_be_set_spec spec.now ≡ true) result
         (lines.asked_change (lines.adds_set spec.now name.now)) }
 {
     Ok(Change::AddSet {
@@ -175,7 +175,7 @@ fn new_set_from(alloc: Global, spec: &str, name: &str) -> Result<Change, LineFau
 
 /// The text as an identifier. The error is `BadIdentifier` if it is none, or out of memory.
 fn identifier_of(alloc: Global, text: &str) -> Result<Identifier, LineFault>
-    ensures { Gives (may_be_identifier text.now ≡ true) result
+    ensures { ReturnsReading (may_be_identifier text.now ≡ true) result
         (passed (may_be_identifier text.now) BadIdentifier text.now) }
 {
     match Identifier::read(alloc, text) {
@@ -188,14 +188,14 @@ fn identifier_of(alloc: Global, text: &str) -> Result<Identifier, LineFault>
 
 /// Each text as a setSpec, in order. The error is `BadSetSpec` if one is none, or out of memory.
 fn set_specs_of(alloc: Global, texts: &[&str]) -> Result<Sequence<SetSpec>, LineFault>
-    ensures { Gives Anywhere result (passed (list_all may_be_set_spec (map (λ text. text.now) texts.now))
+    ensures { ReturnsReading Anywhere result (passed (list_all may_be_set_spec (map (λ text. text.now) texts.now))
         BadSetSpec (map (λ text. text.now) texts.now)) }
 {
     each_set_spec(alloc, texts)
 }
 
 /// Each text as a setSpec, in order, up to the first that is none.
-#[tactic(auto, using(crate::proofs::ReadingLemmas::starts))]
+#[tactic(auto, using(oai_json::proofs::ReadingLemmas::starts))]
 fn each_set_spec(alloc: Global, texts: &[&str]) -> Result<Sequence<SetSpec>, LineFault>
     ensures { FindsBy BadSetSpec (λ specs. specs) Anywhere result
         (each_of (tested may_be_set_spec) (map (λ text. text.now) texts.now)) }
@@ -209,7 +209,7 @@ fn each_set_spec(alloc: Global, texts: &[&str]) -> Result<Sequence<SetSpec>, Lin
 
 /// The text as a setSpec. The error is `BadSetSpec` if it is none, or out of memory.
 fn set_spec_of(alloc: Global, text: &str) -> Result<SetSpec, LineFault>
-    ensures { Gives (may_be_set_spec text.now ≡ true) result
+    ensures { ReturnsReading (may_be_set_spec text.now ≡ true) result
         (passed (may_be_set_spec text.now) BadSetSpec text.now) }
 {
     match SetSpec::read(alloc, text) {
@@ -222,7 +222,7 @@ fn set_spec_of(alloc: Global, text: &str) -> Result<SetSpec, LineFault>
 
 /// The text as a setName. The error is `BadText` if it is none, or out of memory.
 fn set_name_of(alloc: Global, text: &str) -> Result<Text, LineFault>
-    ensures { Gives (is_short_text text.now ≡ true) result
+    ensures { ReturnsReading (is_short_text text.now ≡ true) result
         (passed (is_short_text text.now) BadText text.now) }
 {
     if !is_short_text(text) {

@@ -4,12 +4,12 @@ ghost use Rattle.serde_json.specs.View.{view};
 ghost use Rattle.oai_item.specs.declared.refusals.LineRefusal.TheVariants.{BadCommand};
 ghost use Rattle.oai_names.specs.Optional.{each_of};
 ghost use Rattle.oai_deposit.specs.Calls.{Anywhere};
-ghost use Rattle.oai_deposit.specs.Json as json;
+ghost use Rattle.oai_json.specs.Json as json;
 ghost use Rattle.oai_deposit.specs.Readings.{FindsBy};
 
 use crate::faults::LineFault;
-use crate::values::{elements_at, text_at};
 use oai_item::LineRefusal;
+use oai_json::{elements_at, text_at};
 use serde_json::Value;
 use std::alloc::Global;
 
@@ -24,7 +24,7 @@ pub(crate) fn command_text<'v>(value: &'v Value, name: &str) -> Result<&'v str, 
 }
 
 /// The texts of the member with that name; `BadCommand` if there is no such array of strings.
-#[tactic(auto, unfolding(crate::specs::Json::texts_at))]
+#[tactic(auto, unfolding(oai_json::specs::Json::texts_at))]
 pub(crate) fn texts_at<'v>(
     alloc: Global,
     value: &'v Value,
@@ -41,7 +41,7 @@ pub(crate) fn texts_at<'v>(
 }
 
 /// The text of each string; `BadCommand` at the first value that is none.
-#[tactic(auto, using(crate::proofs::ReadingLemmas::starts))]
+#[tactic(auto, using(oai_json::proofs::ReadingLemmas::starts))]
 fn texts_in(alloc: Global, values: &[Value]) -> Result<Vec<&str>, LineFault>
     ensures { FindsBy BadCommand (λ texts. map (λ text. text.now) texts.items) Anywhere result
         (each_of as_str (map view values.now)) }

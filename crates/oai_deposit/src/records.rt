@@ -5,14 +5,14 @@ ghost use Rattle.serde_json.specs.View.{view};
 ghost use Rattle.oai_names.specs.Characters.{is_xml_text};
 ghost use Rattle.oai_names.specs.Optional.{each_of};
 ghost use Rattle.oai_deposit.specs.Calls.{Anywhere};
-ghost use Rattle.oai_deposit.specs.Json as json;
+ghost use Rattle.oai_json.specs.Json as json;
 ghost use Rattle.oai_deposit.specs.Lines as lines;
 ghost use Rattle.oai_deposit.specs.Readings.{Finds};
 
 use crate::faults::LineFault;
 use crate::members::text_of;
-use crate::values::elements_of;
 use oai_item::{Field, LineRefusal, Records};
+use oai_json::elements_of;
 use oai_names::{Sequence, Text, is_xml_text};
 use serde_json::Value;
 use std::alloc::Global;
@@ -42,7 +42,7 @@ fn records_of(alloc: Global, value: &Value) -> Result<Records, LineFault>
 }
 
 /// The record of each member, in the order of the prefixes.
-#[tactic(auto, using(crate::proofs::ReadingLemmas::starts), unfolding(crate::specs::Lines::record_of))]
+#[tactic(auto, using(oai_json::proofs::ReadingLemmas::starts), unfolding(crate::specs::Lines::record_of))]
 fn records_in(alloc: Global, members: &BTreeMap<String, Value>) -> Result<Records, LineFault>
     ensures { Finds Anywhere result
         (each_of lines.record_of (map (λ m. (string_bytes m.0, view m.1)) members.now.entries)) }
@@ -68,7 +68,7 @@ fn field_list_of(alloc: Global, value: &Value) -> Result<Sequence<Field>, LineFa
 }
 
 /// The field of each value; `BadCommand` at the first that is none.
-#[tactic(auto, using(crate::proofs::ReadingLemmas::starts))]
+#[tactic(auto, using(oai_json::proofs::ReadingLemmas::starts))]
 fn fields_in(alloc: Global, values: &[Value]) -> Result<Sequence<Field>, LineFault>
     ensures { Finds Anywhere result (each_of lines.field_of (map view values.now)) }
 {

@@ -5,12 +5,16 @@ ghost use Rattle.std.specs.Prelude.{◌≡◌, [], ◌∷◌, ◌++◌, map, tru
 ghost use Rattle.std.specs.List.{flat_map};
 ghost use Rattle.json.specs.Token as token;
 ghost use Rattle.oai_item.specs.Item.{are_rising};
+ghost use Rattle.oai_json.specs.Tokens as json;
 ghost use Rattle.oai_deposit.specs.Tokens as tokens;
 
 use crate::deposit_texts::DepositTexts;
 use crate::records::field_from;
-use json::{Reader, Scratch, Token};
+use json::{Reader, Scratch};
 use oai_item::{Field, Records};
+use oai_json::{
+    take_begin_array, take_begin_object, take_end_object, take_key, take_text, take_texts,
+};
 use oai_names::{Sequence, Text};
 use std::alloc::Global;
 
@@ -57,19 +61,6 @@ fn take_deposit<'a>(alloc: Global, reader: &mut Reader<'a>) -> Option<DepositTex
     })
 }
 
-/// Takes the array of strings that stands next.
-fn take_texts<'a>(alloc: Global, reader: &mut Reader<'a>) -> Option<Vec<&'a str>>
-    ensures { IfSome result (λ texts. reader.old
-        ≡ tokens.array_tokens tokens.text_tokens (map (λ text. text.now) texts.items) ++ reader.new) }
-{
-    take_begin_array(reader)?;
-    let mut texts = Vec::new(alloc);
-    while !reader.take_end_array() {
-        texts.push(take_text(reader)?).ok()?;
-    }
-    Some(texts)
-}
-
 /// Reads the next object of records, whose prefixes rise.
 fn take_records(alloc: Global, reader: &mut Reader<'_>) -> Option<Records>
     ensures { IfSome result (λ records. reader.old
@@ -114,7 +105,7 @@ fn may_follow(records: &[(Text, Sequence<Field>)], prefix: &str) -> bool
 
 /// Reads the next array of fields.
 fn take_fields(alloc: Global, reader: &mut Reader<'_>) -> Option<Sequence<Field>>
-    ensures { IfSome result (λ fields. reader.old ≡ tokens.array_tokens tokens.field_tokens fields ++ reader.new) }
+    ensures { IfSome result (λ fields. reader.old ≡ json.array_tokens tokens.field_tokens fields ++ reader.new) }
 {
     take_begin_array(reader)?;
     let mut fields = Vec::with_capacity(alloc, USUAL_FIELDS).ok()?;
@@ -135,54 +126,4 @@ fn take_field(alloc: Global, reader: &mut Reader<'_>) -> Option<Field>
         return None;
     }
     field_from(alloc, name, text).ok()
-}
-
-/// Reads the next string.
-fn take_text<'a>(reader: &mut Reader<'a>) -> Option<&'a str>
-    ensures { IfSome result (λ text. reader.old ≡ token.Token.string text.now ∷ reader.new) }
-{
-    match reader.next()? {
-        Token::String(text) => Some(text),
-        _ => None,
-    }
-}
-
-/// Reads the name of the next member, if it is this one.
-fn take_key(reader: &mut Reader<'_>, name: &str) -> Option<()>
-    ensures { IfSome result (λ _. reader.old ≡ token.Token.key name.now ∷ reader.new) }
-{
-    match reader.next()? {
-        Token::Key(key) if key == name => Some(()),
-        _ => None,
-    }
-}
-
-/// Reads the bracket that opens an array.
-fn take_begin_array(reader: &mut Reader<'_>) -> Option<()>
-    ensures { IfSome result (λ _. reader.old ≡ token.Token.begin_array ∷ reader.new) }
-{
-    match reader.next()? {
-        Token::BeginArray => Some(()),
-        _ => None,
-    }
-}
-
-/// Reads the brace that opens an object.
-fn take_begin_object(reader: &mut Reader<'_>) -> Option<()>
-    ensures { IfSome result (λ _. reader.old ≡ token.Token.begin_object ∷ reader.new) }
-{
-    match reader.next()? {
-        Token::BeginObject => Some(()),
-        _ => None,
-    }
-}
-
-/// Reads the brace that closes an object.
-fn take_end_object(reader: &mut Reader<'_>) -> Option<()>
-    ensures { IfSome result (λ _. reader.old ≡ token.Token.end_object ∷ reader.new) }
-{
-    match reader.next()? {
-        Token::EndObject => Some(()),
-        _ => None,
-    }
 }

@@ -4,7 +4,7 @@ use Rattle.std.proofs.lemmas.List.{same_lists, get_or_append_left, get_or-append
 use Rattle.std.proofs.Math.Seq.{take-add, take-append-add}
 use borrow.Rule.Slice.PartMut.{mid_of, post_of, put_mid}
 use Rattle.std.proofs.lemmas.Bool.{cases_lt}
-use Rattle.oai_device.specs.PageFile.{Bytes, KeepsOthers, Stand, WereRead}
+use Rattle.oai_device.specs.PageFile.{Bytes, KeepsOtherBytes, Stand, WereRead}
 
 -- two parts that were read, the second behind the first, were read as one
 pub read_join : (file : Bytes) (at : ℕ) (xs ys : List ℕ) → WereRead file at xs → WereRead file (at + length xs) ys → WereRead file at (xs ++ ys)
@@ -33,7 +33,7 @@ stand_join file at xs ys first second = record {
 }
 
 -- what stands before or behind a part that is written still stands
-pub stand_kept : (old new : Bytes) (part count at : ℕ) (bytes : List ℕ) → KeepsOthers part count old new
+pub stand_kept : (old new : Bytes) (part count at : ℕ) (bytes : List ℕ) → KeepsOtherBytes part count old new
     → (at + length bytes ≤ part) ⊎ (part + count ≤ at) → Stand old at bytes → Stand new at bytes
 stand_kept old new part count at bytes kept apart stood = record {
   each = λ i within. kept.each (at + i) (outside apart i within) ∙ stood.each i within;
@@ -43,12 +43,12 @@ stand_kept old new part count at bytes kept apart stood = record {
   outside (inr behind) i within = inr (omega arith)
 
 -- nothing changed
-pub keeps_all : (old new : Bytes) (at count : ℕ) → new ≡ old → KeepsOthers at count old new
+pub keeps_all : (old new : Bytes) (at count : ℕ) → new ≡ old → KeepsOtherBytes at count old new
 keeps_all old new at count same = record { each = λ place outside. ap (λ (file : Bytes). file place) same }
 
 -- a change of a part within is one of the whole
-pub keeps_next : (first old new : Bytes) (at count done : ℕ) (left : ℕ) → done + left ≤ count → KeepsOthers at count first old
-    → KeepsOthers (at + done) left old new → KeepsOthers at count first new
+pub keeps_next : (first old new : Bytes) (at count done : ℕ) (left : ℕ) → done + left ≤ count → KeepsOtherBytes at count first old
+    → KeepsOtherBytes (at + done) left old new → KeepsOtherBytes at count first new
 keeps_next first old new at count done left within before now = record {
   each = λ place outside. now.each place (further outside) ∙ before.each place outside;
 } where
@@ -117,7 +117,7 @@ pub write_on : {E : Type 0} (honest honest_now : Bool) (now new : Bytes) (at don
     → honest_now ≡ honest → done ≤ length page → (count ≡ 0) ⊎ (answer ≡ Ok count)
     → IfOk answer (λ n. n ≤ length (mid_of done left page))
     → IfOk answer (λ n. IsTrue honest_now → Stand new (at + done) (take n (mid_of done left page)))
-    → KeepsOthers (at + done) (length (mid_of done left page)) now new
+    → KeepsOtherBytes (at + done) (length (mid_of done left page)) now new
     → (IsTrue honest → Stand now at (take done page)) → IsTrue honest
     → Stand new at (take (done + count) page)
 write_on honest honest_now now new at done left count page answer still within counted short written others before is =

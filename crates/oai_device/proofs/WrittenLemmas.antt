@@ -6,8 +6,8 @@ use Rattle.std.specs.Map.{lookup}
 use Rattle.std.specs.Option.{option_flatten}
 use mir.Val.{bool_byte}
 use Rattle.oai_device.specs.Device.{range_of}
-use Rattle.oai_device.specs.PageFile.{Bytes, KeepsOthers, Stand, WereRead}
-use Rattle.oai_device.specs.Written.{AreInFile, Pages, page_under, with_page}
+use Rattle.oai_device.specs.PageFile.{Bytes, KeepsOtherBytes, Stand, WereRead}
+use Rattle.oai_device.specs.Written.{AreInFile, PageWrites, page_under, with_page}
 use Rattle.oai_device.proofs.PageFileLemmas.{read_is, stand_kept, stand_part}
 
 -- what holds of each answer that is Ok
@@ -16,7 +16,7 @@ on_ok P (Ok value) holds = holds refl
 on_ok P (Err cause) holds = tt
 
 -- a page that was read is the one that was written last
-pub page_read : (file : Bytes) (pages : Pages) (number start : ℕ) (into : List ℕ) → start ≡ number * 16384 → length into ≡ 16384
+pub page_read : (file : Bytes) (pages : PageWrites) (number start : ℕ) (into : List ℕ) → start ≡ number * 16384 → length into ≡ 16384
     → IsSome (page_under pages number) → AreInFile file pages → WereRead file start into → page_under pages number ≡ Some into
 page_read file pages number start into here long some placed read = found (page_under pages number) refl some where
   found : (kept : Option (List ℕ)) → page_under pages number ≡ kept → IsSome kept → kept ≡ Some into
@@ -25,7 +25,7 @@ page_read file pages number start into here long some placed read = found (page_
       (subst (λ (n : ℕ). Stand file n page) (sym here) (placed.place number page is)) read (placed.whole number page is ∙ sym long))
 
 -- bytes of a page that were read are those of the page that was written last
-pub range_read : (file : Bytes) (pages : Pages) (number start from : ℕ) (into : List ℕ) → start ≡ number * 16384 → from + length into ≤ 16384
+pub range_read : (file : Bytes) (pages : PageWrites) (number start from : ℕ) (into : List ℕ) → start ≡ number * 16384 → from + length into ≤ 16384
     → IsSome (page_under pages number) → AreInFile file pages → WereRead file (start + from) into
     → range_of from (length into) (page_under pages number) ≡ Some into
 range_read file pages number start from into here within some placed read = found (page_under pages number) refl some where
@@ -45,9 +45,9 @@ apart one other length_ differ long = elim (cases_lt one other) [
 ]
 
 -- a write under a number that leaves a page there, or none that is known
-noted : (old new : Bytes) (pages : Pages) (number : ℕ) (kept : Option (List ℕ))
+noted : (old new : Bytes) (pages : PageWrites) (number : ℕ) (kept : Option (List ℕ))
     → ((page : List ℕ) → kept ≡ Some page → (length page ≡ 16384) × Stand new (number * 16384) page)
-    → KeepsOthers (number * 16384) 16384 old new → AreInFile old pages → AreInFile new ((number, kept) ∷ pages)
+    → KeepsOtherBytes (number * 16384) 16384 old new → AreInFile old pages → AreInFile new ((number, kept) ∷ pages)
 noted old new pages number kept stands others placed = record {
   whole = λ n page is. (under n page (eqb n number) refl is).0;
   place = λ n page is. (under n page (eqb n number) refl is).1;
@@ -63,8 +63,8 @@ noted old new pages number kept stands others placed = record {
       (long, stand_kept old new (number * 16384) 16384 (n * 16384) page others (apart n number (length page) differ long) (placed.place n page is))
 
 -- what a write leaves of the pages, whether it was done or failed
-pub page_written : (old new : Bytes) (pages : Pages) (number start : ℕ) (done : Bool) (page : List ℕ) → start ≡ number * 16384 → length page ≡ 16384
-    → (done ≡ true → Stand new start page) → KeepsOthers start 16384 old new → AreInFile old pages
+pub page_written : (old new : Bytes) (pages : PageWrites) (number start : ℕ) (done : Bool) (page : List ℕ) → start ≡ number * 16384 → length page ≡ 16384
+    → (done ≡ true → Stand new start page) → KeepsOtherBytes start 16384 old new → AreInFile old pages
     → AreInFile new (with_page (number ∷ bool_byte done ∷ []) page pages)
 page_written old new pages number start true page here long stands others placed =
     noted old new pages number (Some page)
@@ -72,7 +72,7 @@ page_written old new pages number start true page here long stands others placed
       subst (λ (xs : List ℕ). length xs ≡ 16384) equal long,
       subst (λ (xs : List ℕ). Stand new (number * 16384) xs) equal (subst (λ (n : ℕ). Stand new n page) here (stands refl)),
     ))
-    (subst (λ (n : ℕ). KeepsOthers n 16384 old new) here others) placed
+    (subst (λ (n : ℕ). KeepsOtherBytes n 16384 old new) here others) placed
 page_written old new pages number start false page here long stands others placed =
     noted old new pages number None (λ kept same. absurd cc)
-    (subst (λ (n : ℕ). KeepsOthers n 16384 old new) here others) placed
+    (subst (λ (n : ℕ). KeepsOtherBytes n 16384 old new) here others) placed

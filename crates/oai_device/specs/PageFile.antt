@@ -15,5 +15,5 @@ pub record WereRead (file : Bytes) (at : ℕ) (bytes : List ℕ) : Type 0 where
   pub each : (i byte : ℕ) → i < length bytes → file (at + i) ≡ Some byte → slice_index bytes i ≡ byte
 
 -- only the `count` bytes from that offset on may have changed
-pub record KeepsOthers (at count : ℕ) (old new : Bytes) : Type 0 where
+pub record KeepsOtherBytes (at count : ℕ) (old new : Bytes) : Type 0 where
   pub each : (place : ℕ) → (place < at) ⊎ (at + count ≤ place) → new place ≡ old place

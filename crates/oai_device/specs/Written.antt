@@ -6,18 +6,18 @@ use Rattle.oai_device.specs.PageFile.{Bytes, Stand}
 use Rattle.oai_device.specs.declared.devices.TheConstants.{PAGE_BYTES}
 
 -- the number and the page of each write, or None if it failed; the last one first
-abbrev pub Pages : Type 0
-Pages = List (ℕ × Option (List ℕ))
+abbrev pub PageWrites : Type 0
+PageWrites = List (ℕ × Option (List ℕ))
 
 -- those pages after a write under the first of the numbers, which failed if the second is 0
-abbrev pub with_page : List ℕ → List ℕ → Pages → Pages
+abbrev pub with_page : List ℕ → List ℕ → PageWrites → PageWrites
 with_page numbers bytes pages = (slice_index numbers 0, if slice_index numbers 1 == 0 then None else Some bytes) ∷ pages
 
 -- the page that was last written under a number; None if none was, or if that write failed
-abbrev pub page_under : Pages → ℕ → Option (List ℕ)
+abbrev pub page_under : PageWrites → ℕ → Option (List ℕ)
 page_under pages number = option_flatten (lookup (nat_eq number) pages)
 
 -- each such page is whole, and is in the file at its number times the size of a page
-pub record AreInFile (file : Bytes) (pages : Pages) : Type 0 where
+pub record AreInFile (file : Bytes) (pages : PageWrites) : Type 0 where
   pub whole : (number : ℕ) (page : List ℕ) → page_under pages number ≡ Some page → length page ≡ PAGE_BYTES
   pub place : (number : ℕ) (page : List ℕ) → page_under pages number ≡ Some page → Stand file (number * PAGE_BYTES) page

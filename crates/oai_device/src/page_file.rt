@@ -1,5 +1,5 @@
 ghost use Rattle.std.specs.Prelude.{◌≡◌, ◌+◌, ◌*◌, ◌≤◌, ◌<◌, ◌^◌, ◌⊎◌, ℕ, Bool, None, false, length, take, IfOk, IsTrue, IfSome, Ok};
-ghost use Rattle.oai_device.specs.PageFile.{Bytes, KeepsOthers, Stand, WereRead};
+ghost use Rattle.oai_device.specs.PageFile.{Bytes, KeepsOtherBytes, Stand, WereRead};
 
 use crate::devices::{PAGE_BYTES, Page};
 use std::fs::File;
@@ -30,7 +30,7 @@ pub trait PageFile: Drop {
         ensures count { IfOk result (λ n. n ≤ length from.now) }
         ensures written { IfOk result (λ n. IsTrue (honest self.old)
             → Stand (bytes self.new) offset (take n from.now)) }
-        ensures others { KeepsOthers offset (length from.now) (bytes self.old) (bytes self.new) }
+        ensures others { KeepsOtherBytes offset (length from.now) (bytes self.old) (bytes self.new) }
         ensures honesty { honest self.new ≡ honest self.old };
 }
 
@@ -74,7 +74,7 @@ pub(crate) fn read_all<F: PageFile>(file: &mut F, offset: u64, into: &mut [u8]) 
 pub(crate) fn write_page<F: PageFile>(file: &mut F, offset: u64, page: &Page) -> bool
     requires room { offset + PAGE_BYTES < 2 ^ 64 }
     ensures written { IsTrue result → IsTrue (F.honest file.old) → Stand (F.bytes file.new) offset page.now }
-    ensures others { KeepsOthers offset PAGE_BYTES (F.bytes file.old) (F.bytes file.new) }
+    ensures others { KeepsOtherBytes offset PAGE_BYTES (F.bytes file.old) (F.bytes file.new) }
     ensures honesty { F.honest file.new ≡ F.honest file.old }
 {
     let mut done = 0;

@@ -1,6 +1,6 @@
 ghost use Rattle.std.specs.Prelude.{◌≡◌, []};
 ghost use Rattle.std.specs.Borrow.{ftrue};
-ghost use Rattle.oai_device.specs.Written.{Pages, with_page};
+ghost use Rattle.oai_device.specs.Written.{PageWrites, with_page};
 
 use std::marker::{Model, PhantomData};
 
@@ -8,7 +8,7 @@ use std::marker::{Model, PhantomData};
 #[derive(Drop)]
 pub struct Written {
     marker: PhantomData<u8>,
-    pub ghost pages: { Pages },
+    pub ghost pages: { PageWrites },
 }
 
 impl Model for Written {

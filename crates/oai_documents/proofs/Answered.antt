@@ -24,23 +24,24 @@ use Rattle.oai_item.specs.declared.formats.Format.{Format}
 use Rattle.oai_item.specs.declared.refusals.ChangeRefusal.{ChangeRefusal}
 use Rattle.oai_args.specs.Asks.{AskOrError, asks, bad_argument, bad_verb}
 use Rattle.oai_args.specs.declared.requests.Ask.TheVariants as ask
-use Rattle.oai_answers.specs.Answers.{Answer, Attributes, Document, Page, is_offered, offered}
+use Rattle.oai_answers.specs.Answers.{Attributes, Document, Page, VerbAnswer, is_offered, offered}
 use Rattle.oai_answers.specs.Seen.{IsRegular}
 use Rattle.oai_xml.specs.Whole.{is_whole}
-use Rattle.oai_settings.specs.Config.{Config, IsConfig, are_limits, is_chunk, is_described, is_items, is_lifetime, is_lists}
+use Rattle.oai_settings.specs.Config.{IsConfig, RepositoryConfig, are_limits, is_chunk, is_described, is_items, is_lifetime, is_lists}
 use Rattle.oai_repo.specs.Answers.{arguments_of_request, disseminated, filter_of, formats_answer, item_formats_answer, record_answer, sets_answer}
-use Rattle.oai_repo.specs.Changes.{refusal_of, stamp_at}
+use Rattle.oai_holdings.specs.Changes.{refusal_of, stamp_at}
 use Rattle.oai_repo.specs.Listing.{Response, answer_by_verb, complete_answer, complete_page, continued_response, format_response, has_no_sets, is_continued, is_handed_out, is_of_number, is_same_verb, is_valid_cursor, list_response, new_list, opens_list, part_answer, part_from, prolonged, request_response, retry_after, selection_response, token_response, wait_at, where_continued, with_answer}
 use Rattle.oai_repo.specs.Machine.{Command, Outcome, accepted, act, act_on_change, changing, documented, later, outcome_of, refused_with, rejecting, requesting}
-use Rattle.oai_repo.specs.State.{FrozenList, NamedSet, OpenLists, RepoState, empty_state, moved}
+use Rattle.oai_holdings.specs.Holdings.{NamedSet}
+use Rattle.oai_repo.specs.State.{FrozenList, OpenLists, RepoState, empty_state, moved}
 use Rattle.oai_laws.specs.Effects.{IsSound}
-use Rattle.oai_laws.specs.Runs.{Exchange, IsPart, Throughout, Timed, performed, run}
+use Rattle.oai_laws.specs.Runs.{IsPart, Throughout, Timed, Transition, performed, run}
 use Rattle.oai_laws.specs.Shown.{IsRegularOutcome, IsSomeAnswer}
 use Rattle.oai_laws.proofs.EffectLemmas.{sound_act, sound_empty, sound_moved}
 use Rattle.oai_laws.proofs.FollowLemmas.{part_items}
 use Rattle.oai_laws.proofs.ShownLemmas.{regular_act}
 use Rattle.oai_laws.proofs.StandLemmas.{of_found}
-use Rattle.oai_repo.specs.Kept.{is_well_kept}
+use Rattle.oai_holdings.specs.Kept.{is_well_kept}
 use Rattle.oai_documents.specs.Answering.{have_namespaces}
 use Rattle.oai_documents.specs.DocumentTrees.{document_tree}
 use Rattle.oai_documents.specs.Schema.{IsOfSchema}
@@ -50,7 +51,7 @@ use Rattle.oai_documents.proofs.WholeTrees.{document_whole}
 
 -- ---- what is asked of the configuration
 
-pub record Rules (passes : List ℕ → Bool) (config : Config) : Type 0 where
+pub record Rules (passes : List ℕ → Bool) (config : RepositoryConfig) : Type 0 where
   pub formats : AreRepositoryFormats config.formats
   pub namespaces : have_namespaces passes config ≡ true
   pub chunk : 0 < config.chunk
@@ -63,28 +64,28 @@ members (x ∷ xs) some = tt
 from_one : (low high n : ℕ) → is_in_range (1 + low) high n ≡ true → 0 < n
 from_one low high n is = let first = (and_parts (nat_le (1 + low) n) (nat_le n high) is).0 in grind (arith, nat_tests, first)
 
-chunk_some : (config : Config) → IsConfig config → 0 < config.chunk
+chunk_some : (config : RepositoryConfig) → IsConfig config → 0 < config.chunk
 unfolding are_limits
 chunk_some config is =
     let three = and_parts (is_chunk config.chunk && is_lifetime config.lifetime && is_lists config.lists) (is_items config.items) is.limited in
     let two = and_parts (is_chunk config.chunk && is_lifetime config.lifetime) (is_lists config.lists) three.0 in
     from_one 0 1_000 config.chunk (and_parts (is_chunk config.chunk) (is_lifetime config.lifetime) two.0).0
 
-addresses_some : (config : Config) → IsConfig config → HasMembers config.addresses
+addresses_some : (config : RepositoryConfig) → IsConfig config → HasMembers config.addresses
 unfolding is_described
 addresses_some config is =
     let outer = and_parts (is_short_text config.repository_name && is_in_range 1 16 (length config.addresses)) (list_all is_short_text config.addresses) is.described in
     members config.addresses (from_one 0 16 (length config.addresses) (and_parts (is_short_text config.repository_name) (is_in_range 1 16 (length config.addresses)) outer.0).1)
 
-pub rules_of : (passes : List ℕ → Bool) (config : Config) → IsConfig config → AreRepositoryFormats config.formats → have_namespaces passes config ≡ true → Rules passes config
+pub rules_of : (passes : List ℕ → Bool) (config : RepositoryConfig) → IsConfig config → AreRepositoryFormats config.formats → have_namespaces passes config ≡ true → Rules passes config
 rules_of passes config rules formats all = record { formats = formats; namespaces = all; chunk = chunk_some config rules; addresses = addresses_some config rules }
 
 -- ---- formats
 
-abbrev IsGiven : (List ℕ → Bool) → Answer → Type 0
+abbrev IsGiven : (List ℕ → Bool) → VerbAnswer → Type 0
 IsGiven passes answer = HasNamespace passes answer × IsFilled answer
 
-format_passes : (passes : List ℕ → Bool) (config : Config) (prefix : List ℕ) (format : Format) → Rules passes config → format_named prefix config.formats ≡ Some format → passes format.namespace ≡ true
+format_passes : (passes : List ℕ → Bool) (config : RepositoryConfig) (prefix : List ℕ) (format : Format) → Rules passes config → format_named prefix config.formats ≡ Some format → passes format.namespace ≡ true
 unfolding format_named
 format_passes passes config prefix format rules found =
     of_found (λ (f : Format). bytes_eq f.prefix prefix) (λ (f : Format). passes f.namespace) config.formats format found rules.namespaces
@@ -119,12 +120,12 @@ told passes list.Identifiers format page own some = (tt, some)
 told passes list.Records format page own some = (own, some)
 told passes list.Sets format page own some = (tt, tt)
 
-complete : (passes : List ℕ → Bool) (config : Config) (verb : ListVerb) (format : Format) (items : List ItemState) → passes format.namespace ≡ true → IsGiven passes (complete_answer config verb format items)
+complete : (passes : List ℕ → Bool) (config : RepositoryConfig) (verb : ListVerb) (format : Format) (items : List ItemState) → passes format.namespace ≡ true → IsGiven passes (complete_answer config verb format items)
 complete passes config verb format [] own = (tt, tt)
 complete passes config verb format (item ∷ items) own = told passes verb format (complete_page config (item ∷ items)) own tt
 
 -- a part that begins before the end of its list
-part_some : (config : Config) (list : FrozenList) (cursor : ℕ) → 0 < config.chunk → cursor < length list.items → HasMembers (part_from config list cursor).items
+part_some : (config : RepositoryConfig) (list : FrozenList) (cursor : ℕ) → 0 < config.chunk → cursor < length list.items → HasMembers (part_from config list cursor).items
 part_some config list cursor chunk below =
     let taken = length-take config.chunk (drop cursor list.items) in
     let dropped = length-drop cursor list.items in
@@ -132,7 +133,7 @@ part_some config list cursor chunk below =
     let long : 0 < length (take config.chunk (drop cursor list.items)) = omega (arith, taken, dropped, chunk, below) in
     subst HasMembers (sym is) (members (take config.chunk (drop cursor list.items)) long)
 
-begun : (passes : List ℕ → Bool) (config : Config) (open_lists : OpenLists) (format : Format) (list : FrozenList) (wait : Option ℤ) → Rules passes config → passes format.namespace ≡ true
+begun : (passes : List ℕ → Bool) (config : RepositoryConfig) (open_lists : OpenLists) (format : Format) (list : FrozenList) (wait : Option ℤ) → Rules passes config → passes format.namespace ≡ true
     → 0 < length list.items → IsDone passes (opens_list config open_lists format list wait)
 begun passes config open_lists format list (Some seconds) rules own some = tt
 begun passes config open_lists format list None rules own some = told passes list.verb format (part_from config list 0) own (part_some config list 0 rules.chunk some)
@@ -140,7 +141,7 @@ begun passes config open_lists format list None rules own some = told passes lis
 longer : (n chunk : ℕ) → nat_le n chunk ≡ false → 0 < n
 longer n chunk is = grind (arith, nat_tests, is)
 
-of_selection : (passes : List ℕ → Bool) (config : Config) (clock : ℤ) (open_lists : OpenLists) (verb : ListVerb) (format : Format) (items : List ItemState) → Rules passes config
+of_selection : (passes : List ℕ → Bool) (config : RepositoryConfig) (clock : ℤ) (open_lists : OpenLists) (verb : ListVerb) (format : Format) (items : List ItemState) → Rules passes config
     → passes format.namespace ≡ true → IsDone passes (selection_response config clock open_lists verb format items)
 unfolding selection_response
 of_selection passes config clock open_lists verb format items rules own =
@@ -148,31 +149,31 @@ of_selection passes config clock open_lists verb format items rules own =
     (λ _. complete passes config verb format items own)
     (λ more. begun passes config open_lists format (new_list config clock open_lists verb format.prefix items) (wait_at config clock open_lists) rules own (longer (length items) config.chunk more))
 
-in_format : (passes : List ℕ → Bool) (config : Config) (clock : ℤ) (open_lists : OpenLists) (verb : ListVerb) (prefix : List ℕ) (format : Option Format) (items : List ItemState) → Rules passes config
+in_format : (passes : List ℕ → Bool) (config : RepositoryConfig) (clock : ℤ) (open_lists : OpenLists) (verb : ListVerb) (prefix : List ℕ) (format : Option Format) (items : List ItemState) → Rules passes config
     → format_named prefix config.formats ≡ format → IsDone passes (format_response config clock open_lists verb format items)
 in_format passes config clock open_lists verb prefix None items rules found = (tt, tt)
 in_format passes config clock open_lists verb prefix (Some format) items rules found = of_selection passes config clock open_lists verb format items rules (format_passes passes config prefix format rules found)
 
-of_list : (passes : List ℕ → Bool) (config : Config) (clock : ℤ) (open_lists : OpenLists) (sets : List NamedSet) (verb : ListVerb) (prefix : List ℕ) (set : Option (List ℕ)) (items : List ItemState)
+of_list : (passes : List ℕ → Bool) (config : RepositoryConfig) (clock : ℤ) (open_lists : OpenLists) (sets : List NamedSet) (verb : ListVerb) (prefix : List ℕ) (set : Option (List ℕ)) (items : List ItemState)
     → Rules passes config → IsDone passes (list_response config clock open_lists sets verb prefix set items)
 of_list passes config clock open_lists sets verb prefix set items rules =
     cond_both (is_some set && has_no_sets sets) _ _ (IsDone passes) (λ _. (tt, tt)) (λ _. in_format passes config clock open_lists verb prefix (format_named prefix config.formats) items rules refl)
 
 -- ---- tokens
 
-part_told : (passes : List ℕ → Bool) (config : Config) (verb : ListVerb) (list : FrozenList) (format : Option Format) (cursor : ℕ) → Rules passes config → format_named list.prefix config.formats ≡ format
+part_told : (passes : List ℕ → Bool) (config : RepositoryConfig) (verb : ListVerb) (list : FrozenList) (format : Option Format) (cursor : ℕ) → Rules passes config → format_named list.prefix config.formats ≡ format
     → cursor < length list.items → IsGiven passes (part_answer verb format (part_from config list cursor))
 part_told passes config verb list None cursor rules found below = (tt, tt)
 part_told passes config verb list (Some format) cursor rules found below =
     told passes verb format (part_from config list cursor) (format_passes passes config list.prefix format rules found) (part_some config list cursor rules.chunk below)
 
-below_size : (config : Config) (verb : ListVerb) (token : Token) (list : FrozenList) → is_continued config.chunk verb token list.verb (length list.items) list.given ≡ true → token.cursor < length list.items
+below_size : (config : RepositoryConfig) (verb : ListVerb) (token : Token) (list : FrozenList) → is_continued config.chunk verb token list.verb (length list.items) list.given ≡ true → token.cursor < length list.items
 below_size config verb token list is =
     let cursor = (and_parts (is_same_verb list.verb verb) (is_valid_cursor config.chunk (length list.items) list.given token.cursor) is).1 in
     let below = (and_parts (nat_lt token.cursor (length list.items)) (is_handed_out config.chunk list.given token.cursor) cursor).0 in
     grind (arith, nat_tests, below)
 
-continued : (passes : List ℕ → Bool) (config : Config) (clock : ℤ) (open_lists : OpenLists) (verb : ListVerb) (token : Token) (found : Option FrozenList) → Rules passes config
+continued : (passes : List ℕ → Bool) (config : RepositoryConfig) (clock : ℤ) (open_lists : OpenLists) (verb : ListVerb) (token : Token) (found : Option FrozenList) → Rules passes config
     → IsDone passes (continued_response config clock open_lists verb token.cursor (where_continued config verb token found))
 continued passes config clock open_lists verb token None rules = (tt, tt)
 continued passes config clock open_lists verb token (Some list) rules =
@@ -180,25 +181,25 @@ continued passes config clock open_lists verb token (Some list) rules =
     (λ is. part_told passes config verb (prolonged config clock list) (format_named list.prefix config.formats) token.cursor rules refl (below_size config verb token list is))
     (λ _. (tt, tt))
 
-of_token : (passes : List ℕ → Bool) (config : Config) (state : RepoState) (verb : ListVerb) (token : Option Token) → Rules passes config
+of_token : (passes : List ℕ → Bool) (config : RepositoryConfig) (state : RepoState) (verb : ListVerb) (token : Option Token) → Rules passes config
     → IsDone passes (token_response config state.clock state.open_lists verb token)
 of_token passes config state verb None rules = (tt, tt)
 of_token passes config state verb (Some token) rules = continued passes config state.clock state.open_lists verb token (find (is_of_number token.list) state.open_lists.lists) rules
 
 -- ---- the other verbs
 
-in_record : (passes : List ℕ → Bool) (config : Config) (item : ItemState) (prefix : List ℕ) (format : Option Format) → Rules passes config → format_named prefix config.formats ≡ format
+in_record : (passes : List ℕ → Bool) (config : RepositoryConfig) (item : ItemState) (prefix : List ℕ) (format : Option Format) → Rules passes config → format_named prefix config.formats ≡ format
     → IsGiven passes (disseminated config item format)
 in_record passes config item prefix None rules found = (tt, tt)
 in_record passes config item prefix (Some format) rules found =
     cond_both (has_record format.prefix item.formats) _ _ (IsGiven passes) (λ _. (format_passes passes config prefix format rules found, tt)) (λ _. (tt, tt))
 
-of_record : (passes : List ℕ → Bool) (config : Config) (prefix : List ℕ) (found : Option ItemState) → Rules passes config → IsGiven passes (record_answer config found prefix)
+of_record : (passes : List ℕ → Bool) (config : RepositoryConfig) (prefix : List ℕ) (found : Option ItemState) → Rules passes config → IsGiven passes (record_answer config found prefix)
 of_record passes config prefix None rules = (tt, tt)
 of_record passes config prefix (Some item) rules = in_record passes config item prefix (format_named prefix config.formats) rules refl
 
 -- an item that is well kept is offered in unqualified Dublin Core
-dublin_core_offered : (config : Config) (sets : List NamedSet) (item : ItemState) → is_well_kept config sets item ≡ true → is_offered (Some item) dublin_core ≡ true
+dublin_core_offered : (config : RepositoryConfig) (sets : List NamedSet) (item : ItemState) → is_well_kept config sets item ≡ true → is_offered (Some item) dublin_core ≡ true
 unfolding dublin_core
 dublin_core_offered config sets item well =
     let four = and_parts (has_record (codes "oai_dc") item.formats && list_all (has_format config.formats) item.formats && list_all (has_known_fields config.formats) item.formats && list_all (has_set sets) item.sets) _ well in
@@ -206,14 +207,14 @@ dublin_core_offered config sets item well =
     let two = and_parts (has_record (codes "oai_dc") item.formats && list_all (has_format config.formats) item.formats) _ three.0 in
     (and_parts (has_record (codes "oai_dc") item.formats) _ two.0).0
 
-of_item_formats : (passes : List ℕ → Bool) (config : Config) (sets : List NamedSet) (found : Option ItemState) → Rules passes config
+of_item_formats : (passes : List ℕ → Bool) (config : RepositoryConfig) (sets : List NamedSet) (found : Option ItemState) → Rules passes config
     → ((item : ItemState) → found ≡ Some item → is_well_kept config sets item ≡ true) → IsGiven passes (item_formats_answer config found)
 of_item_formats passes config sets None rules well = (tt, tt)
 of_item_formats passes config sets (Some item) rules well =
     cond_both item.live _ _ (IsGiven passes)
     (λ _. (tt, some_offered config.formats (Some item) rules.formats (dublin_core_offered config sets item (well item refl)))) (λ _. (tt, tt))
 
-of_formats : (passes : List ℕ → Bool) (config : Config) (state : RepoState) (identifier : Option (List ℕ)) → Rules passes config → IsSound config state
+of_formats : (passes : List ℕ → Bool) (config : RepositoryConfig) (state : RepoState) (identifier : Option (List ℕ)) → Rules passes config → IsSound config state
     → IsGiven passes (formats_answer config state.holdings.items identifier)
 of_formats passes config state None rules sound = (tt, some_offered config.formats None rules.formats refl)
 of_formats passes config state (Some identifier) rules sound =
@@ -224,7 +225,7 @@ of_sets : (passes : List ℕ → Bool) (sets : List NamedSet) → IsGiven passes
 of_sets passes [] = (tt, tt)
 of_sets passes (set ∷ sets) = (tt, tt)
 
-done : (passes : List ℕ → Bool) (config : Config) (state : RepoState) (request : AskOrError) → Rules passes config → IsSound config state → IsDone passes (request_response config state request)
+done : (passes : List ℕ → Bool) (config : RepositoryConfig) (state : RepoState) (request : AskOrError) → Rules passes config → IsSound config state → IsDone passes (request_response config state request)
 done passes config state bad_verb rules sound = (tt, tt)
 done passes config state bad_argument rules sound = (tt, tt)
 done passes config state (asks ask.Identify) rules sound = (tt, rules.addresses)
@@ -243,16 +244,16 @@ IsGivenOutcome passes (later seconds) = Unit {0}
 IsGivenOutcome passes (accepted stamp) = Unit {0}
 IsGivenOutcome passes (refused_with cause) = Unit {0}
 
-of_said : (passes : List ℕ → Bool) (config : Config) (clock : ℤ) (asked : Attributes) (said : Response) → IsSaid passes said → IsGivenOutcome passes (outcome_of config clock asked said)
+of_said : (passes : List ℕ → Bool) (config : RepositoryConfig) (clock : ℤ) (asked : Attributes) (said : Response) → IsSaid passes said → IsGivenOutcome passes (outcome_of config clock asked said)
 of_said passes config clock asked (with_answer answer) h = h
 of_said passes config clock asked (retry_after seconds) h = tt
 
-of_change : (passes : List ℕ → Bool) (config : Config) (state : RepoState) (stamp : ℤ) (change : Change) (refusal : Option ChangeRefusal)
+of_change : (passes : List ℕ → Bool) (config : RepositoryConfig) (state : RepoState) (stamp : ℤ) (change : Change) (refusal : Option ChangeRefusal)
     → IsGivenOutcome passes (act_on_change config state stamp change refusal).0
 of_change passes config state stamp change (Some cause) = tt
 of_change passes config state stamp change None = tt
 
-of_act : (passes : List ℕ → Bool) (config : Config) (state : RepoState) (command : Command) → Rules passes config → IsSound config state → IsGivenOutcome passes (act config state command).0
+of_act : (passes : List ℕ → Bool) (config : RepositoryConfig) (state : RepoState) (command : Command) → Rules passes config → IsSound config state → IsGivenOutcome passes (act config state command).0
 unfolding act
 of_act passes config state (requesting request) rules sound =
     of_said passes config state.clock (arguments_of_request request) (request_response config state request).0 (done passes config state request rules sound)
@@ -278,16 +279,16 @@ both_given passes (later seconds) regular given = tt
 both_given passes (accepted stamp) regular given = tt
 both_given passes (refused_with cause) regular given = tt
 
-pub given_act : (passes : List ℕ → Bool) (config : Config) (state : RepoState) (command : Command) → Rules passes config → IsSound config state → IsGivenBy passes (act config state command).0
+pub given_act : (passes : List ℕ → Bool) (config : RepositoryConfig) (state : RepoState) (command : Command) → Rules passes config → IsSound config state → IsGivenBy passes (act config state command).0
 given_act passes config state command rules sound =
     both_given passes (act config state command).0 (regular_act config state command rules.formats sound) (of_act passes config state command rules sound)
 
 -- ---- a run
 
-abbrev IsGivenExchange : (List ℕ → Bool) → Exchange → Type 0
+abbrev IsGivenExchange : (List ℕ → Bool) → Transition → Type 0
 IsGivenExchange passes exchange = IsGivenBy passes exchange.outcome
 
-given_part : (passes : List ℕ → Bool) (config : Config) (commands : List Timed) (state : RepoState) (some : List Exchange) → Rules passes config → IsSound config state
+given_part : (passes : List ℕ → Bool) (config : RepositoryConfig) (commands : List Timed) (state : RepoState) (some : List Transition) → Rules passes config → IsSound config state
     → IsPart some (run config state commands) → Throughout (IsGivenExchange passes) some
 given_part passes config [] state some rules sound none = subst (Throughout (IsGivenExchange passes)) (sym none) tt
 given_part passes config (timed ∷ commands) state some rules sound (inl part) =
@@ -299,7 +300,7 @@ given_part passes config (timed ∷ commands) state some rules sound (inr here) 
       given_part passes config commands (performed config state timed).left here.0 rules (sound_act config (moved timed.moment state) timed.command found) here.2,
     )
 
-pub some_answer : (passes : List ℕ → Bool) (config : Config) (d : Document) → IsConfig config → IsSomeAnswer config d → have_namespaces passes config ≡ true → IsGivenDocument passes d
+pub some_answer : (passes : List ℕ → Bool) (config : RepositoryConfig) (d : Document) → IsConfig config → IsSomeAnswer config d → have_namespaces passes config ≡ true → IsGivenDocument passes d
 some_answer passes config d rules is all =
     subst (IsGivenBy passes) is.told (given_part passes config is.commands (empty_state config) (is.exchange ∷ []) (rules_of passes config rules is.formats all) (sound_empty config) is.among).0
 

@@ -11,7 +11,7 @@ use Rattle.oai_xml.specs.Trees.{Attribute}
 use Rattle.oai_xml.specs.Namespaces.{Scope, are_alike, are_unlike, is_declaring}
 use Rattle.oai_xml.specs.Whole.{names_of}
 use Rattle.oai_xml.specs.declared.limits.TheConstants.{MAX_ATTRIBUTES}
-use Rattle.oai_documents.specs.DocumentTrees.{arguments, given}
+use Rattle.oai_documents.specs.DocumentTrees.{argument_attribute, arguments}
 use Rattle.oai_documents.proofs.Scopes.{oai_scope}
 use Rattle.oai_documents.proofs.Tags.{IsPlainTag, both, is_plain_name}
 
@@ -46,11 +46,11 @@ fewer_chosen (false ∷ bs) (name ∷ names) = let others = fewer_chosen bs name
 -- ---- the arguments
 
 given_more : (name : List ℕ) (value : Option (List ℕ)) (rest : List Attribute) (bs : List Bool) (names : List (List ℕ)) → names_of rest ≡ chosen bs names
-    → names_of (given name value ++ rest) ≡ chosen (is_some value ∷ bs) (name ∷ names)
+    → names_of (argument_attribute name value ++ rest) ≡ chosen (is_some value ∷ bs) (name ∷ names)
 given_more name None rest bs names is = is
 given_more name (Some value) rest bs names is = ap (λ (w : List (List ℕ)). name ∷ w) is
 
-given_last : (name : List ℕ) (value : Option (List ℕ)) → names_of (given name value) ≡ chosen (is_some value ∷ []) (name ∷ [])
+given_last : (name : List ℕ) (value : Option (List ℕ)) → names_of (argument_attribute name value) ≡ chosen (is_some value ∷ []) (name ∷ [])
 given_last name None = refl
 given_last name (Some value) = refl
 

@@ -30,15 +30,16 @@ use Rattle.oai_answers.specs.Answers.{Attributes, Document, Page, completes, is_
 use Rattle.oai_answers.specs.Documents.{document}
 use Rattle.oai_xml.specs.LegalTexts.{is_legal_text}
 use Rattle.oai_xml.specs.Documents.{tree_in}
-use Rattle.oai_settings.specs.Config.{Config, IsConfig}
+use Rattle.oai_settings.specs.Config.{IsConfig, RepositoryConfig}
 use Rattle.oai_repo.specs.Answers.{arguments_of_request, disseminated, filter_of, formats_answer, item_formats_answer, record_answer, sets_answer}
-use Rattle.oai_repo.specs.Changes.{after_deletion, after_purge, changed, is_past, limit_of, purged, refusal_of, stamp_at, with_new, with_tombstone}
+use Rattle.oai_holdings.specs.Changes.{after_deletion, after_purge, changed, is_past, limit_of, purged, refusal_of, stamp_at, with_new, with_tombstone}
 use Rattle.oai_repo.specs.Listing.{Response, answer_by_verb, carried_on_at, complete_answer, complete_page, continued_response, extent_at, format_response, has_no_sets, is_continued, is_of_number, items_from, list_response, new_list, next_cursor, opens_list, part_answer, part_from, prolonged, request_response, retry_after, selection_response, token_response, wait_at, where_continued, with_answer}
 use Rattle.oai_repo.specs.Machine.{Command, Outcome, accepted, act, act_on_change, changing, documented, later, outcome_of, refused_with, rejecting, requesting}
-use Rattle.oai_repo.specs.State.{FrozenList, NamedSet, OpenLists, RepoState, empty_state, is_open_at, moved}
-use Rattle.oai_repo.proofs.KeptLemmas.{well-without}
+use Rattle.oai_holdings.specs.Holdings.{NamedSet}
+use Rattle.oai_repo.specs.State.{FrozenList, OpenLists, RepoState, empty_state, is_open_at, moved}
+use Rattle.oai_holdings.proofs.KeptLemmas.{well-without}
 use Rattle.oai_laws.specs.Eras.{left_behind}
-use Rattle.oai_laws.specs.Runs.{Exchange, IsPart, Throughout, Timed, performed, run}
+use Rattle.oai_laws.specs.Runs.{IsPart, Throughout, Timed, Transition, performed, run}
 use Rattle.oai_laws.specs.Shown.{IsSomeAnswer}
 use Rattle.oai_laws.proofs.FollowLemmas.{part_items}
 use Rattle.oai_laws.proofs.StandLemmas.{of_found}
@@ -63,7 +64,7 @@ pub record AreLegal (state : RepoState) : Type 0 where
   pub sets : list_all is_legal_set state.holdings.sets ≡ true
   pub lists : list_all is_legal_list state.open_lists.lists ≡ true
 
-pub legal_empty : (config : Config) → AreLegal (empty_state config)
+pub legal_empty : (config : RepositoryConfig) → AreLegal (empty_state config)
 legal_empty config = record { items = refl; sets = refl; lists = refl }
 
 pub legal_moved : (moment : ℤ) (state : RepoState) → AreLegal state → AreLegal (moved moment state)
@@ -74,20 +75,20 @@ legal_moved moment state so = record {
 }
 
 -- those of a configuration
-record Texts (config : Config) : Type 0 where
+record Texts (config : RepositoryConfig) : Type 0 where
   pub base : is_legal_text config.base ≡ true
   pub name : is_legal_text config.repository_name ≡ true
   pub addresses : list_all is_legal_text config.addresses ≡ true
   pub formats : list_all is_legal_format config.formats ≡ true
 
-texts : (config : Config) → is_legal_config config ≡ true → Texts config
+texts : (config : RepositoryConfig) → is_legal_config config ≡ true → Texts config
 texts config is =
     let four = and_parts (is_legal_text config.base && is_legal_text config.repository_name && list_all is_legal_text config.addresses) (list_all is_legal_format config.formats) is in
     let three = and_parts (is_legal_text config.base && is_legal_text config.repository_name) (list_all is_legal_text config.addresses) four.0 in
     let two = and_parts (is_legal_text config.base) (is_legal_text config.repository_name) three.0 in
     record { base = two.0; name = two.1; addresses = three.1; formats = four.1 }
 
-format_legal : (config : Config) (prefix : List ℕ) (format : Format) → Texts config → format_named prefix config.formats ≡ Some format → is_legal_format format ≡ true
+format_legal : (config : RepositoryConfig) (prefix : List ℕ) (format : Format) → Texts config → format_named prefix config.formats ≡ Some format → is_legal_format format ≡ true
 unfolding format_named
 format_legal config prefix format so found = of_found (λ (f : Format). bytes_eq f.prefix prefix) is_legal_format config.formats format found so.formats
 
@@ -139,7 +140,7 @@ unfolding purged
 purged_legal None items all = all
 purged_legal (Some limit) items all = all-filter is_legal_item (λ item. not (is_past limit item)) items all
 
-changed_legal : (config : Config) (stamp : ℤ) (state : RepoState) (asked : Change) → is_legal_change asked ≡ true → AreLegal state
+changed_legal : (config : RepositoryConfig) (stamp : ℤ) (state : RepoState) (asked : Change) → is_legal_change asked ≡ true → AreLegal state
     → AreLegal (record state { holdings = changed config stamp state.holdings asked })
 unfolding changed
 changed_legal config stamp state (change.Deposit identifier sets records) is so = record {
@@ -157,7 +158,7 @@ changed_legal config stamp state (change.AddSet spec name) is so = record {
   lists = so.lists;
 }
 
-acted_legal : (config : Config) (stamp : ℤ) (state : RepoState) (asked : Change) (refusal : Option ChangeRefusal) → is_legal_change asked ≡ true → AreLegal state
+acted_legal : (config : RepositoryConfig) (stamp : ℤ) (state : RepoState) (asked : Change) (refusal : Option ChangeRefusal) → is_legal_change asked ≡ true → AreLegal state
     → AreLegal (act_on_change config state stamp asked refusal).1
 acted_legal config stamp state asked (Some cause) is so = so
 acted_legal config stamp state asked None is so = changed_legal config stamp state asked is so
@@ -177,7 +178,7 @@ told list.Identifiers format page own all token = (all, token)
 told list.Records format page own all token = (own, all, token)
 told list.Sets format page own all token = tt
 
-complete : (config : Config) (verb : ListVerb) (format : Format) (items : List ItemState) → is_legal_format format ≡ true → list_all is_legal_item items ≡ true
+complete : (config : RepositoryConfig) (verb : ListVerb) (format : Format) (items : List ItemState) → is_legal_format format ≡ true → list_all is_legal_item items ≡ true
     → IsLegalAnswer (complete_answer config verb format items)
 complete config verb format [] own all = tt
 complete config verb format (item ∷ items) own all = told verb format (complete_page config (item ∷ items)) own all refl
@@ -189,7 +190,7 @@ some_legal n k items all =
     (and_parts (list_all is_legal_item (take n (drop k items))) (list_all is_legal_item (drop n (drop k items)))
     (sym (list_all-append is_legal_item (take n (drop k items)) (drop n (drop k items))) ∙ ap (list_all is_legal_item) (take-append-drop n (drop k items)) ∙ behind)).0
 
-token_after : (config : Config) (list : FrozenList) (cursor : ℕ) → is_legal_token (part_from config list cursor).continuation ≡ true
+token_after : (config : RepositoryConfig) (list : FrozenList) (cursor : ℕ) → is_legal_token (part_from config list cursor).continuation ≡ true
 unfolding part_from
 token_after config list cursor = by_test (nat_lt (cursor + length (items_from config list cursor)) (extent_at list cursor).size)
   where
@@ -200,18 +201,18 @@ token_after config list cursor = by_test (nat_lt (cursor + length (items_from co
     by_test true = token_legal next
     by_test false = refl
 
-part_told : (config : Config) (verb : ListVerb) (format : Format) (list : FrozenList) (cursor : ℕ) → is_legal_format format ≡ true → is_legal_list list ≡ true
+part_told : (config : RepositoryConfig) (verb : ListVerb) (format : Format) (list : FrozenList) (cursor : ℕ) → is_legal_format format ≡ true → is_legal_list list ≡ true
     → IsLegalAnswer (answer_by_verb verb format (part_from config list cursor))
 part_told config verb format list cursor own all =
     told verb format (part_from config list cursor) own (ap (list_all is_legal_item) (part_items config list cursor) ∙ some_legal config.chunk cursor list.items all) (token_after config list cursor)
 
-begun : (config : Config) (open_lists : OpenLists) (format : Format) (list : FrozenList) (wait : Option ℤ) → is_legal_format format ≡ true → is_legal_list list ≡ true
+begun : (config : RepositoryConfig) (open_lists : OpenLists) (format : Format) (list : FrozenList) (wait : Option ℤ) → is_legal_format format ≡ true → is_legal_list list ≡ true
     → list_all is_legal_list open_lists.lists ≡ true → IsDone (opens_list config open_lists format list wait)
 begun config open_lists format list (Some seconds) own all lists = (tt, lists)
 begun config open_lists format list None own all lists =
     (part_told config list.verb format list 0 own all, list_all-append is_legal_list open_lists.lists (list ∷ []) ∙ both lists (both all refl))
 
-of_selection : (config : Config) (clock : ℤ) (open_lists : OpenLists) (verb : ListVerb) (format : Format) (items : List ItemState) → is_legal_format format ≡ true → list_all is_legal_item items ≡ true
+of_selection : (config : RepositoryConfig) (clock : ℤ) (open_lists : OpenLists) (verb : ListVerb) (format : Format) (items : List ItemState) → is_legal_format format ≡ true → list_all is_legal_item items ≡ true
     → list_all is_legal_list open_lists.lists ≡ true → IsDone (selection_response config clock open_lists verb format items)
 unfolding selection_response
 of_selection config clock open_lists verb format items own all lists =
@@ -219,33 +220,33 @@ of_selection config clock open_lists verb format items own all lists =
     (λ _. (complete config verb format items own all, lists))
     (λ _. begun config open_lists format (new_list config clock open_lists verb format.prefix items) (wait_at config clock open_lists) own all lists)
 
-in_format : (config : Config) (clock : ℤ) (open_lists : OpenLists) (verb : ListVerb) (prefix : List ℕ) (format : Option Format) (items : List ItemState) → Texts config → format_named prefix config.formats ≡ format
+in_format : (config : RepositoryConfig) (clock : ℤ) (open_lists : OpenLists) (verb : ListVerb) (prefix : List ℕ) (format : Option Format) (items : List ItemState) → Texts config → format_named prefix config.formats ≡ format
     → list_all is_legal_item items ≡ true → list_all is_legal_list open_lists.lists ≡ true → IsDone (format_response config clock open_lists verb format items)
 in_format config clock open_lists verb prefix None items so found all lists = (tt, lists)
 in_format config clock open_lists verb prefix (Some format) items so found all lists = of_selection config clock open_lists verb format items (format_legal config prefix format so found) all lists
 
-of_list : (config : Config) (clock : ℤ) (open_lists : OpenLists) (sets : List NamedSet) (verb : ListVerb) (prefix : List ℕ) (set : Option (List ℕ)) (items : List ItemState) → Texts config
+of_list : (config : RepositoryConfig) (clock : ℤ) (open_lists : OpenLists) (sets : List NamedSet) (verb : ListVerb) (prefix : List ℕ) (set : Option (List ℕ)) (items : List ItemState) → Texts config
     → list_all is_legal_item items ≡ true → list_all is_legal_list open_lists.lists ≡ true → IsDone (list_response config clock open_lists sets verb prefix set items)
 of_list config clock open_lists sets verb prefix set items so all lists =
     cond_both (is_some set && has_no_sets sets) _ _ IsDone (λ _. (tt, lists)) (λ _. in_format config clock open_lists verb prefix (format_named prefix config.formats) items so refl all lists)
 
 -- ---- tokens
 
-carried : (config : Config) (clock : ℤ) (number : ℕ) (next : Option ℕ) (list : FrozenList) → is_legal_list list ≡ true → is_legal_list (carried_on_at config clock number next list) ≡ true
+carried : (config : RepositoryConfig) (clock : ℤ) (number : ℕ) (next : Option ℕ) (list : FrozenList) → is_legal_list list ≡ true → is_legal_list (carried_on_at config clock number next list) ≡ true
 carried config clock number next list is = cond_both (is_of_number number list) _ _ (λ (l : FrozenList). is_legal_list l ≡ true) (λ _. is) (λ _. is)
 
-all_carried : (config : Config) (clock : ℤ) (number : ℕ) (next : Option ℕ) (lists : List FrozenList) → list_all is_legal_list lists ≡ true
+all_carried : (config : RepositoryConfig) (clock : ℤ) (number : ℕ) (next : Option ℕ) (lists : List FrozenList) → list_all is_legal_list lists ≡ true
     → list_all is_legal_list (map (carried_on_at config clock number next) lists) ≡ true
 all_carried config clock number next [] all = refl
 all_carried config clock number next (list ∷ lists) all =
     let parts = and_parts (is_legal_list list) (list_all is_legal_list lists) all in both (carried config clock number next list parts.0) (all_carried config clock number next lists parts.1)
 
-part_answered : (config : Config) (verb : ListVerb) (list : FrozenList) (prefix : List ℕ) (format : Option Format) (cursor : ℕ) → Texts config → format_named prefix config.formats ≡ format → is_legal_list list ≡ true
+part_answered : (config : RepositoryConfig) (verb : ListVerb) (list : FrozenList) (prefix : List ℕ) (format : Option Format) (cursor : ℕ) → Texts config → format_named prefix config.formats ≡ format → is_legal_list list ≡ true
     → IsLegalAnswer (part_answer verb format (part_from config list cursor))
 part_answered config verb list prefix None cursor so found all = tt
 part_answered config verb list prefix (Some format) cursor so found all = part_told config verb format list cursor (format_legal config prefix format so found) all
 
-continued : (config : Config) (clock : ℤ) (open_lists : OpenLists) (verb : ListVerb) (token : Token) (found : Option FrozenList) → Texts config → list_all is_legal_list open_lists.lists ≡ true
+continued : (config : RepositoryConfig) (clock : ℤ) (open_lists : OpenLists) (verb : ListVerb) (token : Token) (found : Option FrozenList) → Texts config → list_all is_legal_list open_lists.lists ≡ true
     → ((list : FrozenList) → found ≡ Some list → is_legal_list list ≡ true) → IsDone (continued_response config clock open_lists verb token.cursor (where_continued config verb token found))
 continued config clock open_lists verb token None so lists its = (tt, lists)
 continued config clock open_lists verb token (Some list) so lists its =
@@ -256,7 +257,7 @@ continued config clock open_lists verb token (Some list) so lists its =
     ))
     (λ _. (tt, lists))
 
-of_token : (config : Config) (clock : ℤ) (open_lists : OpenLists) (verb : ListVerb) (token : Option Token) → Texts config → list_all is_legal_list open_lists.lists ≡ true
+of_token : (config : RepositoryConfig) (clock : ℤ) (open_lists : OpenLists) (verb : ListVerb) (token : Option Token) → Texts config → list_all is_legal_list open_lists.lists ≡ true
     → IsDone (token_response config clock open_lists verb token)
 of_token config clock open_lists verb None so lists = (tt, lists)
 of_token config clock open_lists verb (Some token) so lists =
@@ -264,27 +265,27 @@ of_token config clock open_lists verb (Some token) so lists =
 
 -- ---- the other verbs
 
-in_record : (config : Config) (item : ItemState) (prefix : List ℕ) (format : Option Format) → Texts config → format_named prefix config.formats ≡ format → is_legal_item item ≡ true
+in_record : (config : RepositoryConfig) (item : ItemState) (prefix : List ℕ) (format : Option Format) → Texts config → format_named prefix config.formats ≡ format → is_legal_item item ≡ true
     → IsLegalAnswer (disseminated config item format)
 in_record config item prefix None so found is = tt
 in_record config item prefix (Some format) so found is =
     cond_both (has_record format.prefix item.formats) _ _ IsLegalAnswer (λ _. (format_legal config prefix format so found, is)) (λ _. tt)
 
-of_record : (config : Config) (items : List ItemState) (identifier prefix : List ℕ) (found : Option ItemState) → Texts config → item_named identifier items ≡ found → list_all is_legal_item items ≡ true
+of_record : (config : RepositoryConfig) (items : List ItemState) (identifier prefix : List ℕ) (found : Option ItemState) → Texts config → item_named identifier items ≡ found → list_all is_legal_item items ≡ true
     → IsLegalAnswer (record_answer config found prefix)
 of_record config items identifier prefix None so is all = tt
 of_record config items identifier prefix (Some item) so is all =
     in_record config item prefix (format_named prefix config.formats) so refl (of_named is_legal_item identifier items item is all)
 
-offered_legal : (config : Config) (of : Option ItemState) → Texts config → list_all is_legal_format (offered config.formats of) ≡ true
+offered_legal : (config : RepositoryConfig) (of : Option ItemState) → Texts config → list_all is_legal_format (offered config.formats of) ≡ true
 unfolding offered
 offered_legal config of so = all-filter is_legal_format (is_offered of) config.formats so.formats
 
-of_item_formats : (config : Config) (found : Option ItemState) → Texts config → IsLegalAnswer (item_formats_answer config found)
+of_item_formats : (config : RepositoryConfig) (found : Option ItemState) → Texts config → IsLegalAnswer (item_formats_answer config found)
 of_item_formats config None so = tt
 of_item_formats config (Some item) so = cond_both item.live _ _ IsLegalAnswer (λ _. offered_legal config (Some item) so) (λ _. tt)
 
-of_formats : (config : Config) (items : List ItemState) (identifier : Option (List ℕ)) → Texts config → IsLegalAnswer (formats_answer config items identifier)
+of_formats : (config : RepositoryConfig) (items : List ItemState) (identifier : Option (List ℕ)) → Texts config → IsLegalAnswer (formats_answer config items identifier)
 of_formats config items None so = offered_legal config None so
 of_formats config items (Some identifier) so = of_item_formats config (item_named identifier items) so
 
@@ -296,7 +297,7 @@ selected_legal : (asked : Filter) (items : List ItemState) → list_all is_legal
 unfolding selected
 selected_legal asked items all = all-filter is_legal_item (passes asked) items all
 
-done : (config : Config) (state : RepoState) (request : AskOrError) → Texts config → AreLegal state → IsDone (request_response config state request)
+done : (config : RepositoryConfig) (state : RepoState) (request : AskOrError) → Texts config → AreLegal state → IsDone (request_response config state request)
 done config state bad_verb so held = (tt, held.lists)
 done config state bad_argument so held = (tt, held.lists)
 done config state (asks ask.Identify) so held = ((so.name, so.addresses), held.lists)
@@ -323,16 +324,16 @@ IsLegalOutcome (later seconds) = Unit {0}
 IsLegalOutcome (accepted stamp) = Unit {0}
 IsLegalOutcome (refused_with cause) = Unit {0}
 
-of_said : (config : Config) (clock : ℤ) (asked : Attributes) (said : Response) → Texts config → have_legal_arguments asked ≡ true → IsSaid said → IsLegalOutcome (outcome_of config clock asked said)
+of_said : (config : RepositoryConfig) (clock : ℤ) (asked : Attributes) (said : Response) → Texts config → have_legal_arguments asked ≡ true → IsSaid said → IsLegalOutcome (outcome_of config clock asked said)
 of_said config clock asked (with_answer answer) so is legal_so = record { base = so.base; asked = is; answer = legal_so }
 of_said config clock asked (retry_after seconds) so is legal_so = tt
 
-of_change : (config : Config) (state : RepoState) (stamp : ℤ) (asked : Change) (refusal : Option ChangeRefusal) → IsLegalOutcome (act_on_change config state stamp asked refusal).0
+of_change : (config : RepositoryConfig) (state : RepoState) (stamp : ℤ) (asked : Change) (refusal : Option ChangeRefusal) → IsLegalOutcome (act_on_change config state stamp asked refusal).0
 of_change config state stamp asked (Some cause) = tt
 of_change config state stamp asked None = tt
 
 -- its outcome, and the state afterwards
-pub legal_act : (config : Config) (state : RepoState) (command : Command) → is_legal_config config ≡ true → is_legal_command command ≡ true → AreLegal state
+pub legal_act : (config : RepositoryConfig) (state : RepoState) (command : Command) → is_legal_config config ≡ true → is_legal_command command ≡ true → AreLegal state
     → IsLegalOutcome (act config state command).0 × AreLegal (act config state command).1
 unfolding act
 legal_act config state (requesting request) so is held =
@@ -348,9 +349,9 @@ legal_act config state (rejecting cause) so is held = (tt, held)
 
 -- ---- a run
 
-legal_part : (config : Config) (commands : List Timed) (state : RepoState) (some : List Exchange) → is_legal_config config ≡ true → are_legal_commands commands ≡ true → AreLegal state
-    → IsPart some (run config state commands) → Throughout (λ (exchange : Exchange). IsLegalOutcome exchange.outcome) some
-legal_part config [] state some so all held none = subst (Throughout (λ (exchange : Exchange). IsLegalOutcome exchange.outcome)) (sym none) tt
+legal_part : (config : RepositoryConfig) (commands : List Timed) (state : RepoState) (some : List Transition) → is_legal_config config ≡ true → are_legal_commands commands ≡ true → AreLegal state
+    → IsPart some (run config state commands) → Throughout (λ (exchange : Transition). IsLegalOutcome exchange.outcome) some
+legal_part config [] state some so all held none = subst (Throughout (λ (exchange : Transition). IsLegalOutcome exchange.outcome)) (sym none) tt
 legal_part config (timed ∷ commands) state some so all held (inl part) =
     let parts = and_parts (is_legal_command timed.command) (are_legal_commands commands) all in
     let its = legal_act config (moved timed.moment state) timed.command so parts.0 (legal_moved timed.moment state held) in
@@ -358,11 +359,11 @@ legal_part config (timed ∷ commands) state some so all held (inl part) =
 legal_part config (timed ∷ commands) state some so all held (inr here) =
     let parts = and_parts (is_legal_command timed.command) (are_legal_commands commands) all in
     let its = legal_act config (moved timed.moment state) timed.command so parts.0 (legal_moved timed.moment state held) in
-    subst (Throughout (λ (exchange : Exchange). IsLegalOutcome exchange.outcome)) (sym here.1)
+    subst (Throughout (λ (exchange : Transition). IsLegalOutcome exchange.outcome)) (sym here.1)
     (its.0, legal_part config commands (performed config state timed).left here.0 so parts.1 its.1 here.2)
 
 -- the state that commands leave
-pub legal_behind : (config : Config) (state : RepoState) (commands : List Timed) → is_legal_config config ≡ true → are_legal_commands commands ≡ true → AreLegal state
+pub legal_behind : (config : RepositoryConfig) (state : RepoState) (commands : List Timed) → is_legal_config config ≡ true → are_legal_commands commands ≡ true → AreLegal state
     → AreLegal (left_behind config state commands)
 legal_behind config state [] so all held = held
 legal_behind config state (timed ∷ commands) so all held =
@@ -379,7 +380,7 @@ is_read d given so =
       ap tree_in (document_written d) ∙ tree_read (document_tree d) (given_whole d given) legal,
     )
 
-pub some_read : (config : Config) (d : Document) (rules : IsConfig config) (is : IsSomeAnswer config d) → have_namespaces may_be_default config ≡ true → is_legal_config config ≡ true
+pub some_read : (config : RepositoryConfig) (d : Document) (rules : IsConfig config) (is : IsSomeAnswer config d) → have_namespaces may_be_default config ≡ true → is_legal_config config ≡ true
     → are_legal_commands is.commands ≡ true → (is_legal_text (document d) ≡ true) × (tree_in (document d) ≡ Some (document_tree d))
 some_read config d rules is all so commands =
     is_read d (some_answer may_be_default config d rules is all)

@@ -36,7 +36,7 @@ use Rattle.oai_item.specs.declared.changes.Change.TheVariants as change
 use Rattle.oai_item.specs.declared.fields.Field.{Field}
 use Rattle.oai_item.specs.declared.refusals.LineRefusal.{LineRefusal}
 use Rattle.oai_item.specs.declared.refusals.LineRefusal.TheVariants.{BadIdentifier, BadSetSpec, BadText}
-use Rattle.oai_deposit.specs.Json.{items_of, json_in, members_of}
+use Rattle.oai_json.specs.Json.{items_of, json_in, members_of}
 use Rattle.oai_deposit.specs.Lines.{Shape, adds_set, asked_change, change_asked, deletes, deposits, have_xml_texts, line_of, purges, shape_of, value_asked}
 use Rattle.oai_deposit.specs.Shapes.{IsShape, written_field, written_record, written_records}
 use Rattle.oai_deposit.proofs.ShapeLemmas.{shape_law_holds}

@@ -20,7 +20,7 @@ use Rattle.oai_item.specs.declared.deleted_record.DeletedRecord.{DeletedRecord}
 use Rattle.oai_item.specs.declared.deleted_record.DeletedRecord.TheVariants.{No, Transient, Persistent}
 use Rattle.oai_item.specs.declared.fields.Field.{Field}
 use Rattle.oai_item.specs.declared.formats.Format.{Format}
-use Rattle.oai_answers.specs.Answers.{Answer, Attributes, Continuation, Description, Document, Page, arguments_told, completes, fails, gives_record, identifies, lists_formats, lists_headers, lists_records, lists_sets, remains, whole}
+use Rattle.oai_answers.specs.Answers.{Attributes, Continuation, Description, Document, Page, VerbAnswer, arguments_told, completes, fails, gives_record, identifies, lists_formats, lists_headers, lists_records, lists_sets, remains, whole}
 use Rattle.oai_answers.specs.Documents.{code_of, deleted_text, granularity_text, message_of}
 use Rattle.oai_answers.specs.Seen.{IsGoodFormat, IsRegular, has_own_fields}
 use Rattle.oai_answers.specs.declared.errors.ErrorCode.{ErrorCode}
@@ -28,13 +28,13 @@ use Rattle.oai_answers.specs.declared.errors.ErrorCode.TheVariants.{BadVerb, Bad
 use Rattle.oai_answers.specs.declared.tokens.Extent.{Extent}
 use Rattle.oai_answers.proofs.Printed.{IsNoTime, datestamp_lacks, decimal_lacks, second_lacks}
 use Rattle.oai_xml.specs.Ascii.{is_ascii_ncname}
-use Rattle.oai_xml.specs.LegalTexts.{are_elements_legal, first_text, is_legal_attribute, is_legal_tag, is_legal_text, is_legal_tree}
+use Rattle.oai_xml.specs.LegalTexts.{are_elements_legal, is_legal_attribute, is_legal_tag, is_legal_text, is_legal_tree, leading_text}
 use Rattle.oai_xml.specs.QNames.{is_ascii_further}
 use Rattle.oai_xml.specs.Trees.{Attribute, Tree, text_of}
 use Rattle.oai_xml.proofs.LegalSpellings.{both as both_legal, is_plain, legal, plain, tested}
-use Rattle.oai_repo.specs.State.{NamedSet}
-use Rattle.oai_documents.specs.Elements.{attribute, bare_leaf, bare_parent, in_order, leaf, parent}
-use Rattle.oai_documents.specs.DocumentTrees.{answer_tree, arguments, declared_attributes, declared_tree, document_tree, dublin_core_attributes, dublin_core_tree, error_tree, extent, field_tree, format_tree, formats_tree, given, header_tree, headers_tree, identify_tree, instance_namespace, metadata_parts, metadata_tree, record_tree, records_tree, request_tree, root_attributes, set_tree, sets_tree, status, token_trees}
+use Rattle.oai_holdings.specs.Holdings.{NamedSet}
+use Rattle.oai_documents.specs.Elements.{bare_leaf, bare_parent, element_attribute, in_order, leaf, parent}
+use Rattle.oai_documents.specs.DocumentTrees.{answer_tree, argument_attribute, arguments, declared_attributes, declared_tree, document_tree, dublin_core_attributes, dublin_core_tree, error_tree, extent, field_tree, format_tree, formats_tree, header_tree, headers_tree, identify_tree, instance_namespace, metadata_parts, metadata_tree, record_tree, records_tree, request_tree, root_attributes, set_tree, sets_tree, status, token_trees}
 use Rattle.oai_documents.specs.Texts.{have_legal_arguments, is_legal_argument, is_legal_field, is_legal_format, is_legal_item, is_legal_record, is_legal_set}
 use Rattle.oai_documents.proofs.Names.{all_further, rule_name}
 use Rattle.oai_documents.proofs.Tags.{both}
@@ -118,8 +118,8 @@ name_plain name is = all-weaker is_ascii_further is_plain further_plain name (al
 abbrev IsFine : Tree → Type 0
 IsFine t = is_legal_tree t ≡ true
 
-text_first : (text : List ℕ) → first_text (text_of text) ≡ text
-unfolding text_of first_text
+text_first : (text : List ℕ) → leading_text (text_of text) ≡ text
+unfolding text_of leading_text
 text_first [] = refl
 text_first (b ∷ text) = ap (λ (w : List ℕ). b ∷ w) (text_first text)
 
@@ -128,8 +128,8 @@ unfolding text_of are_elements_legal
 text_alone [] = refl
 text_alone (b ∷ text) = text_alone text
 
-in_order_first : (trees : List Tree) → IsText (first_text (in_order trees))
-unfolding in_order first_text
+in_order_first : (trees : List Tree) → IsText (leading_text (in_order trees))
+unfolding in_order leading_text
 in_order_first [] = no_text
 in_order_first (t ∷ trees) = no_text
 
@@ -154,7 +154,7 @@ fine_leaf name text is legal_so = leaf_legal name [] text (bare_tag name is) leg
 fine_parent : (name : List ℕ) (trees : List Tree) → list_all is_plain name ≡ true → list_all is_legal_tree trees ≡ true → IsFine (bare_parent name trees)
 fine_parent name trees is all = parent_legal name [] trees (bare_tag name is) all
 
-fine_attribute : (name value : List ℕ) → list_all is_plain name ≡ true → IsText value → is_legal_attribute (attribute name value) ≡ true
+fine_attribute : (name value : List ℕ) → list_all is_plain name ≡ true → IsText value → is_legal_attribute (element_attribute name value) ≡ true
 fine_attribute name value is legal_so = both (plain_text name is) legal_so
 
 each_fine : {A : Type 0} (tree : A → Tree) (good : A → Bool) → ((a : A) → good a ≡ true → IsFine (tree a)) → (xs : List A) → list_all good xs ≡ true → list_all is_legal_tree (map tree xs) ≡ true
@@ -166,7 +166,7 @@ and_more xs ys first second = list_all-append is_legal_tree xs ys ∙ both first
 
 -- ---- the request and errors
 
-given_legal : (name : List ℕ) (value : Option (List ℕ)) → list_all is_plain name ≡ true → is_legal_argument value ≡ true → list_all is_legal_attribute (given name value) ≡ true
+given_legal : (name : List ℕ) (value : Option (List ℕ)) → list_all is_plain name ≡ true → is_legal_argument value ≡ true → list_all is_legal_attribute (argument_attribute name value) ≡ true
 given_legal name None is legal_so = refl
 given_legal name (Some value) is legal_so = both (fine_attribute name value is legal_so) refl
 
@@ -182,14 +182,14 @@ arguments_legal a is =
     let four = and_parts _ (is_legal_argument a.from) five.0 in
     let three = and_parts _ (is_legal_argument a.prefix) four.0 in
     let two = and_parts (is_legal_argument a.verb) (is_legal_argument a.identifier) three.0 in
-    given_more (given (codes "verb") a.verb) _ (given_legal (codes "verb") a.verb refl two.0)
-    (given_more (given (codes "identifier") a.identifier) _ (given_legal (codes "identifier") a.identifier refl two.1)
-    (given_more (given (codes "metadataPrefix") a.prefix) _ (given_legal (codes "metadataPrefix") a.prefix refl three.1)
-    (given_more (given (codes "from") a.from) _ (given_legal (codes "from") a.from refl four.1)
-    (given_more (given (codes "until") a.until) _ (given_legal (codes "until") a.until refl five.1)
-    (given_more (given (codes "set") a.set) _ (given_legal (codes "set") a.set refl six.1) (given_legal (codes "resumptionToken") a.token refl seven.1))))))
+    given_more (argument_attribute (codes "verb") a.verb) _ (given_legal (codes "verb") a.verb refl two.0)
+    (given_more (argument_attribute (codes "identifier") a.identifier) _ (given_legal (codes "identifier") a.identifier refl two.1)
+    (given_more (argument_attribute (codes "metadataPrefix") a.prefix) _ (given_legal (codes "metadataPrefix") a.prefix refl three.1)
+    (given_more (argument_attribute (codes "from") a.from) _ (given_legal (codes "from") a.from refl four.1)
+    (given_more (argument_attribute (codes "until") a.until) _ (given_legal (codes "until") a.until refl five.1)
+    (given_more (argument_attribute (codes "set") a.set) _ (given_legal (codes "set") a.set refl six.1) (given_legal (codes "resumptionToken") a.token refl seven.1))))))
 
-told_legal : (answer : Answer) (asked : Attributes) → have_legal_arguments asked ≡ true → have_legal_arguments (arguments_told answer asked) ≡ true
+told_legal : (answer : VerbAnswer) (asked : Attributes) → have_legal_arguments asked ≡ true → have_legal_arguments (arguments_told answer asked) ≡ true
 told_legal (fails BadVerb) asked is = refl
 told_legal (fails BadArgument) asked is = refl
 told_legal (fails BadResumptionToken) asked is = is
@@ -234,7 +234,7 @@ message_legal NoSetHierarchy = plain_text (message_of NoSetHierarchy) refl
 error_fine : (code : ErrorCode) → IsFine (error_tree code)
 unfolding error_tree
 error_fine code =
-    leaf_legal (codes "error") (attribute (codes "code") (code_of code) ∷ []) (message_of code)
+    leaf_legal (codes "error") (element_attribute (codes "code") (code_of code) ∷ []) (message_of code)
     (both (plain_text (codes "error") refl) (both (fine_attribute (codes "code") (code_of code) refl (code_legal code)) refl)) (message_legal code)
 
 -- ---- Identify, formats and sets
@@ -419,7 +419,7 @@ token_fine : (c : Continuation) → is_legal_token c ≡ true → list_all is_le
 unfolding token_trees
 token_fine whole is = refl
 token_fine (remains expires part token) is =
-    both (leaf_legal (codes "resumptionToken") (attribute (codes "expirationDate") (second_text expires) ∷ extent part) token
+    both (leaf_legal (codes "resumptionToken") (element_attribute (codes "expirationDate") (second_text expires) ∷ extent part) token
     (both (plain_text (codes "resumptionToken") refl) (both (fine_attribute (codes "expirationDate") (second_text expires) refl (second_legal expires)) (extent_legal part))) is) refl
 token_fine (completes part) is = both (leaf_legal (codes "resumptionToken") (extent part) [] (both (plain_text (codes "resumptionToken") refl) (extent_legal part)) no_text) refl
 
@@ -442,7 +442,7 @@ records_fine format page good is own all token =
 -- ---- documents
 
 -- the texts of an answer are legal
-abbrev pub IsLegalAnswer : Answer → Type 0
+abbrev pub IsLegalAnswer : VerbAnswer → Type 0
 IsLegalAnswer (fails code) = Unit {0}
 IsLegalAnswer (identifies d) = (is_legal_text d.name ≡ true) × (list_all is_legal_text d.addresses ≡ true)
 IsLegalAnswer (lists_formats formats) = list_all is_legal_format formats ≡ true
@@ -451,7 +451,7 @@ IsLegalAnswer (gives_record d) = (is_legal_format d.format ≡ true) × (is_lega
 IsLegalAnswer (lists_headers page) = (list_all is_legal_item page.items ≡ true) × (is_legal_token page.continuation ≡ true)
 IsLegalAnswer (lists_records format page) = (is_legal_format format ≡ true) × (list_all is_legal_item page.items ≡ true) × (is_legal_token page.continuation ≡ true)
 
-answer_fine : (base : List ℕ) (answer : Answer) → IsText base → IsRegular answer → IsLegalAnswer answer → IsFine (answer_tree base answer)
+answer_fine : (base : List ℕ) (answer : VerbAnswer) → IsText base → IsRegular answer → IsLegalAnswer answer → IsFine (answer_tree base answer)
 unfolding answer_tree
 answer_fine base (fails code) url regular so = error_fine code
 answer_fine base (identifies d) url regular so = identify_fine base d url so.0 so.1

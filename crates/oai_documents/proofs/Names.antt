@@ -8,7 +8,7 @@ use Rattle.std.proofs.lemmas.List.{drop_at, length-append, take_at}
 use Rattle.std.proofs.lemmas.List.Folds.{list_all-append}
 use Rattle.oai_names.specs.Names.{is_colon}
 use Rattle.oai_names.proofs.Lists.{all-weaker}
-use Rattle.oai_item.specs.Rules.{is_element_name, is_first_byte, is_name, is_name_byte as is_rule_byte}
+use Rattle.oai_item.specs.Rules.{is_element_name, is_element_name_byte as is_rule_byte, is_first_byte, is_name}
 use Rattle.oai_xml.specs.Ascii.{is_ascii_ncname}
 use Rattle.oai_xml.specs.QNames.{is_ascii_further, is_ascii_start, is_name_byte, is_ncname, is_prefixed, is_qname, local_of, prefix_of}
 use Rattle.oai_xml.proofs.NameLemmas.{ascii_ncname}

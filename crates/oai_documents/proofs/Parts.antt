@@ -8,16 +8,16 @@ use Rattle.oai_answers.specs.Answers.{Attributes, Description, Document, argumen
 use Rattle.oai_answers.specs.Documents.{attributes, code_of, deleted_text, error_element, format_element, formats_element, given_attribute, granularity_text, identify_element, message_of, request_element, set_element, sets_element}
 use Rattle.oai_answers.specs.Markup.{end_tag, plain, spelled_attribute as marked_attribute, text_element}
 use Rattle.oai_answers.specs.declared.errors.ErrorCode.{ErrorCode}
-use Rattle.oai_documents.specs.Elements.{attribute, bare_leaf}
-use Rattle.oai_documents.specs.DocumentTrees.{arguments, error_tree, format_tree, formats_tree, given, identify_tree, request_tree, set_tree, sets_tree}
+use Rattle.oai_documents.specs.Elements.{bare_leaf, element_attribute}
+use Rattle.oai_documents.specs.DocumentTrees.{argument_attribute, arguments, error_tree, format_tree, formats_tree, identify_tree, request_tree, set_tree, sets_tree}
 use Rattle.oai_documents.proofs.Unescaped.{code_same, datestamp_free, deleted_same, free_text, granularity_same, message_same, version_same}
 use Rattle.oai_documents.proofs.Written.{attribute_as, attribute_written, bare_leaf_written, bare_parent_written, each_written, leaf_written, one_attribute, only, plain_leaf_written, start_written, then_attributes, then_more, then_one}
 
 -- ---- the request
 
-given_written : (name : List ℕ) (value : Option (List ℕ)) → given_attribute name value ≡ flat_map spelled_attribute (given name value)
+given_written : (name : List ℕ) (value : Option (List ℕ)) → given_attribute name value ≡ flat_map spelled_attribute (argument_attribute name value)
 given_written name None = refl
-given_written name (Some value) = one_attribute _ (attribute name value) (attribute_written name value)
+given_written name (Some value) = one_attribute _ (element_attribute name value) (attribute_written name value)
 
 -- seven lists, one behind the other, from the left or from the right
 seven : {A : Type 0} (a b c d e f g : List A) → a ++ b ++ c ++ d ++ e ++ f ++ g ≡ a ++ (b ++ (c ++ (d ++ (e ++ (f ++ g)))))
@@ -49,7 +49,7 @@ request_written d =
 pub error_written : (code : ErrorCode) → error_element code ≡ spelled (error_tree code)
 unfolding error_element error_tree plain
 error_written code =
-    let it : Attribute = attribute (codes "code") (code_of code) in
+    let it : Attribute = element_attribute (codes "code") (code_of code) in
     let code_is = one_attribute (marked_attribute (codes "code") (code_of code)) it (attribute_as (codes "code") (code_of code) (code_of code) (sym (code_same code))) in
     let start : List ℕ = codes "<error" ++ marked_attribute (codes "code") (code_of code) ++ codes ">" in
     ap (λ (w : List ℕ). start ++ w ++ end_tag (codes "error")) (sym (message_same code))

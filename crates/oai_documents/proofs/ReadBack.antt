@@ -10,7 +10,7 @@ use Rattle.oai_xml.specs.Parts.{past_equals, past_spaces}
 use Rattle.oai_xml.specs.Trees.{Tree, spelled, spelled_attribute, spelled_content}
 use Rattle.oai_xml.specs.Whole.{is_whole}
 use Rattle.oai_xml.specs.LegalTexts.{is_legal_text, is_legal_tree}
-use Rattle.oai_xml.specs.Documents.{begins_spaces, declaration_in, document_in, element_of, encoding_in, legal_front, legal_len, misc_in, named_in, normalized, opening_in, prolog_in, quote_in, root_in, standalone_in, tail_in, tree_in, utf_8_in, version_in, version_number_in}
+use Rattle.oai_xml.specs.Documents.{begins_spaces, declaration_in, document_in, element_of, encoding_in, legal_front, legal_len, misc_in, normalized, opening_in, prolog_in, pseudo_attribute_in, quote_in, root_in, standalone_in, tail_in, tree_in, utf_8_in, version_in, version_number_in}
 use Rattle.oai_xml.specs.declared.limits.TheConstants.{MAX_DEPTH}
 use Rattle.oai_xml.proofs.TagBacks.{begun_apart, space_read}
 use Rattle.oai_xml.proofs.ContentBacks.{behind_tag, spelled_text, tag_parts, tree_back, tree_parts}
@@ -29,13 +29,13 @@ abbrev behind_version : List ℕ → List ℕ
 behind_version rest = codes " encoding=\"UTF-8\"?>\n" ++ rest
 
 version_passed : (rest : List ℕ) → version_in (behind_name rest) ≡ Ok (behind_version rest)
-unfolding version_in named_in version_number_in past past_equals past_spaces quote_in
+unfolding version_in pseudo_attribute_in version_number_in past past_equals past_spaces quote_in
 version_passed rest =
     ap (λ r. (r >>= λ start. past (codes "version") start >>= λ equals. past_equals equals >>= λ quoted. quote_in quoted) >>= λ q. version_number_in q.1 >>= λ rest. past (q.0 ∷ []) rest)
     (space_read (codes "version=\"1.0\" encoding=\"UTF-8\"?>\n" ++ rest))
 
 encoding_passed : (rest : List ℕ) → encoding_in (behind_version rest) ≡ Ok (codes "?>\n" ++ rest)
-unfolding encoding_in named_in utf_8_in begins past past_equals past_spaces quote_in
+unfolding encoding_in pseudo_attribute_in utf_8_in begins past past_equals past_spaces quote_in
 encoding_passed rest =
     ap (λ r. (r >>= λ start. past (codes "encoding") start >>= λ equals. past_equals equals >>= λ quoted. quote_in quoted) >>= λ q. utf_8_in q.1 >>= λ rest. past (q.0 ∷ []) rest)
     (space_read (codes "encoding=\"UTF-8\"?>\n" ++ rest))

@@ -11,11 +11,11 @@ use Rattle.oai_item.specs.Item.{ItemState, fields_in}
 use Rattle.oai_item.specs.declared.fields.Field.{Field}
 use Rattle.oai_item.specs.declared.formats.Format.{Format}
 use Rattle.oai_xml.specs.Trees.{Attribute, Tree, spelled, spelled_attribute, start_tag}
-use Rattle.oai_answers.specs.Answers.{Answer, Continuation, Document, Page, completes, fails, gives_record, identifies, lists_formats, lists_headers, lists_records, lists_sets, remains, whole}
+use Rattle.oai_answers.specs.Answers.{Continuation, Document, Page, VerbAnswer, completes, fails, gives_record, identifies, lists_formats, lists_headers, lists_records, lists_sets, remains, whole}
 use Rattle.oai_answers.specs.Documents.{answer_element, declared_metadata, declared_start, document, dublin_core_metadata, dublin_core_start, extent_attributes, field_element, get_record_element, head, header_element, header_start, identifiers_element, metadata, metadata_part, record_element, records_element, request_element, schema_location, token_element}
 use Rattle.oai_answers.specs.Markup.{attribute as text_attribute, element, end_tag, plain, spelled_attribute as marked_attribute, text_element}
 use Rattle.oai_answers.specs.declared.tokens.Extent.{Extent}
-use Rattle.oai_documents.specs.Elements.{attribute, bare_leaf, bare_parent, leaf}
+use Rattle.oai_documents.specs.Elements.{bare_leaf, bare_parent, element_attribute, leaf}
 use Rattle.oai_documents.specs.DocumentTrees.{answer_tree, declared_attributes, declared_tree, document_tree, dublin_core_attributes, dublin_core_tree, extent, field_tree, header_tree, headers_tree, instance_namespace, line_end, metadata_parts, metadata_tree, record_tree, records_tree, request_tree, root_attributes, status, token_trees, xml_declaration}
 use Rattle.oai_documents.proofs.Parts.{error_written, formats_written, identify_written, request_written, sets_written}
 use Rattle.oai_documents.proofs.Unescaped.{datestamp_free, decimal_free, free_text, free_value, second_free}
@@ -52,9 +52,9 @@ declared_begun format =
     let own : List ℕ = text_attribute (codes "xmlns") format.namespace in
     let xsi : List ℕ = text_attribute (codes "xmlns:xsi") (codes "http://www.w3.org/2001/XMLSchema-instance") in
     let location : List ℕ = marked_attribute (codes "xsi:schemaLocation") (escaped_attribute format.namespace ++ codes " " ++ escaped_attribute format.schema) in
-    let first : Attribute = attribute (codes "xmlns") format.namespace in
-    let second : Attribute = attribute (codes "xmlns:xsi") (codes "http://www.w3.org/2001/XMLSchema-instance") in
-    let third : Attribute = attribute (codes "xsi:schemaLocation") (format.namespace ++ codes " " ++ format.schema) in
+    let first : Attribute = element_attribute (codes "xmlns") format.namespace in
+    let second : Attribute = element_attribute (codes "xmlns:xsi") (codes "http://www.w3.org/2001/XMLSchema-instance") in
+    let third : Attribute = element_attribute (codes "xsi:schemaLocation") (format.namespace ++ codes " " ++ format.schema) in
     let one = one_attribute own first (attribute_written (codes "xmlns") format.namespace) in
     let two = then_attributes own xsi (first ∷ []) (second ∷ []) one
     (one_attribute xsi second (attribute_written (codes "xmlns:xsi") (codes "http://www.w3.org/2001/XMLSchema-instance"))) in
@@ -123,8 +123,8 @@ record_written granularity format item =
 extent_written : (e : Extent) → extent_attributes e ≡ flat_map spelled_attribute (extent e)
 unfolding extent_attributes extent
 extent_written e =
-    let size : Attribute = attribute (codes "completeListSize") (decimal e.size) in
-    let cursor : Attribute = attribute (codes "cursor") (decimal e.cursor) in
+    let size : Attribute = element_attribute (codes "completeListSize") (decimal e.size) in
+    let cursor : Attribute = element_attribute (codes "cursor") (decimal e.cursor) in
     then_attributes _ _ (size ∷ []) (cursor ∷ [])
     (one_attribute _ size (attribute_as (codes "completeListSize") (decimal e.size) (decimal e.size) (sym (free_value (decimal e.size) (decimal_free e.size)))))
     (one_attribute _ cursor (attribute_as (codes "cursor") (decimal e.cursor) (decimal e.cursor) (sym (free_value (decimal e.cursor) (decimal_free e.cursor)))))
@@ -137,7 +137,7 @@ token_written : (c : Continuation) → token_element c ≡ flat_map spelled (tok
 unfolding token_element token_trees plain
 token_written whole = refl
 token_written (remains expires part token) =
-    let it : Attribute = attribute (codes "expirationDate") (second_text expires) in
+    let it : Attribute = element_attribute (codes "expirationDate") (second_text expires) in
     let expires_text : List ℕ = marked_attribute (codes "expirationDate") (second_text expires) in
     let one = one_attribute expires_text it (attribute_as (codes "expirationDate") (second_text expires) (second_text expires) (sym (free_value (second_text expires) (second_free expires)))) in
     let both = then_attributes expires_text (extent_attributes part) (it ∷ []) (extent part) one (extent_written part) in
@@ -171,7 +171,7 @@ records_written format page =
 
 -- ---- the document
 
-answer_written : (base : List ℕ) (answer : Answer) → answer_element base answer ≡ spelled (answer_tree base answer)
+answer_written : (base : List ℕ) (answer : VerbAnswer) → answer_element base answer ≡ spelled (answer_tree base answer)
 unfolding answer_tree get_record_element
 answer_written base (fails code) = error_written code
 answer_written base (identifies d) = identify_written base d

@@ -21,14 +21,14 @@ use Rattle.oai_xml.specs.Roots.{named_so, root_of}
 use Rattle.oai_xml.specs.Trees.{Tree}
 use Rattle.oai_xml.specs.Namespaces.{declared, is_declaring, namespace_of, xml_namespace, xmlns_namespace}
 use Rattle.oai_xml.specs.Whole.{names_of, within}
-use Rattle.oai_answers.specs.Answers.{Answer, Attributes, Continuation, Description, Document, Page, arguments_told, completes, fails, gives_record, identifies, lists_formats, lists_headers, lists_records, lists_sets, remains, whole}
+use Rattle.oai_answers.specs.Answers.{Attributes, Continuation, Description, Document, Page, VerbAnswer, arguments_told, completes, fails, gives_record, identifies, lists_formats, lists_headers, lists_records, lists_sets, remains, whole}
 use Rattle.oai_answers.specs.Documents.{code_of, deleted_text, granularity_text, message_of}
 use Rattle.oai_answers.specs.Seen.{IsGoodFormat, IsRegular}
 use Rattle.oai_answers.specs.declared.errors.ErrorCode.{ErrorCode}
 use Rattle.oai_answers.specs.declared.errors.ErrorCode.TheVariants.{BadVerb, BadArgument, BadResumptionToken, CannotDisseminateFormat, IdDoesNotExist, NoRecordsMatch, NoMetadataFormats, NoSetHierarchy}
 use Rattle.oai_documents.specs.Elements.{bare_leaf, bare_parent}
 use Rattle.oai_documents.specs.DocumentTrees.{answer_tree, declared_attributes, declared_tree, document_tree, dublin_core_attributes, dublin_core_tree, error_tree, extent, format_tree, formats_tree, header_tree, headers_tree, identify_tree, instance_namespace, metadata_parts, metadata_tree, record_tree, records_tree, request_tree, root_attributes, set_tree, sets_tree, status, token_trees}
-use Rattle.oai_documents.specs.Schema.{Any, IsAnswered, IsContainer, IsError, IsForeign, IsFormat, IsFormats, IsHeader, IsHeaders, IsIdentify, IsOfSchema, IsOneOf, IsRecord, IsRecords, IsRequest, IsSet, IsSets, IsText, IsToken, One, Optional, Several, ◌⨾◌, error_codes, oai_namespace}
+use Rattle.oai_documents.specs.Schema.{Any, AreAnswerElements, IsContainer, IsError, IsForeign, IsFormatElement, IsFormats, IsHeader, IsHeaders, IsIdentify, IsOfSchema, IsOneOf, IsRecord, IsRecords, IsRequestElement, IsSet, IsSets, IsTextElement, IsTokenElement, One, Optional, Several, ◌⨾◌, error_codes, oai_namespace}
 use Rattle.oai_documents.specs.WellFormed.{HasMembers, HasNamespace, IsFilled, is_foreign}
 use Rattle.oai_documents.proofs.Arguments.{all_chosen, are_given, argument_names, names_given}
 use Rattle.oai_documents.proofs.Names.{no_prefix, rule_name}
@@ -49,7 +49,7 @@ several_of : {A : Type 0} (is : Tree → Type 0) (tree : A → Tree) → ((a : A
 several_of is tree each [] none = absurd none
 several_of is tree each (x ∷ xs) some = (each x, any_of is tree each xs)
 
-is_text : (name text : List ℕ) → IsText name (bare_leaf name text)
+is_text : (name text : List ℕ) → IsTextElement name (bare_leaf name text)
 is_text name text = record { name_is = refl; attributes = refl; value = (text, refl, refl) }
 
 one_of : (name : List ℕ) (values : List (List ℕ)) (text : List ℕ) → is_among values text ≡ true → IsOneOf name values (bare_leaf name text)
@@ -60,7 +60,7 @@ one_of name values text is = record { name_is = refl; attributes = refl; value =
 known_arguments : list_all (is_among argument_names) argument_names ≡ true
 known_arguments = refl
 
-request_is : (d : Document) → IsRequest (request_tree d)
+request_is : (d : Document) → IsRequestElement (request_tree d)
 unfolding request_tree
 request_is d =
     let asked : Attributes = arguments_told d.answer d.asked in record {
@@ -113,7 +113,7 @@ identify_is base d some =
               addresses,
               earliest ∷ deleted ∷ granularity ∷ [],
               refl,
-              several_of (IsText (codes "adminEmail")) (bare_leaf (codes "adminEmail")) (is_text (codes "adminEmail")) d.addresses some,
+              several_of (IsTextElement (codes "adminEmail")) (bare_leaf (codes "adminEmail")) (is_text (codes "adminEmail")) d.addresses some,
               first_one _ _ _ _ (is_text (codes "earliestDatestamp") (datestamp_text d.granularity d.earliest))
                   (first_one _ _ _ _ (one_of (codes "deletedRecord") (codes "no" ∷ codes "persistent" ∷ codes "transient" ∷ []) (deleted_text d.deleted) (deleted_known d.deleted))
                   (first_one _ _ _ _ (one_of (codes "granularity") (codes "YYYY-MM-DD" ∷ codes "YYYY-MM-DDThh:mm:ssZ" ∷ []) (granularity_text d.granularity) (granularity_known d.granularity)) ([], [], refl, tt, tt))),
@@ -121,7 +121,7 @@ identify_is base d some =
       );
     }
 
-format_is : (format : Format) → IsFormat (format_tree format)
+format_is : (format : Format) → IsFormatElement (format_tree format)
 unfolding format_tree
 format_is format = record {
   name_is = refl;
@@ -136,7 +136,7 @@ format_is format = record {
 
 formats_are : (formats : List Format) → HasMembers formats → IsFormats (formats_tree formats)
 unfolding formats_tree
-formats_are formats some = record { name_is = refl; attributes = refl; children = (map format_tree formats, refl, several_of IsFormat format_tree format_is formats some) }
+formats_are formats some = record { name_is = refl; attributes = refl; children = (map format_tree formats, refl, several_of IsFormatElement format_tree format_is formats some) }
 
 set_is : (set : List ℕ × List ℕ) → IsSet (set_tree set)
 unfolding set_tree
@@ -232,7 +232,7 @@ header_is granularity item = record {
     _,
     refl,
     first_one _ _ _ _ (is_text (codes "identifier") item.identifier)
-        (first_one _ _ _ _ (is_text (codes "datestamp") (datestamp_text granularity item.stamp)) (any_of (IsText (codes "setSpec")) (bare_leaf (codes "setSpec")) (is_text (codes "setSpec")) item.sets)),
+        (first_one _ _ _ _ (is_text (codes "datestamp") (datestamp_text granularity item.stamp)) (any_of (IsTextElement (codes "setSpec")) (bare_leaf (codes "setSpec")) (is_text (codes "setSpec")) item.sets)),
   );
 }
 
@@ -265,7 +265,7 @@ record_is granularity format item good other = record {
 
 -- ---- lists
 
-token_is : (c : Continuation) → Optional IsToken (token_trees c)
+token_is : (c : Continuation) → Optional IsTokenElement (token_trees c)
 unfolding token_trees extent
 token_is whole = inl refl
 token_is (remains expires part token) = inr (_, refl, record { name_is = refl; attributes = refl; value = (token, refl, refl) })
@@ -305,7 +305,7 @@ records_are format page good other some =
 
 -- ---- documents
 
-answer_is : (base : List ℕ) (answer : Answer) → IsRegular answer → IsFilled answer → HasNamespace is_foreign answer → IsAnswered (answer_tree base answer ∷ [])
+answer_is : (base : List ℕ) (answer : VerbAnswer) → IsRegular answer → IsFilled answer → HasNamespace is_foreign answer → AreAnswerElements (answer_tree base answer ∷ [])
 unfolding answer_tree
 answer_is base (fails code) regular filled other = inl (error_is code, tt)
 answer_is base (identifies d) regular filled other = inr (inl (identify_tree base d, refl, identify_is base d filled))

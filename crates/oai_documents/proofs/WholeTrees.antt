@@ -19,12 +19,12 @@ use Rattle.oai_xml.specs.Trees.{Tree}
 use Rattle.oai_xml.specs.Namespaces.{Scope, are_alike, are_unlike, is_declaring}
 use Rattle.oai_xml.specs.Whole.{is_whole, is_whole_in}
 use Rattle.oai_xml.specs.declared.limits.TheConstants.{MAX_DEPTH}
-use Rattle.oai_answers.specs.Answers.{Answer, Continuation, Description, Document, Page, arguments_told, completes, fails, gives_record, identifies, lists_formats, lists_headers, lists_records, lists_sets, remains, whole}
+use Rattle.oai_answers.specs.Answers.{Continuation, Description, Document, Page, VerbAnswer, arguments_told, completes, fails, gives_record, identifies, lists_formats, lists_headers, lists_records, lists_sets, remains, whole}
 use Rattle.oai_answers.specs.Documents.{code_of, deleted_text, granularity_text, message_of}
 use Rattle.oai_answers.specs.Seen.{IsGoodFormat, IsRegular, has_own_fields}
 use Rattle.oai_answers.specs.declared.errors.ErrorCode.{ErrorCode}
 use Rattle.oai_answers.specs.declared.tokens.Extent.{Extent}
-use Rattle.oai_documents.specs.Elements.{attribute, bare_leaf, bare_parent}
+use Rattle.oai_documents.specs.Elements.{bare_leaf, bare_parent, element_attribute}
 use Rattle.oai_documents.specs.DocumentTrees.{answer_tree, arguments, declared_attributes, declared_tree, document_tree, dublin_core_attributes, dublin_core_tree, error_tree, extent, field_tree, format_tree, formats_tree, header_tree, headers_tree, identify_tree, metadata_parts, metadata_tree, record_tree, records_tree, request_tree, root_attributes, set_tree, sets_tree, status, token_trees}
 use Rattle.oai_documents.specs.WellFormed.{HasNamespace, may_be_default}
 use Rattle.oai_documents.proofs.Names.{rule_name}
@@ -53,13 +53,13 @@ request_whole : (d : Document) → IsFine 127 (request_tree d)
 unfolding request_tree
 request_whole d = leaf_whole 127 oai_scope (codes "request") (arguments (arguments_told d.answer d.asked)) d.base refl oai_ready (request_tag (arguments_told d.answer d.asked))
 
-error_tag : (code : List ℕ) → IsPlainTag oai_scope (codes "error") (attribute (codes "code") code ∷ [])
+error_tag : (code : List ℕ) → IsPlainTag oai_scope (codes "error") (element_attribute (codes "code") code ∷ [])
 unfolding is_declaring prefix_of are_unlike
 error_tag code = record { named = refl; plain = refl; unlike = refl; few = refl }
 
 error_whole : (code : ErrorCode) → IsFine 127 (error_tree code)
 unfolding error_tree
-error_whole code = leaf_whole 127 oai_scope (codes "error") (attribute (codes "code") (code_of code) ∷ []) (message_of code) refl oai_ready (error_tag (code_of code))
+error_whole code = leaf_whole 127 oai_scope (codes "error") (element_attribute (codes "code") (code_of code) ∷ []) (message_of code) refl oai_ready (error_tag (code_of code))
 
 identify_whole : (base : List ℕ) (d : Description) → IsFine 127 (identify_tree base d)
 unfolding identify_tree
@@ -200,7 +200,7 @@ extent_tag : (e : Extent) → IsPlainTag oai_scope (codes "resumptionToken") (ex
 unfolding extent is_declaring prefix_of are_unlike are_alike
 extent_tag e = record { named = refl; plain = refl; unlike = refl; few = refl }
 
-remaining_tag : (expires : List ℕ) (e : Extent) → IsPlainTag oai_scope (codes "resumptionToken") (attribute (codes "expirationDate") expires ∷ extent e)
+remaining_tag : (expires : List ℕ) (e : Extent) → IsPlainTag oai_scope (codes "resumptionToken") (element_attribute (codes "expirationDate") expires ∷ extent e)
 unfolding extent is_declaring prefix_of are_unlike are_alike
 remaining_tag expires e = record { named = refl; plain = refl; unlike = refl; few = refl }
 
@@ -227,7 +227,7 @@ records_whole format page good none own =
 
 -- ---- documents
 
-answer_whole : (base : List ℕ) (answer : Answer) → IsRegular answer → HasNamespace may_be_default answer → IsFine 127 (answer_tree base answer)
+answer_whole : (base : List ℕ) (answer : VerbAnswer) → IsRegular answer → HasNamespace may_be_default answer → IsFine 127 (answer_tree base answer)
 unfolding answer_tree
 answer_whole base (fails code) regular own = error_whole code
 answer_whole base (identifies d) regular own = identify_whole base d

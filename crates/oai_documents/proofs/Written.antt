@@ -6,7 +6,7 @@ use Rattle.oai_names.specs.Escapes.{escaped_attribute, escaped_text}
 use Rattle.oai_answers.specs.Markup.{plain, text_element, attribute_start, attribute as text_attribute, element as marked, start_tag as marked_start, end_tag as marked_end, spelled_attribute as marked_attribute}
 use Rattle.oai_xml.specs.Trees.{Attribute, Tree, spelled, spelled_content, spelled_attribute, start_tag, end_tag}
 use Rattle.oai_xml.proofs.Spellings.{element_spelled, nothing_spelled, text_spelled, tree_spelled}
-use Rattle.oai_documents.specs.Elements.{attribute, bare_leaf, bare_parent, in_order, leaf, parent}
+use Rattle.oai_documents.specs.Elements.{bare_leaf, bare_parent, element_attribute, in_order, leaf, parent}
 
 -- ---- elements in their order
 
@@ -101,11 +101,11 @@ value_written name value =
     ap (λ (w : List ℕ). 32 ∷ w) (append_assoc (name ++ 61 ∷ 34 ∷ []) value (34 ∷ []) ∙ append_assoc name (61 ∷ 34 ∷ []) (value ++ 34 ∷ []))
 
 -- with a value that is written so
-pub attribute_as : (name value spelling : List ℕ) → spelling ≡ escaped_attribute value → marked_attribute name spelling ≡ spelled_attribute (attribute name value)
+pub attribute_as : (name value spelling : List ℕ) → spelling ≡ escaped_attribute value → marked_attribute name spelling ≡ spelled_attribute (element_attribute name value)
 unfolding spelled_attribute
 attribute_as name value spelling is = value_written name spelling ∙ ap (λ (w : List ℕ). 32 ∷ (name ++ 61 ∷ 34 ∷ (w ++ 34 ∷ []))) is
 
-pub attribute_written : (name value : List ℕ) → text_attribute name value ≡ spelled_attribute (attribute name value)
+pub attribute_written : (name value : List ℕ) → text_attribute name value ≡ spelled_attribute (element_attribute name value)
 unfolding text_attribute
 attribute_written name value = attribute_as name value (escaped_attribute value) refl
 

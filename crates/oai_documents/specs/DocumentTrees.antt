@@ -9,29 +9,29 @@ use Rattle.oai_item.specs.Item.{ItemState, fields_in}
 use Rattle.oai_item.specs.declared.fields.Field.{Field}
 use Rattle.oai_item.specs.declared.formats.Format.{Format}
 use Rattle.oai_xml.specs.Trees.{Attribute, Tree}
-use Rattle.oai_answers.specs.Answers.{Answer, Attributes, Continuation, Description, Document, Page, arguments_told, completes, fails, gives_record, identifies, lists_formats, lists_headers, lists_records, lists_sets, remains, whole}
+use Rattle.oai_answers.specs.Answers.{Attributes, Continuation, Description, Document, Page, VerbAnswer, arguments_told, completes, fails, gives_record, identifies, lists_formats, lists_headers, lists_records, lists_sets, remains, whole}
 use Rattle.oai_answers.specs.Documents.{code_of, deleted_text, granularity_text, message_of}
 use Rattle.oai_answers.specs.declared.errors.ErrorCode.{ErrorCode}
 use Rattle.oai_answers.specs.declared.tokens.Extent.{Extent}
-use Rattle.oai_documents.specs.Elements.{attribute, bare_leaf, bare_parent, leaf, parent}
+use Rattle.oai_documents.specs.Elements.{bare_leaf, bare_parent, element_attribute, leaf, parent}
 
 -- ---- the request. Section 3.2
 
 -- an argument, if it was given
-abbrev pub given : List ℕ → Option (List ℕ) → List Attribute
-given name None = []
-given name (Some value) = attribute name value ∷ []
+abbrev pub argument_attribute : List ℕ → Option (List ℕ) → List Attribute
+argument_attribute name None = []
+argument_attribute name (Some value) = element_attribute name value ∷ []
 
 -- the arguments in their order
 unfoldable pub arguments : Attributes → List Attribute
 arguments asked =
-    given (codes "verb") asked.verb
-    ++ (given (codes "identifier") asked.identifier
-    ++ (given (codes "metadataPrefix") asked.prefix
-    ++ (given (codes "from") asked.from
-    ++ (given (codes "until") asked.until
-    ++ (given (codes "set") asked.set
-    ++ given (codes "resumptionToken") asked.token)))))
+    argument_attribute (codes "verb") asked.verb
+    ++ (argument_attribute (codes "identifier") asked.identifier
+    ++ (argument_attribute (codes "metadataPrefix") asked.prefix
+    ++ (argument_attribute (codes "from") asked.from
+    ++ (argument_attribute (codes "until") asked.until
+    ++ (argument_attribute (codes "set") asked.set
+    ++ argument_attribute (codes "resumptionToken") asked.token)))))
 
 -- the request: its arguments as attributes, and the base URL
 unfoldable pub request_tree : Document → Tree
@@ -41,7 +41,7 @@ request_tree d = leaf (codes "request") (arguments (arguments_told d.answer d.as
 
 unfoldable pub error_tree : ErrorCode → Tree
 error_tree code =
-    leaf (codes "error") (attribute (codes "code") (code_of code) ∷ []) (message_of code)
+    leaf (codes "error") (element_attribute (codes "code") (code_of code) ∷ []) (message_of code)
 
 -- ---- Identify. Section 4.2
 
@@ -87,10 +87,10 @@ field_tree qualifier field = bare_leaf (qualifier ++ field.name) field.text
 
 unfoldable pub dublin_core_attributes : List Attribute
 dublin_core_attributes =
-    attribute (codes "xmlns:oai_dc") (codes "http://www.openarchives.org/OAI/2.0/oai_dc/")
-    ∷ attribute (codes "xmlns:dc") (codes "http://purl.org/dc/elements/1.1/")
-    ∷ attribute (codes "xmlns:xsi") instance_namespace
-    ∷ attribute (codes "xsi:schemaLocation") (codes "http://www.openarchives.org/OAI/2.0/oai_dc/ http://www.openarchives.org/OAI/2.0/oai_dc.xsd")
+    element_attribute (codes "xmlns:oai_dc") (codes "http://www.openarchives.org/OAI/2.0/oai_dc/")
+    ∷ element_attribute (codes "xmlns:dc") (codes "http://purl.org/dc/elements/1.1/")
+    ∷ element_attribute (codes "xmlns:xsi") instance_namespace
+    ∷ element_attribute (codes "xsi:schemaLocation") (codes "http://www.openarchives.org/OAI/2.0/oai_dc/ http://www.openarchives.org/OAI/2.0/oai_dc.xsd")
     ∷ []
 
 -- unqualified Dublin Core (the OAI's guidelines for repository implementers, oai_dc)
@@ -101,9 +101,9 @@ dublin_core_tree fields =
 -- the namespaces of a declared format, of which its own is the default one, and its schema
 unfoldable pub declared_attributes : Format → List Attribute
 declared_attributes format =
-    attribute (codes "xmlns") format.namespace
-    ∷ attribute (codes "xmlns:xsi") instance_namespace
-    ∷ attribute (codes "xsi:schemaLocation") (format.namespace ++ codes " " ++ format.schema)
+    element_attribute (codes "xmlns") format.namespace
+    ∷ element_attribute (codes "xmlns:xsi") instance_namespace
+    ∷ element_attribute (codes "xsi:schemaLocation") (format.namespace ++ codes " " ++ format.schema)
     ∷ []
 
 unfoldable pub declared_tree : Format → List Field → Tree
@@ -121,7 +121,7 @@ metadata_tree format fields =
 -- the status of a deleted record
 abbrev pub status : Bool → List Attribute
 status true = []
-status false = attribute (codes "status") (codes "deleted") ∷ []
+status false = element_attribute (codes "status") (codes "deleted") ∷ []
 
 unfoldable pub header_tree : Granularity → ItemState → Tree
 header_tree granularity item = parent (codes "header") (status item.live)
@@ -145,15 +145,15 @@ record_tree granularity format item =
 
 unfoldable pub extent : Extent → List Attribute
 extent e =
-    attribute (codes "completeListSize") (decimal e.size)
-    ∷ attribute (codes "cursor") (decimal e.cursor)
+    element_attribute (codes "completeListSize") (decimal e.size)
+    ∷ element_attribute (codes "cursor") (decimal e.cursor)
     ∷ []
 
 -- the resumption token: none where the list is whole, the empty one where it ends here
 unfoldable pub token_trees : Continuation → List Tree
 token_trees whole = []
 token_trees (remains expires part token) = leaf (codes "resumptionToken")
-    (attribute (codes "expirationDate") (second_text expires) ∷ extent part) token ∷ []
+    (element_attribute (codes "expirationDate") (second_text expires) ∷ extent part) token ∷ []
 token_trees (completes part) = leaf (codes "resumptionToken") (extent part) [] ∷ []
 
 unfoldable pub headers_tree : Page → Tree
@@ -166,7 +166,7 @@ records_tree format page = bare_parent (codes "ListRecords")
 
 -- ---- the document. Section 3.2
 
-unfoldable pub answer_tree : List ℕ → Answer → Tree
+unfoldable pub answer_tree : List ℕ → VerbAnswer → Tree
 answer_tree base (fails code) = error_tree code
 answer_tree base (identifies d) = identify_tree base d
 answer_tree base (lists_formats formats) = formats_tree formats
@@ -179,9 +179,9 @@ answer_tree base (lists_records format page) = records_tree format page
 -- the namespace of OAI-PMH, and the location of its schema
 unfoldable pub root_attributes : List Attribute
 root_attributes =
-    attribute (codes "xmlns") (codes "http://www.openarchives.org/OAI/2.0/")
-    ∷ attribute (codes "xmlns:xsi") instance_namespace
-    ∷ attribute (codes "xsi:schemaLocation") (codes "http://www.openarchives.org/OAI/2.0/ http://www.openarchives.org/OAI/2.0/OAI-PMH.xsd")
+    element_attribute (codes "xmlns") (codes "http://www.openarchives.org/OAI/2.0/")
+    ∷ element_attribute (codes "xmlns:xsi") instance_namespace
+    ∷ element_attribute (codes "xsi:schemaLocation") (codes "http://www.openarchives.org/OAI/2.0/ http://www.openarchives.org/OAI/2.0/OAI-PMH.xsd")
     ∷ []
 
 unfoldable pub document_tree : Document → Tree

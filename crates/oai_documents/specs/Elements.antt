@@ -2,8 +2,8 @@
 use Rattle.std.specs.Prelude.{ℕ, List, [], ◌∷◌}
 use Rattle.oai_xml.specs.Trees.{Attribute, Content, Tree, nothing, element, text_of}
 
-abbrev pub attribute : List ℕ → List ℕ → Attribute
-attribute name value = record { name = name; value = value }
+abbrev pub element_attribute : List ℕ → List ℕ → Attribute
+element_attribute name value = record { name = name; value = value }
 
 -- elements, in this order, and nothing else
 unfoldable pub in_order : List Tree → Content

@@ -9,7 +9,7 @@ use Rattle.oai_names.specs.Names.{is_among}
 use Rattle.oai_xml.specs.Roots.{root_of}
 use Rattle.oai_xml.specs.Trees.{Tree, text_of}
 use Rattle.oai_xml.specs.Whole.{names_of}
-use Rattle.oai_documents.specs.Elements.{attribute, in_order}
+use Rattle.oai_documents.specs.Elements.{element_attribute, in_order}
 
 -- ---- particles: which elements stand one behind the other. XML Schema Part 1, sections 3.8 and 3.9
 
@@ -54,8 +54,8 @@ pub record IsSimple (name : List ℕ) (allowed : List (List ℕ)) (passes : List
 abbrev pub any_text : List ℕ → Bool
 any_text text = true
 
-abbrev pub IsText : List ℕ → Tree → Type 0
-IsText name t = IsSimple name [] any_text t
+abbrev pub IsTextElement : List ℕ → Tree → Type 0
+IsTextElement name t = IsSimple name [] any_text t
 
 abbrev pub IsOneOf : List ℕ → List (List ℕ) → Tree → Type 0
 IsOneOf name values t = IsSimple name [] (is_among values) t
@@ -73,7 +73,7 @@ IsForeign t = (bytes_eq (root_of t).namespace oai_namespace || bytes_eq (root_of
 -- headerType
 abbrev pub IsHeader : Tree → Type 0
 IsHeader t = IsComplex (codes "header") (codes "status" ∷ [])
-    (One (IsText (codes "identifier")) ⨾ One (IsText (codes "datestamp")) ⨾ Any (IsText (codes "setSpec"))) t
+    (One (IsTextElement (codes "identifier")) ⨾ One (IsTextElement (codes "datestamp")) ⨾ Any (IsTextElement (codes "setSpec"))) t
 
 -- metadataType and aboutType
 abbrev pub IsContainer : List ℕ → Tree → Type 0
@@ -85,15 +85,15 @@ IsRecord t = IsComplex (codes "record") []
     (One IsHeader ⨾ Optional (IsContainer (codes "metadata")) ⨾ Any (IsContainer (codes "about"))) t
 
 -- resumptionTokenType
-abbrev pub IsToken : Tree → Type 0
-IsToken t = IsSimple (codes "resumptionToken")
+abbrev pub IsTokenElement : Tree → Type 0
+IsTokenElement t = IsSimple (codes "resumptionToken")
     (codes "expirationDate" ∷ codes "completeListSize" ∷ codes "cursor" ∷ []) any_text t
 
 -- ---- the request and errors. Sections 3.2 and 3.6
 
 -- requestType
-abbrev pub IsRequest : Tree → Type 0
-IsRequest t = IsSimple (codes "request")
+abbrev pub IsRequestElement : Tree → Type 0
+IsRequestElement t = IsSimple (codes "request")
     (codes "verb" ∷ codes "identifier" ∷ codes "metadataPrefix" ∷ codes "from" ∷ codes "until"
     ∷ codes "set" ∷ codes "resumptionToken" ∷ []) any_text t
 
@@ -107,59 +107,59 @@ error_codes =
 -- OAI-PMHerrorType: the code has to be there
 pub record IsError (t : Tree) : Type 0 where
   pub simple : IsSimple (codes "error") (codes "code" ∷ []) any_text t
-  pub code : (code : List ℕ) × (t.attributes ≡ attribute (codes "code") code ∷ []) × (is_among error_codes code ≡ true)
+  pub code : (code : List ℕ) × (t.attributes ≡ element_attribute (codes "code") code ∷ []) × (is_among error_codes code ≡ true)
 
 -- ---- what the verbs ask for. Section 4
 
 -- IdentifyType
 abbrev pub IsIdentify : Tree → Type 0
 IsIdentify t = IsComplex (codes "Identify") []
-    (One (IsText (codes "repositoryName"))
-    ⨾ One (IsText (codes "baseURL"))
+    (One (IsTextElement (codes "repositoryName"))
+    ⨾ One (IsTextElement (codes "baseURL"))
     ⨾ One (IsOneOf (codes "protocolVersion") (codes "2.0" ∷ []))
-    ⨾ Several (IsText (codes "adminEmail"))
-    ⨾ One (IsText (codes "earliestDatestamp"))
+    ⨾ Several (IsTextElement (codes "adminEmail"))
+    ⨾ One (IsTextElement (codes "earliestDatestamp"))
     ⨾ One (IsOneOf (codes "deletedRecord") (codes "no" ∷ codes "persistent" ∷ codes "transient" ∷ []))
     ⨾ One (IsOneOf (codes "granularity") (codes "YYYY-MM-DD" ∷ codes "YYYY-MM-DDThh:mm:ssZ" ∷ []))
-    ⨾ Any (IsText (codes "compression"))
+    ⨾ Any (IsTextElement (codes "compression"))
     ⨾ Any (IsContainer (codes "description"))) t
 
 -- metadataFormatType, in ListMetadataFormatsType
-abbrev pub IsFormat : Tree → Type 0
-IsFormat t = IsComplex (codes "metadataFormat") []
-    (One (IsText (codes "metadataPrefix")) ⨾ One (IsText (codes "schema")) ⨾ One (IsText (codes "metadataNamespace"))) t
+abbrev pub IsFormatElement : Tree → Type 0
+IsFormatElement t = IsComplex (codes "metadataFormat") []
+    (One (IsTextElement (codes "metadataPrefix")) ⨾ One (IsTextElement (codes "schema")) ⨾ One (IsTextElement (codes "metadataNamespace"))) t
 
 abbrev pub IsFormats : Tree → Type 0
-IsFormats t = IsComplex (codes "ListMetadataFormats") [] (Several IsFormat) t
+IsFormats t = IsComplex (codes "ListMetadataFormats") [] (Several IsFormatElement) t
 
 -- setType, in ListSetsType
 abbrev pub IsSet : Tree → Type 0
 IsSet t = IsComplex (codes "set") []
-    (One (IsText (codes "setSpec")) ⨾ One (IsText (codes "setName")) ⨾ Any (IsContainer (codes "setDescription"))) t
+    (One (IsTextElement (codes "setSpec")) ⨾ One (IsTextElement (codes "setName")) ⨾ Any (IsContainer (codes "setDescription"))) t
 
 abbrev pub IsSets : Tree → Type 0
-IsSets t = IsComplex (codes "ListSets") [] (Several IsSet ⨾ Optional IsToken) t
+IsSets t = IsComplex (codes "ListSets") [] (Several IsSet ⨾ Optional IsTokenElement) t
 
 -- GetRecordType, ListIdentifiersType and ListRecordsType
-abbrev pub IsGetRecord : Tree → Type 0
-IsGetRecord t = IsComplex (codes "GetRecord") [] (One IsRecord) t
+abbrev pub IsGetRecordElement : Tree → Type 0
+IsGetRecordElement t = IsComplex (codes "GetRecord") [] (One IsRecord) t
 
 abbrev pub IsHeaders : Tree → Type 0
-IsHeaders t = IsComplex (codes "ListIdentifiers") [] (Several IsHeader ⨾ Optional IsToken) t
+IsHeaders t = IsComplex (codes "ListIdentifiers") [] (Several IsHeader ⨾ Optional IsTokenElement) t
 
 abbrev pub IsRecords : Tree → Type 0
-IsRecords t = IsComplex (codes "ListRecords") [] (Several IsRecord ⨾ Optional IsToken) t
+IsRecords t = IsComplex (codes "ListRecords") [] (Several IsRecord ⨾ Optional IsTokenElement) t
 
 -- ---- the document. Section 3.2
 
 -- errors, or what one verb asks for
-abbrev pub IsAnswered : List Tree → Type 0
-IsAnswered trees =
+abbrev pub AreAnswerElements : List Tree → Type 0
+AreAnswerElements trees =
     Several IsError trees
     ⊎ (One IsIdentify trees
     ⊎ (One IsFormats trees
     ⊎ (One IsSets trees
-    ⊎ (One IsGetRecord trees
+    ⊎ (One IsGetRecordElement trees
     ⊎ (One IsHeaders trees
     ⊎ One IsRecords trees)))))
 
@@ -167,4 +167,4 @@ IsAnswered trees =
 -- 3.4); of this schema's elements, the root alone has some
 abbrev pub IsOfSchema : Tree → Type 0
 IsOfSchema t = IsComplex (codes "OAI-PMH") (codes "xmlns" ∷ codes "xmlns:xsi" ∷ codes "xsi:schemaLocation" ∷ [])
-    (One (IsText (codes "responseDate")) ⨾ One IsRequest ⨾ IsAnswered) t
+    (One (IsTextElement (codes "responseDate")) ⨾ One IsRequestElement ⨾ AreAnswerElements) t

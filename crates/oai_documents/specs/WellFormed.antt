@@ -1,7 +1,7 @@
 -- What the laws of documents ask of an answer, besides the rules of formats.
 use Rattle.std.specs.Prelude.{◌≡◌, ℕ, Bool, true, ◌||◌, not, List, [], ◌∷◌}
 use Rattle.std.specs.Str.{bytes_eq}
-use Rattle.oai_answers.specs.Answers.{Answer, fails, gives_record, identifies, lists_formats, lists_headers, lists_records, lists_sets}
+use Rattle.oai_answers.specs.Answers.{VerbAnswer, fails, gives_record, identifies, lists_formats, lists_headers, lists_records, lists_sets}
 use Rattle.oai_xml.specs.Namespaces.{xml_namespace, xmlns_namespace}
 use Rattle.oai_documents.specs.Schema.{oai_namespace}
 
@@ -17,7 +17,7 @@ abbrev pub is_foreign : List ℕ → Bool
 is_foreign namespace = not (bytes_eq namespace oai_namespace)
 
 -- the format of the records in an answer has a namespace that passes the test
-abbrev pub HasNamespace : (List ℕ → Bool) → Answer → Type 0
+abbrev pub HasNamespace : (List ℕ → Bool) → VerbAnswer → Type 0
 HasNamespace passes (fails code) = Unit {0}
 HasNamespace passes (identifies d) = Unit {0}
 HasNamespace passes (lists_formats formats) = Unit {0}
@@ -34,7 +34,7 @@ HasMembers [] = ⊥
 HasMembers (x ∷ xs) = Unit {0}
 
 -- each list of the answer has: where it would not, the protocol has an error in its place (OAI-PMH 2.0, section 3.6)
-abbrev pub IsFilled : Answer → Type 0
+abbrev pub IsFilled : VerbAnswer → Type 0
 IsFilled (fails code) = Unit {0}
 IsFilled (identifies d) = HasMembers d.addresses
 IsFilled (lists_formats formats) = HasMembers formats

@@ -8,7 +8,7 @@ ghost use Rattle.oai_xml.specs.Trees.{spelled};
 ghost use Rattle.oai_xml.specs.Whole.{is_whole};
 ghost use Rattle.oai_time.specs.declared.granularity.Granularity.{Granularity};
 ghost use Rattle.oai_deposit.specs.Lines.{line_of};
-ghost use Rattle.oai_settings.specs.Config.{Config, IsConfig};
+ghost use Rattle.oai_settings.specs.Config.{IsConfig, RepositoryConfig};
 ghost use Rattle.oai_repo.specs.Machine.{command_of, line, query};
 ghost use Rattle.oai_laws.specs.Shown.{IsSomeAnswer};
 ghost use Rattle.oai_documents.specs.Answering.{have_namespaces};
@@ -67,11 +67,11 @@ pub fn commands_law()
 /// its tree (`read`). The premises are on the namespaces of the formats: none is that of `xml` or `xmlns`; and for the
 /// schema, none is that of OAI-PMH. A theorem, proved by an empty function.
 pub fn answers_law()
-    ensures whole { (config : Config) (d : Document) → IsConfig config → IsSomeAnswer config d
+    ensures whole { (config : RepositoryConfig) (d : Document) → IsConfig config → IsSomeAnswer config d
         → have_namespaces may_be_default config ≡ true → is_whole (document_tree d) ≡ true }
-    ensures schema { (config : Config) (d : Document) → IsConfig config → IsSomeAnswer config d
+    ensures schema { (config : RepositoryConfig) (d : Document) → IsConfig config → IsSomeAnswer config d
         → have_namespaces is_foreign config ≡ true → IsOfSchema (document_tree d) }
-    ensures read { (config : Config) (d : Document) (rules : IsConfig config) (some : IsSomeAnswer config d)
+    ensures read { (config : RepositoryConfig) (d : Document) (rules : IsConfig config) (some : IsSomeAnswer config d)
         → have_namespaces may_be_default config ≡ true → is_legal_config config ≡ true
         → are_legal_commands some.commands ≡ true
         → (is_legal_text (document d) ≡ true) × (tree_in (document d) ≡ Some (document_tree d)) }

@@ -3,13 +3,13 @@ use Rattle.std.proofs.Common.{◌≡◌, ◌∙◌, ◌≤◌, inl, inr, ℕ, �
 use Rattle.std.proofs.lemmas.List.{append-nil}
 use Rattle.oai_item.specs.declared.faults.Fault.TheVariants.{NoMemory}
 use Rattle.oai_http.specs.Exchanges.{Asked, call_at}
-use Rattle.oai_http.specs.Redone.{left_again}
+use Rattle.oai_replay.specs.Redone.{left_again}
 use Rattle.oai_http.specs.declared.exchanges.Answer.{Answer}
-use Rattle.oai_http.specs.declared.handlers.Performed.{Performed}
+use Rattle.oai_replay.specs.declared.replays.Performed.{Performed}
 use Rattle.oai_journal.specs.Records.{Entry}
 use Rattle.oai_journal.specs.declared.journals.Journal as journal
-use Rattle.oai_durable.specs.Journaled.{IsExchange, Parts, Replaying, refused}
-use Rattle.oai_durable.specs.Records.{entries_of, redone_all}
+use Rattle.oai_durable.specs.Journaled.{IsExchange, Parts, Replaying, unperformed_answer}
+use Rattle.oai_durable.specs.Records.{log_entries_of, redone_all}
 use Rattle.oai_durable.proofs.RecordLemmas.{left_redone, redone_append}
 
 none_is_some : {P : Type 0} {A : Type 0} (x : A) → Some x ≡ None → P
@@ -17,7 +17,7 @@ none_is_some x is = cc
 
 -- a message that was refused before it was performed
 pub refused_kept : {H J : Type 0} (h : Replaying H) (j : journal.Ghosts J) (before : Parts H J) (moment : ℤ) (asked : Asked) (answer : Answer) (after : J)
-    → answer ≡ refused asked.target
+    → answer ≡ unperformed_answer asked.target
     → ((entries : List Entry) (durable : ℕ) → j.holds before.journal entries durable → j.holds after entries durable)
     → IsExchange h j before moment asked answer (record { handler = before.handler; journal = after })
 refused_kept h j before moment asked answer after told same =
@@ -41,13 +41,13 @@ pub performed_kept : {H J : Type 0} (h : Replaying H) (j : journal.Ghosts J) (be
     → (IsTrue (h.is_honest before.handler) → answer.fault ≡ None → h.kept after.handler ≡ h.leaving.redone (h.kept before.handler) (call_at moment asked))
     → (IsTrue (h.is_honest before.handler) → answer.fault ≡ None → answer ≡ h.reply (h.kept before.handler) (call_at moment asked))
     → h.is_honest after.handler ≡ h.is_honest before.handler
-    → ((entries : List Entry) (durable : ℕ) → j.holds before.journal entries durable → j.holds after.journal (entries ++ entries_of moment performed) durable)
+    → ((entries : List Entry) (durable : ℕ) → j.holds before.journal entries durable → j.holds after.journal (entries ++ log_entries_of moment performed) durable)
     → IsExchange h j before moment asked answer after
 performed_kept h j before moment asked answer performed after step left whole reply honesty holds = record {
   tried = inl step;
   honesty = honesty;
   kept = λ begun entries durable held.
-      let own : List Entry = entries_of moment performed in
+      let own : List Entry = log_entries_of moment performed in
       let is : IsTrue (h.is_honest before.handler) → h.kept after.handler ≡ redone_all h.leaving begun (entries ++ own) = λ honest.
       left honest ∙ left_redone h.leaving (h.kept before.handler) moment performed
       ∙ ap (λ (k : h.Kept). redone_all h.leaving k own) (held.kept honest) ∙ sym (redone_append h.leaving begun entries own) in
@@ -59,6 +59,6 @@ performed_kept h j before moment asked answer performed after step left whole re
         left = λ honest none. sym (is honest) ∙ whole honest none ∙ ap (λ (k : h.Kept). h.leaving.redone k (call_at moment asked)) (held.kept honest);
       };
 } where
-  few : (moment : ℤ) (p : Option Performed) → length (entries_of moment p) ≤ 1
+  few : (moment : ℤ) (p : Option Performed) → length (log_entries_of moment p) ≤ 1
   few moment None = grind (arith)
   few moment (Some p) = grind (arith)

@@ -9,7 +9,7 @@ use Rattle.oai_journal.specs.Recoveries.{IsDamagedAt}
 use Rattle.oai_journal.specs.declared.recovery.Recovery.{Recovery}
 use Rattle.oai_journal.specs.declared.recovery.RecoveryFault.{RecoveryFault}
 use Rattle.oai_journal.specs.declared.recovery.RecoveryFault.TheVariants.{Damaged, Stopped}
-use Rattle.oai_durable.specs.Records.{Leaving, left_by}
+use Rattle.oai_durable.specs.Records.{Leaving, left_by_entry}
 use Rattle.oai_durable.specs.Recovered.{HasRedone, TellsDamage, is_of_journal}
 use Rattle.oai_durable.specs.declared.recovery.RecoverFault.{RecoverFault}
 use Rattle.oai_durable.specs.declared.recovery.RecoverFault.TheVariants.{Journal, Kind, Performing}
@@ -19,14 +19,14 @@ pub next_redone : {H K D : Type 0} (kept : H → K) (is_honest : H → Bool) (le
     (begun : K) (old new : H) (before after : Recovery D) (first : Entry) (entries : List Entry) (e : Entry)
     → HasRedone kept is_honest leaving seen may_leave begun old before first entries
     → HasRecovered seen may_leave after first (entries ++ e ∷ [])
-    → (IsTrue (is_honest old) → kept new ≡ left_by leaving (kept old) e)
+    → (IsTrue (is_honest old) → kept new ≡ left_by_entry leaving (kept old) e)
     → is_honest new ≡ is_honest old
     → HasRedone kept is_honest leaving seen may_leave begun new after first (entries ++ e ∷ [])
 next_redone kept is_honest leaving seen may_leave begun old new before after first entries e had read does same = record {
   read = read;
   so = λ honest.
       let was : IsTrue (is_honest old) = sym same ∙ honest in
-      does was ∙ ap (λ k. left_by leaving k e) (had.so was) ∙ sym (redone_append leaving begun entries (e ∷ []));
+      does was ∙ ap (λ k. left_by_entry leaving k e) (had.so was) ∙ sym (redone_append leaving begun entries (e ∷ []));
 }
 
 pub one_more : {A : Type 0} (n : ℕ) (items : List A) (x : A) → length items ≡ n → length (items ++ x ∷ []) ≡ n + 1

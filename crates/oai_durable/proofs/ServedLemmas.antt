@@ -14,7 +14,7 @@ use Rattle.oai_serving.specs.Rounds.{AreSettled, IsRoundSettled, IsService, Worl
 use Rattle.oai_serving.specs.declared.faults.ServeFault.{ServeFault}
 use Rattle.oai_serving.specs.declared.faults.ServeFault.TheVariants.{Clock, Unsettled, Wait}
 use Rattle.oai_durable.specs.Journaled.{IsExchange, IsHeld, IsSettled, Parts, Replaying}
-use Rattle.oai_durable.specs.Lives.{Exchanged, HavePlaces, records_in}
+use Rattle.oai_durable.specs.Lives.{Exchanged, HavePlaces, records_of_exchanges}
 use Rattle.oai_durable.specs.Records.{Leaving}
 use Rattle.oai_durable.specs.Served.{AreThose, EndsAs, IsLived, IsRemembered, LivesAs, told_by, told_to}
 
@@ -23,7 +23,7 @@ pub record Goes {H J : Type 0} (h : Replaying H) (j : journal.Ghosts J) (begun :
   pub exchanges : List Exchanged
   pub those : AreThose exchanges served
   pub places : HavePlaces h.leaving h.reply begun before exchanges
-  pub held : IsHeld h j begun new (before ++ records_in exchanges) durable
+  pub held : IsHeld h j begun new (before ++ records_of_exchanges exchanges) durable
   pub honest : IsTrue (h.is_honest new.handler)
 
 pub goes_none : {H J : Type 0} (h : Replaying H) (j : journal.Ghosts J) (begun : h.Kept) (before : List Entry) (durable : ℕ) (old : Parts H J)
@@ -33,18 +33,18 @@ goes_none h j begun before durable old held honest = record { exchanges = []; th
 -- ---- exchanges that follow others
 
 pub places_append : {K : Type 0} (leaving : Leaving K) (reply : K → Call → Answer) (begun : K) (before : List Entry) (es others : List Exchanged)
-    → HavePlaces leaving reply begun before es → HavePlaces leaving reply begun (before ++ records_in es) others → HavePlaces leaving reply begun before (es ++ others)
+    → HavePlaces leaving reply begun before es → HavePlaces leaving reply begun (before ++ records_of_exchanges es) others → HavePlaces leaving reply begun before (es ++ others)
 places_append leaving reply begun before [] others first then = rw (append-nil before) at then
 places_append leaving reply begun before (e ∷ es) others first then =
-    (first.0, places_append leaving reply begun (before ++ e.own) es others first.1 (rw (append_assoc before e.own (records_in es)) then))
+    (first.0, places_append leaving reply begun (before ++ e.own) es others first.1 (rw (append_assoc before e.own (records_of_exchanges es)) then))
 
 pub goes_then : {H J : Type 0} (h : Replaying H) (j : journal.Ghosts J) (begun : h.Kept) (before : List Entry) (durable then : ℕ) (served others : List Served) (mid new : Parts H J)
-    (first : Goes h j begun before durable served mid) → Goes h j begun (before ++ records_in first.exchanges) then others new
+    (first : Goes h j begun before durable served mid) → Goes h j begun (before ++ records_of_exchanges first.exchanges) then others new
     → Goes h j begun before then (served ++ others) new
 goes_then h j begun before durable then served others mid new first more =
     let es : List Exchanged = first.exchanges in
-    let joined : before ++ records_in (es ++ more.exchanges) ≡ (before ++ records_in es) ++ records_in more.exchanges =
-    ap (λ (rs : List Entry). before ++ rs) (flat_map-append (λ (e : Exchanged). e.own) es more.exchanges) ∙ sym (append_assoc before (records_in es) (records_in more.exchanges)) in
+    let joined : before ++ records_of_exchanges (es ++ more.exchanges) ≡ (before ++ records_of_exchanges es) ++ records_of_exchanges more.exchanges =
+    ap (λ (rs : List Entry). before ++ rs) (flat_map-append (λ (e : Exchanged). e.own) es more.exchanges) ∙ sym (append_assoc before (records_of_exchanges es) (records_of_exchanges more.exchanges)) in
     record {
       exchanges = es ++ more.exchanges;
       those = map-append told_by es more.exchanges ∙ ap (λ xs. xs ++ map told_by more.exchanges) first.those ∙ ap (λ xs. map told_to served ++ xs) more.those ∙ sym (map-append told_to served others);
@@ -74,7 +74,7 @@ goes_all h j begun before durable [] old new held honest serves = rw serves (goe
 goes_all h j begun before durable (s ∷ served) old new held honest serves =
     let first = goes_one h j begun before durable s old serves.0 held honest serves.1 in
     goes_then h j begun before durable durable (s ∷ []) served serves.0 new first
-    (goes_all h j begun (before ++ records_in first.exchanges) durable served serves.0 new first.held first.honest serves.2)
+    (goes_all h j begun (before ++ records_of_exchanges first.exchanges) durable served serves.0 new first.held first.honest serves.2)
 
 -- ---- rounds, and the end
 
@@ -88,13 +88,13 @@ left_as : (n m : ℕ) (entries others found : List Entry) → n ≡ m → entrie
 left_as n m entries others found same joined left = rw same at (rw joined at left)
 
 pub goes_settled : {H J : Type 0} (h : Replaying H) (j : journal.Ghosts J) (begun : h.Kept) (before : List Entry) (durable : ℕ) (served : List Served) (mid new : Parts H J)
-    (first : Goes h j begun before durable served mid) → IsSettled j mid (Ok tt) new → Goes h j begun before (length (before ++ records_in first.exchanges)) served new
+    (first : Goes h j begun before durable served mid) → IsSettled j mid (Ok tt) new → Goes h j begun before (length (before ++ records_of_exchanges first.exchanges)) served new
 goes_settled h j begun before durable served mid new first settles = record {
   exchanges = first.exchanges;
   those = first.those;
   places = first.places;
   held = record {
-    records = settles.ok (before ++ records_in first.exchanges) durable first.held.records;
+    records = settles.ok (before ++ records_of_exchanges first.exchanges) durable first.held.records;
     kept = λ honest. ap h.kept settles.handler ∙ first.held.kept (sym (ap h.is_honest settles.handler) ∙ honest);
   };
   honest = ap h.is_honest settles.handler ∙ first.honest;
@@ -104,7 +104,7 @@ goes_settled h j begun before durable served mid new first settles = record {
 pub record GoesRounds {H J : Type 0} (h : Replaying H) (j : journal.Ghosts J) (begun : h.Kept) (before : List Entry) (served : List Served) (new : Parts H J) : Type 0 where
   pub durable : ℕ
   pub goes : Goes h j begun before durable served new
-  pub all : durable ≡ length (before ++ records_in goes.exchanges)
+  pub all : durable ≡ length (before ++ records_of_exchanges goes.exchanges)
 
 pub goes_rounds : {H J : Type 0} (h : Replaying H) (j : journal.Ghosts J) (begun : h.Kept) (before : List Entry) (rounds : List (List Served)) (old new : Parts H J)
     → IsHeld h j begun old before (length before) → IsTrue (h.is_honest old.handler) → AreSettled (IsExchange h j) (IsSettled j) rounds old new
@@ -116,13 +116,13 @@ goes_rounds {H} {J} h j begun before (served ∷ rounds) old new held honest set
     let mid : Parts H J = settles.0 in
     let round = settles.1 in
     let first = goes_settled h j begun before (length before) served round.0 mid (goes_all h j begun before (length before) served old round.0 held honest round.1) round.2 in
-    let more = goes_rounds h j begun (before ++ records_in first.exchanges) rounds mid new first.held first.honest settles.2 in
-    let joined : (before ++ records_in first.exchanges) ++ records_in more.goes.exchanges ≡ before ++ records_in (first.exchanges ++ more.goes.exchanges) =
-    append_assoc before (records_in first.exchanges) (records_in more.goes.exchanges)
+    let more = goes_rounds h j begun (before ++ records_of_exchanges first.exchanges) rounds mid new first.held first.honest settles.2 in
+    let joined : (before ++ records_of_exchanges first.exchanges) ++ records_of_exchanges more.goes.exchanges ≡ before ++ records_of_exchanges (first.exchanges ++ more.goes.exchanges) =
+    append_assoc before (records_of_exchanges first.exchanges) (records_of_exchanges more.goes.exchanges)
     ∙ sym (ap (λ (rs : List Entry). before ++ rs) (flat_map-append (λ (e : Exchanged). e.own) first.exchanges more.goes.exchanges)) in
     record {
       durable = more.durable;
-      goes = goes_then h j begun before (length (before ++ records_in first.exchanges)) more.durable served (served_in rounds) mid new first more.goes;
+      goes = goes_then h j begun before (length (before ++ records_of_exchanges first.exchanges)) more.durable served (served_in rounds) mid new first more.goes;
       all = more.all ∙ ap length joined;
     }
 
@@ -144,12 +144,12 @@ pub lives_as : {H J : Type 0} (h : Replaying H) (j : journal.Ghosts J)
 lives_as h j law begun found first rounds held left lived =
     let before = goes_rounds h j begun found rounds first lived.settled lived.begins lived.honest lived.settles in
     let es : List Exchanged = before.goes.exchanges in
-    let behind = goes_all h j begun (found ++ records_in es) before.durable held lived.settled lived.performed before.goes.held before.goes.honest lived.serves in
-    let entries : List Entry = (found ++ records_in es) ++ records_in behind.exchanges in
-    let few : before.durable ≤ length entries = few_of before.durable (found ++ records_in es) (records_in behind.exchanges) before.all in
+    let behind = goes_all h j begun (found ++ records_of_exchanges es) before.durable held lived.settled lived.performed before.goes.held before.goes.honest lived.serves in
+    let entries : List Entry = (found ++ records_of_exchanges es) ++ records_of_exchanges behind.exchanges in
+    let few : before.durable ≤ length entries = few_of before.durable (found ++ records_of_exchanges es) (records_of_exchanges behind.exchanges) before.all in
     let ended = ends_held j entries before.durable lived.performed lived.last few behind.held.records lived.ends in
-    let joined : entries ≡ found ++ records_in (es ++ behind.exchanges) =
-    append_assoc found (records_in es) (records_in behind.exchanges)
+    let joined : entries ≡ found ++ records_of_exchanges (es ++ behind.exchanges) =
+    append_assoc found (records_of_exchanges es) (records_of_exchanges behind.exchanges)
     ∙ sym (ap (λ (rs : List Entry). found ++ rs) (flat_map-append (λ (e : Exchanged). e.own) es behind.exchanges)) in
     let is = left_less before.durable ended.0 entries left ended.1 (law lived.last.journal entries ended.0 left ended.2 lived.leaves) in
     record {
@@ -158,7 +158,7 @@ lives_as h j law begun found first rounds held left lived =
       others = behind.those;
       is = record {
         places = places_append h.leaving h.reply begun found es behind.exchanges before.goes.places behind.places;
-        leaves = left_as before.durable (length (found ++ records_in es)) entries (found ++ records_in (es ++ behind.exchanges)) left before.all joined is;
+        leaves = left_as before.durable (length (found ++ records_of_exchanges es)) entries (found ++ records_of_exchanges (es ++ behind.exchanges)) left before.all joined is;
       };
     }
 

@@ -41,14 +41,14 @@ none_done (Some Requests) = None
 none_done None = None
 
 -- the answer to a message that was refused before it was performed, since no space could be reserved for its record
-abbrev pub refused : List ℕ → Answer
-refused target = failed NoMemory (none_done (endpoint_of target))
+abbrev pub unperformed_answer : List ℕ → Answer
+unperformed_answer target = failed NoMemory (none_done (endpoint_of target))
 
 -- the handler performed the message; or it was refused before it was
 abbrev pub IsTried : {H J : Type 0} → Replaying H → Parts H J → ℤ → Asked → Answer → Parts H J → Type 0
 IsTried h before moment asked answer after =
     h.step before.handler moment asked answer after.handler
-    ⊎ ((after.handler ≡ before.handler) × (answer ≡ refused asked.target))
+    ⊎ ((after.handler ≡ before.handler) × (answer ≡ unperformed_answer asked.target))
 
 -- an exchange after these records: what was performed is logged after them, at most one record, and nothing more is
 -- durable. An answer without a fault is what the records before it make of the exchange, and with its own record they

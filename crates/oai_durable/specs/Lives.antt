@@ -27,8 +27,8 @@ abbrev pub HavePlaces : {K : Type 0} → Leaving K → (K → Call → Answer) �
 HavePlaces leaving reply begun before [] = Unit {0}
 HavePlaces leaving reply begun before (e ∷ es) = HasPlace leaving reply begun before e × HavePlaces leaving reply begun (before ++ e.own) es
 
-abbrev pub records_in : List Exchanged → List Entry
-records_in exchanges = flat_map (λ (e : Exchanged). e.own) exchanges
+abbrev pub records_of_exchanges : List Exchanged → List Entry
+records_of_exchanges exchanges = flat_map (λ (e : Exchanged). e.own) exchanges
 
 -- a life: the exchanges whose answers were sent, and those after them whose answers were held back
 pub record Life : Type 0 where
@@ -39,7 +39,7 @@ pub record Life : Type 0 where
 -- answers were sent, and a prefix of the others
 pub record IsLife {K : Type 0} (leaving : Leaving K) (reply : K → Call → Answer) (begun : K) (found : List Entry) (life : Life) (left : List Entry) : Type 0 where
   pub places : HavePlaces leaving reply begun found (life.answered ++ life.held)
-  pub leaves : IsLeft (length (found ++ records_in life.answered)) (found ++ records_in (life.answered ++ life.held)) left
+  pub leaves : IsLeft (length (found ++ records_of_exchanges life.answered)) (found ++ records_of_exchanges (life.answered ++ life.held)) left
 
 -- lives, each of which finds the records that the one before it left
 abbrev pub AreLives : {K : Type 0} → Leaving K → (K → Call → Answer) → K → List Entry → List Life → List Entry → Type 0

@@ -1,12 +1,12 @@
 -- What was performed, and parts of a state, as log records; and the state after their replay. This repository's own.
 use Rattle.std.specs.Prelude.{ℕ, ℤ, max, length, List, [], ◌∷◌, Option, None, Some}
-use Rattle.oai_http.specs.Parts.{PartState}
-use Rattle.oai_http.specs.Redone.{own_call}
+use Rattle.oai_replay.specs.Parts.{PartState}
+use Rattle.oai_replay.specs.Redone.{own_call}
 use Rattle.oai_http.specs.declared.exchanges.Call.{Call}
 use Rattle.oai_http.specs.declared.exchanges.Exchange.{Exchange}
-use Rattle.oai_http.specs.declared.handlers.Performed.{Performed}
-use Rattle.oai_http.specs.declared.parts.PartKind.{PartKind}
-use Rattle.oai_http.specs.declared.parts.PartKind.TheVariants.{Begin as Begins, Item as HasItem, Set as HasSet}
+use Rattle.oai_replay.specs.declared.replays.Performed.{Performed}
+use Rattle.oai_replay.specs.declared.parts.PartKind.{PartKind}
+use Rattle.oai_replay.specs.declared.parts.PartKind.TheVariants.{Begin as Begins, Item as HasItem, Set as HasSet}
 use Rattle.oai_http.specs.declared.targets.Endpoint.{Endpoint}
 use Rattle.oai_http.specs.declared.targets.Endpoint.TheVariants.{Deposits, Requests}
 use Rattle.oai_journal.specs.Records.{Entry}
@@ -24,8 +24,8 @@ abbrev pub most_in : Exchange → ℕ
 most_in exchange = max (length exchange.target.now) (length exchange.body.now)
 
 -- what was performed at the moment, as a record
-abbrev pub entry_of : ℤ → Performed → Entry
-entry_of moment performed = record {
+abbrev pub log_entry_of : ℤ → Performed → Entry
+log_entry_of moment performed = record {
   moment = moment;
   kind = kind_of performed.endpoint performed.bytes.now;
   name = performed.name.now;
@@ -33,9 +33,9 @@ entry_of moment performed = record {
 }
 
 -- one record of what was performed, or none if nothing was
-abbrev pub entries_of : ℤ → Option Performed → List Entry
-entries_of moment None = []
-entries_of moment (Some performed) = entry_of moment performed ∷ []
+abbrev pub log_entries_of : ℤ → Option Performed → List Entry
+log_entries_of moment None = []
+log_entries_of moment (Some performed) = log_entry_of moment performed ∷ []
 
 -- what a record of a kind was performed at
 abbrev pub endpoint_of_kind : Kind → Endpoint
@@ -64,8 +64,8 @@ part_kind Item = Some HasItem
 part_kind other = None
 
 -- the part that the record holds
-abbrev pub part_in : PartKind → Entry → PartState
-part_in kind entry = record { kind = kind; moment = entry.moment; name = entry.name; bytes = entry.body }
+abbrev pub part_of_entry : PartKind → Entry → PartState
+part_of_entry kind entry = record { kind = kind; moment = entry.moment; name = entry.name; bytes = entry.body }
 
 -- the state after a call that is replayed, and after a part that is restored
 pub record Leaving (K : Type 0) : Type 0 where
@@ -74,13 +74,13 @@ pub record Leaving (K : Type 0) : Type 0 where
 
 -- the state after a record: a part is restored, and all else is a call that is replayed
 abbrev pub left_as : {K : Type 0} → Leaving K → K → Entry → Option PartKind → K
-left_as leaving kept entry (Some kind) = leaving.restored kept (part_in kind entry)
+left_as leaving kept entry (Some kind) = leaving.restored kept (part_of_entry kind entry)
 left_as leaving kept entry None = leaving.redone kept (call_in entry)
 
-abbrev pub left_by : {K : Type 0} → Leaving K → K → Entry → K
-left_by leaving kept entry = left_as leaving kept entry (part_kind entry.kind)
+abbrev pub left_by_entry : {K : Type 0} → Leaving K → K → Entry → K
+left_by_entry leaving kept entry = left_as leaving kept entry (part_kind entry.kind)
 
 -- the state after records, one after the other
 abbrev pub redone_all : {K : Type 0} → Leaving K → K → List Entry → K
 redone_all leaving kept [] = kept
-redone_all leaving kept (entry ∷ entries) = redone_all leaving (left_by leaving kept entry) entries
+redone_all leaving kept (entry ∷ entries) = redone_all leaving (left_by_entry leaving kept entry) entries

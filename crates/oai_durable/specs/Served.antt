@@ -16,15 +16,15 @@ use Rattle.oai_durable.specs.Lives.{Exchanged, IsLife, Life}
 use Rattle.oai_durable.specs.Records.{Leaving}
 
 -- what was asked at which moment, and its answer
-pub record Told : Type 0 where
+pub record TimedAnswer : Type 0 where
   pub moment : ℤ
   pub asked : Asked
   pub answer : Answer
 
-abbrev pub told_by : Exchanged → Told
+abbrev pub told_by : Exchanged → TimedAnswer
 told_by e = record { moment = e.moment; asked = e.asked; answer = e.answer }
 
-abbrev pub told_to : Served → Told
+abbrev pub told_to : Served → TimedAnswer
 told_to s = record { moment = s.moment; asked = s.done.message.asked; answer = s.done.answer }
 
 -- the exchanges are those that were served, in order

@@ -1,14 +1,14 @@
 //! Writes a handler's state into a journal part by part: a checkpoint.
 ghost use Rattle.oai_durable.specs.Checkpoints.{HasSaved, HoldsCheckpoint};
 ghost use Rattle.oai_durable.specs.Records.{entry_of_part};
-ghost use Rattle.oai_http.specs.Parts.{PartState, as_part};
+ghost use Rattle.oai_replay.specs.Parts.{PartState, as_part};
 ghost use Rattle.oai_journal.specs.Records.{Entry};
 ghost use Rattle.std.specs.Prelude.{◌≡◌, ◌++◌, ◌∷◌, [], ℕ, IfOk, IsTrue, List, OnOk, length};
 
 use crate::records::record_of_part;
-use oai_http::{Part, Replayed, SaveFault, Sink, SinkFault};
 use oai_item::Fault;
 use oai_journal::{Journal, JournalFault};
+use oai_replay::{Part, Replayed, SaveFault, Sink, SinkFault};
 use thiserror::Error;
 
 /// After that many bytes of records they are committed, which bounds the memory that they take.

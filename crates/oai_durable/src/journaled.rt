@@ -6,9 +6,10 @@ ghost use Rattle.oai_journal.specs.declared.records.TheConstants.{MAX_BODY};
 ghost use Rattle.std.specs.Prelude.{◌≡◌, ◌≤◌, ℕ, List, OnOk};
 
 use crate::records::add;
-use oai_http::{Answer, Endpoint, Exchange, Handler, Replayed, SettleFault, Settled, endpoint_of};
+use oai_http::{Answer, Endpoint, Exchange, Handler, SettleFault, Settled, endpoint_of};
 use oai_item::Fault;
 use oai_journal::{Journal, JournalFault, MAX_BODY};
+use oai_replay::Replayed;
 use std::alloc::Global;
 use std::marker::Model;
 
@@ -67,7 +68,7 @@ impl<H: Replayed, J: Journal> Handler for Journaled<H, J> {
     fn exchange(&mut self, moment: i64, exchange: &Exchange<'_>) -> Answer {
         match make_room(&mut self.journal, exchange) {
             Ok(()) => {
-                let done = self.handler.perform(moment, exchange);
+                let done = self.handler.exchange_recorded(moment, exchange);
                 if let Some(performed) = done.performed {
                     add(&mut self.journal, moment, &performed);
                 }
@@ -81,7 +82,7 @@ impl<H: Replayed, J: Journal> Handler for Journaled<H, J> {
 /// The answer to a message that was not performed, since no space could be reserved for its record; for a deposit, with
 /// no line done.
 fn refused(alloc: Global, target: &[u8]) -> Answer
-    ensures { result ≡ spec.refused target.now }
+    ensures { result ≡ spec.unperformed_answer target.now }
 {
     let done = match endpoint_of(target) {
         Some(Endpoint::Deposits) => Some(0),

@@ -1,5 +1,5 @@
 //! What holds of every list of lives; a life is one run of a server. Theorems, each an empty function.
-ghost use Rattle.oai_durable.specs.Checkpoints.{AreStages, IsHistory, Stage};
+ghost use Rattle.oai_durable.specs.Checkpoints.{AreStages, IsHistory, JournalStage};
 ghost use Rattle.oai_durable.specs.Lives.{AreAmong, AreLives, Life, answered_in};
 ghost use Rattle.oai_durable.specs.Journaled.{IsExchange, IsHeld, IsSettled, Parts};
 ghost use Rattle.oai_durable.specs.Recovered.{TellsDamage};
@@ -17,8 +17,8 @@ ghost use Rattle.oai_serving.specs.Rounds.{IsService, World, served_in};
 ghost use Rattle.oai_serving.specs.declared.faults.ServeFault.{ServeFault as Fault};
 ghost use Rattle.std.specs.Prelude.{◌≡◌, [], ℕ, IsTrue, List, Result, length};
 
-use oai_http::Replayed;
 use oai_journal::Journal;
+use oai_replay::Replayed;
 use oai_serving::Stream;
 use sqlite_disk::Disk;
 
@@ -82,7 +82,7 @@ pub fn service_law<S: Stream, H: Replayed, J: Journal>()
 /// answer held back; or it is a checkpoint, at which all lists ended and the number of each next list was raised. So a
 /// token is answered as before or refused, and no list number is given twice.
 pub fn stages_law<H: Replayed>()
-    ensures { (begun : H.Kept) (stages : List Stage) (left : List Entry)
+    ensures { (begun : H.Kept) (stages : List JournalStage) (left : List Entry)
         → H.emptied begun ≡ begun
         → AreStages (record {
           leaving = record { redone = H.redone; restored = H.restored };

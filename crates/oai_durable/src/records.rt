@@ -1,21 +1,22 @@
 //! What was performed, and parts of a handler's state, as log records.
 ghost use Rattle.oai_durable.specs.Records as spec;
 ghost use Rattle.oai_journal.specs.Records.{as_entry};
-ghost use Rattle.oai_http.specs.Parts.{as_part};
-ghost use Rattle.oai_http.specs.Redone.{call_again, is_short_name};
+ghost use Rattle.oai_replay.specs.Parts.{as_part};
+ghost use Rattle.oai_replay.specs.Redone.{call_again, is_short_name};
 ghost use Rattle.oai_journal.specs.Records.{Entry};
 ghost use Rattle.oai_journal.specs.declared.records.TheConstants.{MAX_BODY};
 ghost use Rattle.std.specs.Option.{IfNone};
 ghost use Rattle.std.specs.Prelude.{◌≡◌, ◌≤◌, ◌++◌, ◌∷◌, [], ℕ, Some, IfSome, IsTrue, List, None, length};
 
-use oai_http::{Endpoint, Part, PartKind, Performed};
-use oai_journal::{Journal, Kind, Record};
+use oai_http::Endpoint;
+use oai_journal::{Journal, Kind, LogRecord};
+use oai_replay::{Part, PartKind, Performed};
 
 /// What was performed at the moment, as a log record: a deposit or a request; a request without arguments is a tick.
-pub(crate) fn record_of<'a>(moment: i64, performed: &Performed<'a>) -> Record<'a>
-    ensures { as_entry result ≡ spec.entry_of moment performed.now }
+pub(crate) fn record_of<'a>(moment: i64, performed: &Performed<'a>) -> LogRecord<'a>
+    ensures { as_entry result ≡ spec.log_entry_of moment performed.now }
 {
-    Record {
+    LogRecord {
         moment,
         kind: kind_of(performed.endpoint, performed.bytes),
         name: performed.name,
@@ -30,7 +31,7 @@ pub(crate) fn add<J: Journal>(journal: &mut J, moment: i64, performed: &Performe
     requires size { length performed.now.bytes.now ≤ MAX_BODY }
     requires room { J.has_room journal.old (length performed.now.bytes.now) }
     ensures { (entries : List Entry) (durable : ℕ) → J.holds journal.old entries durable
-        → J.holds journal.new (entries ++ spec.entry_of moment performed.now ∷ []) durable }
+        → J.holds journal.new (entries ++ spec.log_entry_of moment performed.now ∷ []) durable }
 {
     journal.append(&record_of(moment, performed));
 }
@@ -52,7 +53,7 @@ fn kind_of(endpoint: Endpoint, bytes: &[u8]) -> Kind
 }
 
 /// What has to be replayed for a record; `None` for a kind that is no exchange.
-pub(crate) fn performed_in<'a>(entry: &Record<'a>) -> Option<Performed<'a>>
+pub(crate) fn performed_in<'a>(entry: &LogRecord<'a>) -> Option<Performed<'a>>
     ensures { IfSome result (λ p. call_again entry.now.moment p ≡ spec.call_in (as_entry entry.now)) }
 {
     let endpoint = match entry.kind {
@@ -72,7 +73,7 @@ pub(crate) fn performed_in<'a>(entry: &Record<'a>) -> Option<Performed<'a>>
 }
 
 /// A part, as a record.
-pub(crate) fn record_of_part<'a>(part: &Part<'a>) -> Record<'a>
+pub(crate) fn record_of_part<'a>(part: &Part<'a>) -> LogRecord<'a>
     ensures { as_entry result ≡ spec.entry_of_part (as_part part.now) }
 {
     let kind = match part.kind {
@@ -80,7 +81,7 @@ pub(crate) fn record_of_part<'a>(part: &Part<'a>) -> Record<'a>
         PartKind::Set => Kind::Set,
         PartKind::Item => Kind::Item,
     };
-    Record {
+    LogRecord {
         moment: part.moment,
         kind,
         name: part.name,
@@ -89,9 +90,9 @@ pub(crate) fn record_of_part<'a>(part: &Part<'a>) -> Record<'a>
 }
 
 /// The part that the record holds; `None` if it holds none.
-pub(crate) fn part_in<'a>(entry: &Record<'a>) -> Option<Part<'a>>
+pub(crate) fn part_in<'a>(entry: &LogRecord<'a>) -> Option<Part<'a>>
     ensures part { IfSome result (λ p. (spec.part_kind entry.now.kind ≡ Some p.kind)
-        × (as_part p ≡ spec.part_in p.kind (as_entry entry.now))) }
+        × (as_part p ≡ spec.part_of_entry p.kind (as_entry entry.now))) }
     ensures none { IfNone result (spec.part_kind entry.now.kind ≡ None) }
 {
     let kind = match entry.kind {

@@ -1,6 +1,6 @@
 //! Replays the records of a journal: crash recovery.
 ghost use Rattle.oai_durable.specs.Journaled.{IsHeld};
-ghost use Rattle.oai_durable.specs.Records.{left_by};
+ghost use Rattle.oai_durable.specs.Records.{left_by_entry};
 ghost use Rattle.oai_durable.specs.Recovered.{HasRedone, IsRecovered, TellsDamage, is_of_journal};
 ghost use Rattle.oai_journal.specs.Changes.{IsUndamaged};
 ghost use Rattle.oai_journal.specs.Records.{Entry, as_entry};
@@ -9,9 +9,9 @@ ghost use Rattle.std.specs.Prelude.{◌≡◌, ◌++◌, ◌∷◌, [], ℕ, Som
 
 use crate::journaled::Journaled;
 use crate::records::{part_in, performed_in};
-use oai_http::Replayed;
 use oai_item::Fault;
-use oai_journal::{FileJournal, Journal, Record, Recovery, RecoveryFault};
+use oai_journal::{FileJournal, Journal, LogRecord, Recovery, RecoveryFault};
+use oai_replay::Replayed;
 use sqlite_disk::Disk;
 use std::alloc::Global;
 use thiserror::Error;
@@ -34,7 +34,7 @@ pub enum RecoverFault {
 pub trait Progress {
     /// The record with that number was read and replayed, counted from 1 after the first one. That many bytes of `len`
     /// were read then.
-    fn note(&mut self, entry: &Record<'_>, number: u64, position: usize, len: usize);
+    fn note(&mut self, entry: &LogRecord<'_>, number: u64, position: usize, len: usize);
 }
 
 /// Replays the records of the journal after its first one, one by one, and restores those that are parts; returns how
@@ -145,7 +145,7 @@ fn redo_last<H: Replayed, D: Disk + Drop>(
     number: u64,
 ) -> Result<(), RecoverFault>
     ensures redone { OnOk result ((e : Entry) → current recovery.now ≡ Some e → IsTrue (H.is_honest handler.old)
-        → H.kept handler.new ≡ left_by (record { redone = H.redone; restored = H.restored }) (H.kept handler.old) e) }
+        → H.kept handler.new ≡ left_by_entry (record { redone = H.redone; restored = H.restored }) (H.kept handler.old) e) }
     ensures own { IfErr result (λ cause. is_of_journal cause ≡ false) }
     ensures honesty { H.is_honest handler.new ≡ H.is_honest handler.old }
 {
@@ -158,11 +158,11 @@ fn redo_last<H: Replayed, D: Disk + Drop>(
 /// Performs a record, or restores its part.
 fn redo_entry<H: Replayed>(
     handler: &mut H,
-    entry: &Record<'_>,
+    entry: &LogRecord<'_>,
     number: u64,
 ) -> Result<(), RecoverFault>
     ensures redone { OnOk result (IsTrue (H.is_honest handler.old)
-        → H.kept handler.new ≡ left_by (record { redone = H.redone; restored = H.restored }) (H.kept handler.old) (as_entry entry.now)) }
+        → H.kept handler.new ≡ left_by_entry (record { redone = H.redone; restored = H.restored }) (H.kept handler.old) (as_entry entry.now)) }
     ensures own { IfErr result (λ cause. is_of_journal cause ≡ false) }
     ensures honesty { H.is_honest handler.new ≡ H.is_honest handler.old }
 {

@@ -20,7 +20,7 @@ use Rattle.oai_http.specs.Statuses.{number_of, phrase_of}
 use Rattle.oai_http.specs.declared.exchanges.Answer.{Answer}
 use Rattle.oai_http.specs.declared.statuses.Status.{Status}
 use Rattle.oai_http.specs.declared.statuses.Status.TheVariants as status
-use Rattle.oai_front.specs.Clients.{IsReadBack}
+use Rattle.oai_front.specs.Clients.{BeginsWithResponse}
 use Rattle.oai_front.specs.Fields.{any_close, is_alike, is_field_named, lists_close, values_named}
 use Rattle.oai_front.specs.Heads.{allow_field, answer_bytes, answer_head, close_field, done_field, fault_bytes, field, head_told, length_field, plain, retry_field, status_fields, status_line, type_field}
 use Rattle.oai_front.specs.declared.heads.AnswerHead.{AnswerHead}
@@ -272,7 +272,7 @@ head_printed head t =
 
 -- ---- what is read
 
-head_read : (head : AnswerHead) (body others : List ℕ) → head.size ≡ length body → IsReadBack (answer_head head ++ (body ++ others)) head.status head.last body others
+head_read : (head : AnswerHead) (body others : List ℕ) → head.size ≡ length body → BeginsWithResponse (answer_head head ++ (body ++ others)) head.status head.last body others
 unfolding any_close
 head_read head body others e =
     let t = lines_told head in record {
@@ -285,12 +285,12 @@ head_read head body others e =
     }
 
 pub answer_read : (target : List ℕ) (last : Bool) (answer : Answer) (others : List ℕ)
-    → IsReadBack (answer_bytes target last answer ++ others) answer.status last answer.body others
+    → BeginsWithResponse (answer_bytes target last answer ++ others) answer.status last answer.body others
 unfolding answer_bytes
 answer_read target last answer others =
-    subst (λ (bytes : List ℕ). IsReadBack bytes answer.status last answer.body others) (sym (append_assoc (answer_head (head_told target last answer)) answer.body others))
+    subst (λ (bytes : List ℕ). BeginsWithResponse bytes answer.status last answer.body others) (sym (append_assoc (answer_head (head_told target last answer)) answer.body others))
     (head_read (head_told target last answer) answer.body others refl)
 
-pub fault_read : (of : Status) (others : List ℕ) → IsReadBack (fault_bytes of ++ others) of true [] others
+pub fault_read : (of : Status) (others : List ℕ) → BeginsWithResponse (fault_bytes of ++ others) of true [] others
 unfolding fault_bytes
 fault_read of others = head_read (record { endpoint = None; status = of; seconds = None; done = None; last = true; size = 0 }) [] others refl

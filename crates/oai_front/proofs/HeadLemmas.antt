@@ -14,7 +14,7 @@ use Rattle.httparse.proofs.GrammarLemmas.{ReadsRequest-append}
 use Rattle.oai_http.specs.declared.statuses.Status.{Status}
 use Rattle.oai_front.specs.Fields.{first_value, framing_of, values_named}
 use Rattle.oai_front.specs.Messages.{Begins, HasNoHead, IsRefused, NeverHasHead, head_fields, framing_in}
-use Rattle.oai_front.specs.RequestHeads.{IsHeadParse, IsHead, IsKept}
+use Rattle.oai_front.specs.RequestHeads.{IsHeadParse, IsHead, IsHeadResult}
 use Rattle.oai_front.specs.declared.request_heads.HeadParse.{HeadParse}
 use Rattle.oai_front.specs.declared.request_heads.HeadParse.TheVariants.{Unknown, Fault, Whole}
 use Rattle.oai_front.specs.declared.request_heads.Head.{Head}
@@ -72,13 +72,13 @@ head_more bytes more kept h = record {
   content_type = sym (spans_more bytes more kept.content_type h.type_in) ∙ h.content_type;
 }
 
-kept_more : (bytes more : List ℕ) (b : HeadParse) → IsKept bytes b → IsHeadParse (bytes ++ more) b
+kept_more : (bytes more : List ℕ) (b : HeadParse) → IsHeadResult bytes b → IsHeadParse (bytes ++ more) b
 kept_more bytes more Unknown k = absurd k
 kept_more bytes more (Fault status) k = inr (refused_more bytes more status k)
 kept_more bytes more (Whole head) k = head_more bytes more head k
 
 -- what is kept of the first so many bytes is kept of all
-pub kept_in_front : (bytes : List ℕ) (most : ℕ) (b : HeadParse) → IsKept (take most bytes) b → IsHeadParse bytes b
+pub kept_in_front : (bytes : List ℕ) (most : ℕ) (b : HeadParse) → IsHeadResult (take most bytes) b → IsHeadParse bytes b
 kept_in_front bytes most b k =
     subst (λ (all : List ℕ). IsHeadParse all b) (take-append-drop most bytes) (kept_more (take most bytes) (drop most bytes) b k)
 

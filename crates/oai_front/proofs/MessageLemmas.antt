@@ -10,9 +10,9 @@ use Rattle.oai_http.specs.declared.exchanges.Answer.{Answer}
 use Rattle.oai_front.specs.Heads.{answer_bytes, fault_bytes}
 use Rattle.oai_http.specs.Exchanges.{Asked}
 use Rattle.oai_front.specs.Messages.{Begins, End, HasNoHead, HasWhole, IsClosing, IsFault, IsUnfinished, MayBegin, Message, ReadsMessages, Splits, closes, faults, framing_in, waits}
-use Rattle.oai_front.specs.Performing.{Completes, Done, Performs, Run, Steps, answers_of, done_bytes, end_bytes, messages_of}
+use Rattle.oai_front.specs.Performing.{AnsweredMessage, Completes, Performs, Run, Steps, answers_of, done_bytes, end_bytes, messages_of}
 use Rattle.oai_front.specs.RequestHeads.{IsHead}
-use Rattle.oai_front.specs.Pipelining.{IsSoFar, WritesBehind, behind, message_behind}
+use Rattle.oai_front.specs.Pipelining.{IsSoFar, WritesBehind, behind_message, message_behind}
 use Rattle.oai_front.specs.declared.request_heads.Head.{Head}
 use Rattle.oai_front.specs.declared.request_heads.TheConstants.{MAX_HEAD_BYTES}
 use Rattle.oai_front.specs.declared.framings.Framing.{Framing}
@@ -60,7 +60,7 @@ unfinished_body bytes kept h few = record {
 abbrev pub message_at : List ℕ → Head → Message
 message_at bytes kept = record { asked = message_behind bytes kept; last = kept.last }
 
-pub message_reads : (bytes : List ℕ) (kept : Head) → IsHead bytes kept → kept.size ≤ length (drop kept.start bytes) → ReadsMessages bytes (message_at bytes kept) (behind bytes kept)
+pub message_reads : (bytes : List ℕ) (kept : Head) → IsHead bytes kept → kept.size ≤ length (drop kept.start bytes) → ReadsMessages bytes (message_at bytes kept) (behind_message bytes kept)
 message_reads bytes kept h whole =
     let rest = drop kept.start bytes in
     let long : length (take kept.size rest) ≡ kept.size = length-take-le kept.size rest whole in
@@ -81,16 +81,16 @@ pub splits_more : (bytes rest after : List ℕ) (message : Message) (messages : 
 splits_more bytes rest after message [] s r stays = (after, subst (λ (xs : List ℕ). ReadsMessages xs message after) (sym s) r, stays, refl)
 splits_more bytes rest after message (m ∷ messages) s r stays = (s.0, s.1, s.2, splits_more s.0 rest after message messages s.3 r stays)
 
-run_more : {H : Type 0} (step : Steps H) (moment : ℤ) (old mid new : H) (d : Done) (done : List Done) → Run step moment old done mid
+run_more : {H : Type 0} (step : Steps H) (moment : ℤ) (old mid new : H) (d : AnsweredMessage) (done : List AnsweredMessage) → Run step moment old done mid
     → step mid moment d.message.asked d.answer new → Run step moment old (done ++ d ∷ []) new
 run_more {H} step moment old mid new d [] r s = (new, subst (λ (h : H). step h moment d.message.asked d.answer new) r s, refl)
 run_more step moment old mid new d (e ∷ done) r s = (r.0, r.1, run_more step moment r.0 mid new d done r.2 s)
 
-messages_more : (d : Done) (done : List Done) → messages_of (done ++ d ∷ []) ≡ messages_of done ++ d.message ∷ []
+messages_more : (d : AnsweredMessage) (done : List AnsweredMessage) → messages_of (done ++ d ∷ []) ≡ messages_of done ++ d.message ∷ []
 messages_more d [] = refl
 messages_more d (e ∷ done) = ap (λ ms. e.message ∷ ms) (messages_more d done)
 
-pub answers_more : (d : Done) (done : List Done) → answers_of (done ++ d ∷ []) ≡ answers_of done ++ done_bytes d
+pub answers_more : (d : AnsweredMessage) (done : List AnsweredMessage) → answers_of (done ++ d ∷ []) ≡ answers_of done ++ done_bytes d
 unfolding answers_of
 answers_more d done = flat_map-append done_bytes done (d ∷ []) ∙ ap (λ (xs : List ℕ). flat_map done_bytes done ++ xs) (append-nil (done_bytes d))
 
@@ -99,7 +99,7 @@ unfolding answers_of
 performs_none step moment old bytes = record { done = []; splits = refl; run = refl; told = refl }
 
 -- a message that leaves the connection open is performed behind the others
-pub performs_more : {H : Type 0} (step : Steps H) (moment : ℤ) (old mid new : H) (bytes rest after written : List ℕ) (d : Done)
+pub performs_more : {H : Type 0} (step : Steps H) (moment : ℤ) (old mid new : H) (bytes rest after written : List ℕ) (d : AnsweredMessage)
     → Performs step moment old mid bytes rest written → ReadsMessages rest d.message after → d.message.last ≡ false → step mid moment d.message.asked d.answer new
     → Performs step moment old new bytes after (written ++ done_bytes d)
 performs_more step moment old mid new bytes rest after written d p r stays s = record {
@@ -129,7 +129,7 @@ completes_fault step moment old new bytes rest written status p f = record {
   told = ap (λ (xs : List ℕ). xs ++ end_bytes (faults status)) p.told;
 }
 
-pub completes_last : {H : Type 0} (step : Steps H) (moment : ℤ) (old mid new : H) (bytes rest after written : List ℕ) (d : Done)
+pub completes_last : {H : Type 0} (step : Steps H) (moment : ℤ) (old mid new : H) (bytes rest after written : List ℕ) (d : AnsweredMessage)
     → Performs step moment old mid bytes rest written → ReadsMessages rest d.message after → d.message.last ≡ true → step mid moment d.message.asked d.answer new
     → Completes step moment old new bytes closes (written ++ done_bytes d)
 completes_last step moment old mid new bytes rest after written d p r last s = record {
@@ -172,7 +172,7 @@ pub sofar_refused : {H : Type 0} (step : Steps H) (moment : ℤ) (old mid new : 
 sofar_refused {H} step moment old mid new bytes before between after rest known kept s h whole same e =
     let p = s.performed in
     let performed : Performs step moment old new bytes rest p.0 = subst (λ (x : H). Performs step moment old x bytes rest p.0) (sym same) p.2 in
-    let left : HasWhole rest = inl (message_at rest kept, behind rest kept, message_reads rest kept h whole) in
+    let left : HasWhole rest = inl (message_at rest kept, behind_message rest kept, message_reads rest kept h whole) in
     let few : length bytes - length rest ≤ length bytes = omega arith in
     subst (λ (xs : List ℕ). WritesBehind before after (Performs step moment old new bytes xs) × (length bytes - length rest ≤ length bytes) × IsHead xs kept × HasWhole xs) s.end
     ((p.0, e ∙ p.1, performed), few, h, left)
@@ -190,7 +190,7 @@ sofar_untold step moment old new bytes before between after rest known status s 
     ((p.0, e ∙ p.1, p.2), few, tt, left)
 
 -- the message that was performed next
-abbrev pub done_at : List ℕ → Head → Answer → Done
+abbrev pub done_at : List ℕ → Head → Answer → AnsweredMessage
 done_at rest kept answer = record { message = message_at rest kept; answer = answer }
 
 -- it was answered so
@@ -211,7 +211,7 @@ sofar_last step moment old mid new bytes before between after rest known kept as
       (
         p.0 ++ done_bytes d,
         b.2 ∙ ap (λ (xs : List ℕ). xs ++ done_bytes d) p.1 ∙ append_assoc before p.0 (done_bytes d),
-        completes_last step moment old mid new bytes rest (behind rest kept) p.0 d p.2 (message_reads rest kept h whole) last b.1,
+        completes_last step moment old mid new bytes rest (behind_message rest kept) p.0 d p.2 (message_reads rest kept h whole) last b.1,
       ),
       tt,
     )
@@ -223,14 +223,14 @@ suffix_more bytes rest n within e few =
     let count : length bytes - length rest + n ≡ length bytes - length (drop n rest) = omega (arith, length-drop n rest) in
     ap (drop n) e ∙ drop-drop n (length bytes - length rest) bytes ∙ ap (λ (k : ℕ). drop k bytes) count
 
-pub length_behind : (rest : List ℕ) (kept : Head) → IsHead rest kept → kept.size ≤ length (drop kept.start rest) → length (behind rest kept) < length rest
+pub length_behind : (rest : List ℕ) (kept : Head) → IsHead rest kept → kept.size ≤ length (drop kept.start rest) → length (behind_message rest kept) < length rest
 length_behind rest kept h whole =
     omega (arith, length-drop kept.size (drop kept.start rest), length-drop kept.start rest, start_within rest kept h, h.start, head_has_bytes h.head)
 
 pub sofar_more : {H : Type 0} (step : Steps H) (moment : ℤ) (old mid new : H) (bytes before between after rest : List ℕ) (known : Option Head) (kept : Head) (asked : Asked)
     → IsSoFar step moment old mid bytes before between rest known → IsHead rest kept → kept.size ≤ length (drop kept.start rest) → kept.last ≡ false
     → asked ≡ message_behind rest kept → IsAnswered step moment mid new asked kept.last between after
-    → IsSoFar step moment old new bytes before after (behind rest kept) None
+    → IsSoFar step moment old new bytes before after (behind_message rest kept) None
 sofar_more step moment old mid new bytes before between after rest known kept asked s h whole last e a =
     let p = s.performed in
     let b : IsAnswered step moment mid new (message_behind rest kept) kept.last between after =
@@ -243,7 +243,7 @@ sofar_more step moment old mid new bytes before between after rest known kept as
       performed = (
         p.0 ++ done_bytes d,
         b.2 ∙ ap (λ (xs : List ℕ). xs ++ done_bytes d) p.1 ∙ append_assoc before p.0 (done_bytes d),
-        performs_more step moment old mid new bytes rest (behind rest kept) p.0 d p.2 (message_reads rest kept h whole) last b.1,
+        performs_more step moment old mid new bytes rest (behind_message rest kept) p.0 d p.2 (message_reads rest kept h whole) last b.1,
       );
       head = tt;
       within = omega (arith, length_behind rest kept h whole, s.within);

@@ -16,9 +16,9 @@ use Rattle.oai_front.proofs.HeadLemmas.{head_has_bytes}
 use Rattle.oai_front.proofs.StreamLemmas.{splits_join, splits_more, stream_join, stream_over}
 use Rattle.oai_front.specs.Connections.{Connection, IsEnded, bytes_with, connection_at, fresh, rest_at, stage_at}
 use Rattle.oai_front.specs.Fronts.{HasOutput, IsChange, IsTaking, State, connection_numbered, is_numbered, replaced, with_connection, without_connection}
-use Rattle.oai_front.specs.Messages.{End, Begins, HasWhole, IsClosing, IsFault, IsRefused, IsUnfinished, Message, ReadsMessages, Splits, Stream, closes, faults, waits}
-use Rattle.oai_front.specs.Performing.{Done, Run, Steps, answers_of, done_bytes, end_bytes, messages_of}
-use Rattle.oai_front.specs.Runs.{AreMessages, ArePerformed, AreServed, Came, Comes, FrontCall, CallOutcome, Forgotten, IsCall, IsOwn, IsReadingConnection, IsToCome, Opened, Over, Piece, Seen, Served, Serves, Taken, all_served, bytes_of, bytes_on, calls_of, comes_on, taken_count, done_on, is_forgotten, is_over, is_whole, seen, served_by, served_on, served_with, stage_where}
+use Rattle.oai_front.specs.Messages.{End, Begins, HasWhole, IsClosing, IsFault, IsRefused, IsUnfinished, Message, ReadsMessages, Splits, IsMessageStream, closes, faults, waits}
+use Rattle.oai_front.specs.Performing.{AnsweredMessage, Run, Steps, answers_of, done_bytes, end_bytes, messages_of}
+use Rattle.oai_front.specs.Runs.{AreMessages, ArePerformed, AreServed, Came, Comes, FrontCall, CallOutcome, Forgotten, IsCall, IsOwn, IsReadingConnection, IsToCome, Opened, Over, Piece, Seen, Served, Serves, Taken, all_served, bytes_of_call, bytes_of_calls, calls_of, comes_on, taken_count, done_on, is_forgotten, is_over, is_whole_call, seen, served_by, served_on, served_with, stage_where}
 use Rattle.oai_front.specs.Stages.{is_closing, stage_ended}
 use Rattle.oai_front.specs.declared.stages.Stage.{Stage}
 use Rattle.oai_front.specs.declared.stages.Stage.TheVariants as phase
@@ -126,7 +126,7 @@ not_nil : (m : Message) (messages : List Message) → m ∷ messages ≡ [] → 
 not_nil m messages e = cc
 
 -- nothing comes of no bytes
-nothing_comes : (bytes : List ℕ) (messages : List Message) (end : End) → bytes ≡ [] → Stream bytes messages end → (messages ≡ []) × (end ≡ waits [])
+nothing_comes : (bytes : List ℕ) (messages : List Message) (end : End) → bytes ≡ [] → IsMessageStream bytes messages end → (messages ≡ []) × (end ≡ waits [])
 nothing_comes bytes [] (waits rest) e s = (refl, ap waits (sym s.0 ∙ e))
 nothing_comes bytes (m ∷ messages) (waits rest) e s = absurd (no_message_in_none m s.0.0 (subst (λ (xs : List ℕ). ReadsMessages xs m s.0.0) e s.0.1))
 nothing_comes bytes [] (faults status) e s = absurd (no_fault_in_none status (subst (λ (xs : List ℕ). IsFault xs status) (sym s.1 ∙ e) s.2))
@@ -209,24 +209,24 @@ nothing_performed false bytes messages (waits rest) e s = absurd (none_whole res
 nothing_performed false bytes messages (faults status) e s = absurd s
 nothing_performed false bytes messages closes e s = absurd s
 
-none_done : (done : List Done) → messages_of done ≡ [] → done ≡ []
+none_done : (done : List AnsweredMessage) → messages_of done ≡ [] → done ≡ []
 none_done [] e = refl
 none_done (d ∷ done) e = absurd (not_nil d.message (messages_of done) e)
 
 -- ---- what was performed, and more behind it
 
-pub answers_join : (a b : List Done) → answers_of (a ++ b) ≡ answers_of a ++ answers_of b
+pub answers_join : (a b : List AnsweredMessage) → answers_of (a ++ b) ≡ answers_of a ++ answers_of b
 unfolding answers_of
 answers_join a b = flat_map-append done_bytes a b
 
-pub messages_join : (a b : List Done) → messages_of (a ++ b) ≡ messages_of a ++ messages_of b
-messages_join a b = map-append (λ (d : Done). d.message) a b
+pub messages_join : (a b : List AnsweredMessage) → messages_of (a ++ b) ≡ messages_of a ++ messages_of b
+messages_join a b = map-append (λ (d : AnsweredMessage). d.message) a b
 
 pub splits_in : (whole : Bool) (bytes rest : List ℕ) (messages : List Message) → ArePerformed whole bytes messages (waits rest) → Splits bytes messages rest
 splits_in true bytes rest messages s = s.0
 splits_in false bytes rest messages s = s.0
 
-stream_in : (whole : Bool) (bytes : List ℕ) (messages : List Message) (end : End) → IsClosing end → ArePerformed whole bytes messages end → Stream bytes messages end
+stream_in : (whole : Bool) (bytes : List ℕ) (messages : List Message) (end : End) → IsClosing end → ArePerformed whole bytes messages end → IsMessageStream bytes messages end
 stream_in true bytes messages end closing s = s
 stream_in false bytes messages (waits rest) closing s = absurd closing
 stream_in false bytes messages (faults status) closing s = absurd s
@@ -239,7 +239,7 @@ performed_join false bytes rest more ms ns (waits other) s t = (splits_join (byt
 performed_join false bytes rest more ms ns (faults status) s t = absurd t
 performed_join false bytes rest more ms ns closes s t = absurd t
 
-pub told_join : (out : List ℕ) (done now : List Done) (end : End)
+pub told_join : (out : List ℕ) (done now : List AnsweredMessage) (end : End)
     → (out ++ (answers_of done ++ [])) ++ (answers_of now ++ end_bytes end) ≡ out ++ (answers_of (done ++ now) ++ end_bytes end)
 told_join out done now end =
     let more = answers_of now ++ end_bytes end in
@@ -260,10 +260,10 @@ abbrev IsDropped : Bool → List ℕ → End → Type 0
 IsDropped over rest end = (over ≡ true) × (rest ≡ []) × IsUnfinishedAt end
 
 -- what it is to put out, but for what was taken
-abbrev told : Connection → List Done → End → List ℕ
+abbrev told : Connection → List AnsweredMessage → End → List ℕ
 told c done end = c.output ++ (answers_of done ++ end_bytes end)
 
-record Keeps (c y : Connection) (bytes : List ℕ) (done : List Done) (taken : ℕ) (whole over : Bool) : Type 0 where
+record Keeps (c y : Connection) (bytes : List ℕ) (done : List AnsweredMessage) (taken : ℕ) (whole over : Bool) : Type 0 where
   end : End
   performed : ArePerformed whole (c.rest ++ bytes) (messages_of done) end
   same : y.number ≡ c.number
@@ -276,11 +276,11 @@ bytes_at : (c : Connection) (piece : List ℕ) (s : Stage) → c.stage ≡ s →
 bytes_at c piece s e = ap (λ (t : Stage). cond (is_closing t) c.rest (c.rest ++ piece)) e
 
 -- the connection after a piece with which those messages were performed
-abbrev after_piece : Connection → List ℕ → List Done → End → Connection
+abbrev after_piece : Connection → List ℕ → List AnsweredMessage → End → Connection
 after_piece x piece now end = connection_at (record x { rest = bytes_with x piece }) end (answers_of now ++ end_bytes end)
 
 -- the bytes that wait, and more behind them
-keeps_joined : (c x y : Connection) (bytes more rest piece : List ℕ) (done now : List Done) (taken : ℕ) (over whole : Bool) (end : End) → Splits (c.rest ++ bytes) (messages_of done) rest
+keeps_joined : (c x y : Connection) (bytes more rest piece : List ℕ) (done now : List AnsweredMessage) (taken : ℕ) (over whole : Bool) (end : End) → Splits (c.rest ++ bytes) (messages_of done) rest
     → x.number ≡ c.number → x.output ≡ drop taken (told c done (waits rest)) → taken ≤ length (told c done (waits rest)) → x.stage ≡ stage_where over
     → bytes_with x piece ≡ rest ++ more → ArePerformed whole (bytes_with x piece) (messages_of now) end → y ≡ after_piece x piece now end
     → Keeps c y (bytes ++ more) (done ++ now) taken whole over
@@ -304,20 +304,20 @@ parts : ℕ → List ℕ → List ℕ → Stage → Connection
 parts number rest output stage = record { number = number; rest = rest; output = output; stage = stage }
 
 -- a piece with which nothing comes
-nothing_changes : (x y : Connection) (piece : List ℕ) (now : List Done) (end : End) → x.rest ≡ [] → now ≡ [] → end ≡ waits [] → y ≡ after_piece x piece now end → y ≡ x
+nothing_changes : (x y : Connection) (piece : List ℕ) (now : List AnsweredMessage) (end : End) → x.rest ≡ [] → now ≡ [] → end ≡ waits [] → y ≡ after_piece x piece now end → y ≡ x
 unfolding parts answers_of
 nothing_changes x y piece now end rest none waiting f =
-    f ∙ ap₂ (λ (ds : List Done) (e : End). parts x.number (rest_at e) (x.output ++ (answers_of ds ++ end_bytes e)) (stage_at x.stage e)) none waiting
+    f ∙ ap₂ (λ (ds : List AnsweredMessage) (e : End). parts x.number (rest_at e) (x.output ++ (answers_of ds ++ end_bytes e)) (stage_at x.stage e)) none waiting
     ∙ ap₂ (λ (r o : List ℕ). parts x.number r o x.stage) (sym rest) (append-nil x.output)
 
 -- it stays as it is
-keeps_still : (c x y : Connection) (bytes more : List ℕ) (done now : List Done) (taken : ℕ) (over : Bool) (end : End) → ArePerformed true (c.rest ++ (bytes ++ more)) (messages_of done) end
+keeps_still : (c x y : Connection) (bytes more : List ℕ) (done now : List AnsweredMessage) (taken : ℕ) (over : Bool) (end : End) → ArePerformed true (c.rest ++ (bytes ++ more)) (messages_of done) end
     → x.number ≡ c.number → x.output ≡ drop taken (told c done end) → taken ≤ length (told c done end) → x.stage ≡ stage_at (stage_where over) end
     → (x.rest ≡ rest_at end) ⊎ IsDropped over x.rest end → now ≡ [] → y ≡ x → Keeps c y (bytes ++ more) (done ++ now) taken true over
 keeps_still c x y bytes more done now taken over end p same output within stage rest none f =
-    let all : done ++ now ≡ done = ap (λ (ds : List Done). done ++ ds) none ∙ append-nil done in
+    let all : done ++ now ≡ done = ap (λ (ds : List AnsweredMessage). done ++ ds) none ∙ append-nil done in
     subst (λ (d : Connection). Keeps c d (bytes ++ more) (done ++ now) taken true over) (sym f)
-    (subst (λ (ds : List Done). Keeps c x (bytes ++ more) ds taken true over) (sym all)
+    (subst (λ (ds : List AnsweredMessage). Keeps c x (bytes ++ more) ds taken true over) (sym all)
     (record { end = end; performed = p; same = same; output = output; within = within; stage = stage; rest = rest }))
 
 rest_nothing : (over : Bool) (rest : List ℕ) (end : End) → IsClosing end → (rest ≡ rest_at end) ⊎ IsDropped over rest end → rest ≡ []
@@ -333,7 +333,7 @@ closed_at s closes closing = refl
 closed_at s (faults status) closing = refl
 
 -- a piece where the connection is closed
-keeps_closed : (c x y : Connection) (bytes more piece : List ℕ) (done now : List Done) (taken : ℕ) (before whole over : Bool) (end last : End) → IsClosing end
+keeps_closed : (c x y : Connection) (bytes more piece : List ℕ) (done now : List AnsweredMessage) (taken : ℕ) (before whole over : Bool) (end last : End) → IsClosing end
     → ArePerformed before (c.rest ++ bytes) (messages_of done) end → x.number ≡ c.number → x.output ≡ drop taken (told c done end) → taken ≤ length (told c done end)
     → x.stage ≡ stage_at (stage_where over) end → (x.rest ≡ rest_at end) ⊎ IsDropped over x.rest end → ArePerformed whole (bytes_with x piece) (messages_of now) last
     → y ≡ after_piece x piece now last → Keeps c y (bytes ++ more) (done ++ now) taken whole over
@@ -341,12 +341,12 @@ keeps_closed c x y bytes more piece done now taken before whole over end last cl
     let gone = rest_nothing over x.rest end closing rest in
     let none = nothing_performed whole (bytes_with x piece) (messages_of now) last (bytes_at x piece phase.Closed (stage ∙ closed_at (stage_where over) end closing) ∙ gone) q in
     let stream = stream_over (c.rest ++ bytes) more (messages_of done) end (stream_in before (c.rest ++ bytes) (messages_of done) end closing p) closing in
-    let still = keeps_still c x y bytes more done now taken over end (subst (λ (xs : List ℕ). Stream xs (messages_of done) end) (append_assoc c.rest bytes more) stream)
+    let still = keeps_still c x y bytes more done now taken over end (subst (λ (xs : List ℕ). IsMessageStream xs (messages_of done) end) (append_assoc c.rest bytes more) stream)
     same output within stage rest (none_done now none.0) (nothing_changes x y piece now last gone (none_done now none.0) none.1 f) in
     subst (λ (w : Bool). Keeps c y (bytes ++ more) (done ++ now) taken w over) (sym none.2) still
 
 -- a piece, whatever the connection has come to
-keeps_piece : (c x y : Connection) (bytes piece : List ℕ) (done now : List Done) (taken : ℕ) (before whole over : Bool) (end last : End)
+keeps_piece : (c x y : Connection) (bytes piece : List ℕ) (done now : List AnsweredMessage) (taken : ℕ) (before whole over : Bool) (end last : End)
     → ArePerformed before (c.rest ++ bytes) (messages_of done) end → x.number ≡ c.number → x.output ≡ drop taken (told c done end) → taken ≤ length (told c done end)
     → x.stage ≡ stage_at (stage_where over) end → (x.rest ≡ rest_at end) ⊎ IsDropped over x.rest end → ArePerformed whole (bytes_with x piece) (messages_of now) last
     → y ≡ after_piece x piece now last → Keeps c y (bytes ++ cond over [] piece) (done ++ now) taken whole over
@@ -370,7 +370,7 @@ keeps_piece c x y bytes piece done now taken before whole over (faults status) l
     keeps_closed c x y bytes (cond over [] piece) piece done now taken before whole over (faults status) last tt p same output within stage rest q f
 
 -- bytes are taken
-keeps_taken : (c x y : Connection) (bytes : List ℕ) (done : List Done) (taken count : ℕ) (whole over : Bool) → Keeps c x bytes done taken whole over
+keeps_taken : (c x y : Connection) (bytes : List ℕ) (done : List AnsweredMessage) (taken count : ℕ) (whole over : Bool) → Keeps c x bytes done taken whole over
     → count ≤ length x.output → y ≡ record x { output = drop count x.output } → Keeps c y bytes done (taken + count) whole over
 keeps_taken c x y bytes done taken count whole over k few f = record {
   end = k.end;
@@ -398,7 +398,7 @@ rest_over over before after (faults status) r (inl u) = inl u.1
 rest_over over before after end (inl r) (inr w) = inl (w.1 ∙ r)
 rest_over over before after end (inr d) (inr w) = inr (refl, w.1 ∙ d.1, d.2)
 
-keeps_over : (c x y : Connection) (bytes : List ℕ) (done : List Done) (taken : ℕ) (whole over : Bool) → Keeps c x bytes done taken whole over → IsEnded x y
+keeps_over : (c x y : Connection) (bytes : List ℕ) (done : List AnsweredMessage) (taken : ℕ) (whole over : Bool) → Keeps c x bytes done taken whole over → IsEnded x y
     → Keeps c y bytes done taken whole true
 keeps_over c x y bytes done taken whole over k e = record {
   end = k.end;
@@ -422,36 +422,36 @@ before_cons p x calls = by_test (p x) refl
     by_test true here = ap (λ (b : Bool). take (cond (not b) (1 + prefix_len (λ c. not (p c)) calls) 0) (x ∷ calls)) here
     by_test false there = ap (λ (b : Bool). take (cond (not b) (1 + prefix_len (λ c. not (p c)) calls) 0) (x ∷ calls)) there ∙ more (prefix_len (λ c. not (p c)) calls)
 
-no_bytes : (number : ℕ) (x : FrontCall) → is_over number x ≡ true → bytes_of number x ≡ []
+no_bytes : (number : ℕ) (x : FrontCall) → is_over number x ≡ true → bytes_of_call number x ≡ []
 no_bytes number (Came p) over = absurd (false≢true over)
 no_bytes number (Taken other count) over = refl
 no_bytes number (Over other) over = refl
 no_bytes number (Forgotten other) over = refl
 no_bytes number Opened over = refl
 
-bytes_first : (number : ℕ) (x : FrontCall) (b : Bool) → is_over number x ≡ b → flat_map (bytes_of number) (cond b [] (x ∷ [])) ≡ bytes_of number x
+bytes_first : (number : ℕ) (x : FrontCall) (b : Bool) → is_over number x ≡ b → flat_map (bytes_of_call number) (cond b [] (x ∷ [])) ≡ bytes_of_call number x
 bytes_first number x true here = sym (no_bytes number x here)
-bytes_first number x false there = append-nil (bytes_of number x)
+bytes_first number x false there = append-nil (bytes_of_call number x)
 
 -- the calls before the end, and a test whether it came
 abbrev bytes_before : ℕ → List FrontCall → FrontCall → Bool → List ℕ
-bytes_before number calls x over = flat_map (bytes_of number) calls ++ cond over [] (bytes_of number x)
+bytes_before number calls x over = flat_map (bytes_of_call number) calls ++ cond over [] (bytes_of_call number x)
 
 bytes_next : (number : ℕ) (y x : FrontCall) (calls : List FrontCall) (b : Bool) → is_over number y ≡ b
-    → flat_map (bytes_of number) (before_first (is_over number) (calls ++ x ∷ [])) ≡ bytes_before number (before_first (is_over number) calls) x (list_any (is_over number) calls)
-    → flat_map (bytes_of number) (cond b [] (y ∷ before_first (is_over number) (calls ++ x ∷ [])))
+    → flat_map (bytes_of_call number) (before_first (is_over number) (calls ++ x ∷ [])) ≡ bytes_before number (before_first (is_over number) calls) x (list_any (is_over number) calls)
+    → flat_map (bytes_of_call number) (cond b [] (y ∷ before_first (is_over number) (calls ++ x ∷ [])))
     ≡ bytes_before number (cond b [] (y ∷ before_first (is_over number) calls)) x (b || list_any (is_over number) calls)
 bytes_next number y x calls true here e = refl
 bytes_next number y x calls false there e =
-    ap (λ (xs : List ℕ). bytes_of number y ++ xs) e
-    ∙ sym (append_assoc (bytes_of number y) (flat_map (bytes_of number) (before_first (is_over number) calls)) (cond (list_any (is_over number) calls) [] (bytes_of number x)))
+    ap (λ (xs : List ℕ). bytes_of_call number y ++ xs) e
+    ∙ sym (append_assoc (bytes_of_call number y) (flat_map (bytes_of_call number) (before_first (is_over number) calls)) (cond (list_any (is_over number) calls) [] (bytes_of_call number x)))
 
 bytes_more : (number : ℕ) (calls : List FrontCall) (x : FrontCall)
-    → bytes_on number (calls ++ x ∷ []) ≡ bytes_on number calls ++ cond (list_any (is_over number) calls) [] (bytes_of number x)
-unfolding bytes_on
-bytes_more number [] x = ap (flat_map (bytes_of number)) (before_cons (is_over number) x []) ∙ bytes_first number x (is_over number x) refl
+    → bytes_of_calls number (calls ++ x ∷ []) ≡ bytes_of_calls number calls ++ cond (list_any (is_over number) calls) [] (bytes_of_call number x)
+unfolding bytes_of_calls
+bytes_more number [] x = ap (flat_map (bytes_of_call number)) (before_cons (is_over number) x []) ∙ bytes_first number x (is_over number x) refl
 bytes_more number (y ∷ calls) x =
-    ap (flat_map (bytes_of number)) (before_cons (is_over number) y (calls ++ x ∷ [])) ∙ bytes_next number y x calls (is_over number y) refl (bytes_more number calls x)
+    ap (flat_map (bytes_of_call number)) (before_cons (is_over number) y (calls ++ x ∷ [])) ∙ bytes_next number y x calls (is_over number y) refl (bytes_more number calls x)
     ∙ ap (λ (cs : List FrontCall). bytes_before number cs x (is_over number y || list_any (is_over number) calls)) (sym (before_cons (is_over number) y calls))
 
 served_more : (outcomes : List CallOutcome) (d : CallOutcome) → all_served (outcomes ++ d ∷ []) ≡ all_served outcomes ++ served_by d.call d.done
@@ -478,15 +478,15 @@ any_more : (p : FrontCall → Bool) (calls : List FrontCall) (x : FrontCall) →
 any_more p calls x = list_any-append p calls (x ∷ []) ∙ ap (λ (b : Bool). list_any p calls || b) (or_false (p x))
 
 whole_more : (number : ℕ) (calls : List FrontCall) (x : FrontCall)
-    → is_whole (find (comes_on number) (reverse (calls ++ x ∷ []))) ≡ cond (comes_on number x) (is_whole (Some x)) (is_whole (find (comes_on number) (reverse calls)))
-whole_more number calls x = ap (λ (cs : List FrontCall). is_whole (find (comes_on number) cs)) (reverse-append calls (x ∷ [])) ∙ by_test (comes_on number x)
+    → is_whole_call (find (comes_on number) (reverse (calls ++ x ∷ []))) ≡ cond (comes_on number x) (is_whole_call (Some x)) (is_whole_call (find (comes_on number) (reverse calls)))
+whole_more number calls x = ap (λ (cs : List FrontCall). is_whole_call (find (comes_on number) cs)) (reverse-append calls (x ∷ [])) ∙ by_test (comes_on number x)
   where
-    by_test : (b : Bool) → is_whole (cond b (Some x) (find (comes_on number) (reverse calls))) ≡ cond b (is_whole (Some x)) (is_whole (find (comes_on number) (reverse calls)))
+    by_test : (b : Bool) → is_whole_call (cond b (Some x) (find (comes_on number) (reverse calls))) ≡ cond b (is_whole_call (Some x)) (is_whole_call (find (comes_on number) (reverse calls)))
     by_test true = refl
     by_test false = refl
 
 -- what one call more makes of it
-piece_seen : Bool → Seen → Piece → List Done → Seen
+piece_seen : Bool → Seen → Piece → List AnsweredMessage → Seen
 piece_seen true s p done = record { bytes = s.bytes ++ cond s.over [] p.bytes; done = s.done ++ done; taken = s.taken; whole = p.whole; over = s.over; forgotten = s.forgotten }
 piece_seen false s p done = s
 
@@ -502,7 +502,7 @@ forgotten_seen : Bool → Seen → Seen
 forgotten_seen true s = record { bytes = s.bytes; done = s.done; taken = s.taken; whole = s.whole; over = s.over; forgotten = true }
 forgotten_seen false s = s
 
-seen_more : ℕ → Seen → FrontCall → List Done → Seen
+seen_more : ℕ → Seen → FrontCall → List AnsweredMessage → Seen
 seen_more number s (Came p) done = piece_seen (p.number == number) s p done
 seen_more number s (Taken other count) done = taken_seen (other == number) s count
 seen_more number s (Over other) done = over_seen (other == number) s
@@ -510,7 +510,7 @@ seen_more number s (Forgotten other) done = forgotten_seen (other == number) s
 seen_more number s Opened done = s
 
 -- what some calls were to a connection, part by part
-seen_with : Seen → List ℕ → List Done → ℕ → Bool → Bool → Bool → Seen
+seen_with : Seen → List ℕ → List AnsweredMessage → ℕ → Bool → Bool → Bool → Seen
 seen_with s bytes done count whole over forgotten = record {
   bytes = s.bytes ++ cond s.over [] bytes;
   done = s.done ++ done;
@@ -534,7 +534,7 @@ bytes_still s = ap (λ (xs : List ℕ). s.bytes ++ xs) (either s.over []) ∙ ap
 count_still : (n : ℕ) → n + 0 ≡ n
 count_still n = omega arith
 
-with_piece : (b : Bool) (s : Seen) (p : Piece) (done now : List Done) → now ≡ cond b done [] → seen_with s (cond b p.bytes []) now 0 (cond b p.whole s.whole) false false ≡ piece_seen b s p done
+with_piece : (b : Bool) (s : Seen) (p : Piece) (done now : List AnsweredMessage) → now ≡ cond b done [] → seen_with s (cond b p.bytes []) now 0 (cond b p.whole s.whole) false false ≡ piece_seen b s p done
 unfolding seen_with piece_seen
 with_piece true s p done now e = λ i. record {
   bytes = s.bytes ++ cond s.over [] p.bytes;
@@ -546,7 +546,7 @@ with_piece true s p done now e = λ i. record {
 }
 with_piece false s p done now e = λ i. record {
   bytes = bytes_still s i;
-  done = (ap (λ (ds : List Done). s.done ++ ds) e ∙ append-nil s.done) i;
+  done = (ap (λ (ds : List AnsweredMessage). s.done ++ ds) e ∙ append-nil s.done) i;
   taken = count_still s.taken i;
   whole = s.whole;
   over = or_false s.over i;
@@ -610,28 +610,28 @@ with_forgotten false s = λ i. record {
   forgotten = or_false s.forgotten i;
 }
 
-pub done_here : (number : ℕ) (p : Piece) (done : List Done) → (p.number == number) ≡ true → done_on number (map (served_with p) done) ≡ done
+pub done_here : (number : ℕ) (p : Piece) (done : List AnsweredMessage) → (p.number == number) ≡ true → done_on number (map (served_with p) done) ≡ done
 unfolding done_on
 done_here number p [] e = refl
 done_here number p (d ∷ done) e =
     ap (map (λ (s : Served). s.done)) (cond-true (p.number == number) (served_with p d ∷ filter (served_on number) (map (served_with p) done)) (filter (served_on number) (map (served_with p) done)) e)
-    ∙ ap (λ (ds : List Done). d ∷ ds) (done_here number p done e)
+    ∙ ap (λ (ds : List AnsweredMessage). d ∷ ds) (done_here number p done e)
 
-pub done_away : (number : ℕ) (p : Piece) (done : List Done) → (p.number == number) ≡ false → done_on number (map (served_with p) done) ≡ []
+pub done_away : (number : ℕ) (p : Piece) (done : List AnsweredMessage) → (p.number == number) ≡ false → done_on number (map (served_with p) done) ≡ []
 unfolding done_on
 done_away number p [] e = refl
 done_away number p (d ∷ done) e =
     ap (map (λ (s : Served). s.done)) (cond-false (p.number == number) (served_with p d ∷ filter (served_on number) (map (served_with p) done)) (filter (served_on number) (map (served_with p) done)) e)
     ∙ done_away number p done e
 
-done_with : (number : ℕ) (p : Piece) (done : List Done) → done_on number (map (served_with p) done) ≡ cond (p.number == number) done []
+done_with : (number : ℕ) (p : Piece) (done : List AnsweredMessage) → done_on number (map (served_with p) done) ≡ cond (p.number == number) done []
 done_with number p done = elim (cases_Bool (p.number == number)) [
   | inl here ↦ done_here number p done here ∙ sym (cond-true (p.number == number) done [] here)
   | inr away ↦ done_away number p done away ∙ sym (cond-false (p.number == number) done [] away)
 ]
 
-seen_parts : (number : ℕ) (s : Seen) (x : FrontCall) (done : List Done)
-    → seen_with s (bytes_of number x) (done_on number (served_by x done)) (taken_count number x) (cond (comes_on number x) (is_whole (Some x)) s.whole) (is_over number x) (is_forgotten number x)
+seen_parts : (number : ℕ) (s : Seen) (x : FrontCall) (done : List AnsweredMessage)
+    → seen_with s (bytes_of_call number x) (done_on number (served_by x done)) (taken_count number x) (cond (comes_on number x) (is_whole_call (Some x)) s.whole) (is_over number x) (is_forgotten number x)
     ≡ seen_more number s x done
 unfolding seen_more over_seen done_on
 seen_parts number s (Came p) done = with_piece (p.number == number) s p done (done_on number (map (served_with p) done)) (done_with number p done)
@@ -645,10 +645,10 @@ unfolding seen seen_with
 seen_step number outcomes d =
     let calls = map (λ (e : CallOutcome). e.call) outcomes in
     let all : map (λ (e : CallOutcome). e.call) (outcomes ++ d ∷ []) ≡ calls ++ d.call ∷ [] = map-append (λ (e : CallOutcome). e.call) outcomes (d ∷ []) in
-    let bytes = ap (bytes_on number) all ∙ bytes_more number calls d.call in
+    let bytes = ap (bytes_of_calls number) all ∙ bytes_more number calls d.call in
     let done = ap (done_on number) (served_more outcomes d) ∙ done_join number (all_served outcomes) (served_by d.call d.done) in
     let count = ap (sum_by (taken_count number)) all ∙ taken_more number calls d.call in
-    let whole = ap (λ (cs : List FrontCall). is_whole (find (comes_on number) (reverse cs))) all ∙ whole_more number calls d.call in
+    let whole = ap (λ (cs : List FrontCall). is_whole_call (find (comes_on number) (reverse cs))) all ∙ whole_more number calls d.call in
     let over = ap (list_any (is_over number)) all ∙ any_more (is_over number) calls d.call in
     let forgotten = ap (list_any (is_forgotten number)) all ∙ any_more (is_forgotten number) calls d.call in
     (λ i. record { bytes = bytes i; done = done i; taken = count i; whole = whole i; over = over i; forgotten = forgotten i })
@@ -659,7 +659,7 @@ nothing_seen : Seen
 nothing_seen = record { bytes = []; done = []; taken = 0; whole = true; over = false; forgotten = false }
 
 seen_none : (number : ℕ) → seen number [] ≡ nothing_seen
-unfolding seen bytes_on done_on all_served nothing_seen
+unfolding seen bytes_of_calls done_on all_served nothing_seen
 seen_none number = refl
 
 -- ---- where a connection stands
@@ -735,7 +735,7 @@ own_at number c now last s given (inr (inr gone)) = record {
 
 -- a piece was taken in, and with it those messages were performed
 record TakesIn {H : Type 0} (step : Steps H) (p : Piece) (old mid : State H) : Type 0 where
-  done : List Done
+  done : List AnsweredMessage
   run : Run step p.moment old.handler done mid.handler
   before : Connection
   stands : connection_numbered p.number old.connections ≡ Some before
@@ -780,13 +780,13 @@ takes_in {H} step number moment bytes false old mid e =
 
 -- what a call is to the handler and to each connection
 record Does {H : Type 0} (step : Steps H) (call : FrontCall) (old mid : State H) : Type 0 where
-  done : List Done
+  done : List AnsweredMessage
   run : Serves step old.handler (served_by call done) mid.handler
   rises : old.last ≤ mid.last
   stands : (number : ℕ) (c : Connection) (s : Seen) → Stand number c (connection_numbered number old.connections) old.last s
       → Stand number c (connection_numbered number mid.connections) mid.last (seen_more number s call done)
 
-pub serves_run : {H : Type 0} (step : Steps H) (p : Piece) (old mid : H) (done : List Done) → Run step p.moment old done mid → Serves step old (map (served_with p) done) mid
+pub serves_run : {H : Type 0} (step : Steps H) (p : Piece) (old mid : H) (done : List AnsweredMessage) → Run step p.moment old done mid → Serves step old (map (served_with p) done) mid
 serves_run step p old mid [] r = r
 serves_run step p old mid (d ∷ done) r = (r.0, r.1, serves_run step p r.0 mid done r.2)
 
@@ -818,7 +818,7 @@ stand_changed number other c x y connections others last s t stands same e here 
     inr (inl (record { here = y; stands = put_back number connections others x y mine same e; keeps = keeps o.0; stays = stays ∙ o.1; given = o.2 }))
 
 -- a call on another connection
-unpieced : (number : ℕ) (c : Connection) (now : Option Connection) (last : ℕ) (s : Seen) (p : Piece) (done : List Done) → Stand number c now last s
+unpieced : (number : ℕ) (c : Connection) (now : Option Connection) (last : ℕ) (s : Seen) (p : Piece) (done : List AnsweredMessage) → Stand number c now last s
     → Stand number c now last (piece_seen false s p done)
 unfolding piece_seen
 unpieced number c now last s p done st = st
@@ -838,11 +838,11 @@ unforgotten number c now last s st = st
 opened_above : (last number : ℕ) → (last + 1 == number) ≡ false → last < number → last + 1 < number
 opened_above last number away above = grind (arith, nat_tests, away, above)
 
-piece_stays : (s : Seen) (p : Piece) (done : List Done) → (piece_seen true s p done).forgotten ≡ s.forgotten
+piece_stays : (s : Seen) (p : Piece) (done : List AnsweredMessage) → (piece_seen true s p done).forgotten ≡ s.forgotten
 unfolding piece_seen
 piece_stays s p done = refl
 
-piece_keeps : (c x y : Connection) (s : Seen) (p : Piece) (done : List Done) (end : End) → ArePerformed p.whole (bytes_with x p.bytes) (messages_of done) end
+piece_keeps : (c x y : Connection) (s : Seen) (p : Piece) (done : List AnsweredMessage) (end : End) → ArePerformed p.whole (bytes_with x p.bytes) (messages_of done) end
     → y ≡ after_piece x p.bytes done end → KeepsSeen c x s → KeepsSeen c y (piece_seen true s p done)
 unfolding KeepsSeen piece_seen
 piece_keeps c x y s p done end q f k =

@@ -9,7 +9,7 @@ use Rattle.httparse.proofs.GrammarLemmas.{request_unique}
 use Rattle.oai_http.specs.declared.statuses.Status.{Status}
 use Rattle.oai_http.specs.declared.statuses.Status.TheVariants.{BadRequest}
 use Rattle.oai_front.specs.Fields.{first_value, values_named}
-use Rattle.oai_front.specs.Messages.{head_fields, AreAlike, Begins, End, HasNoHead, IsClosing, IsFault, IsRefused, IsUnfinished, Message, NeverHasHead, ReadsMessages, Splits, Stream, closes, faults, framing_in, waits}
+use Rattle.oai_front.specs.Messages.{head_fields, AreAlike, Begins, End, HasNoHead, IsClosing, IsFault, IsRefused, IsUnfinished, Message, NeverHasHead, ReadsMessages, Splits, IsMessageStream, closes, faults, framing_in, waits}
 use Rattle.oai_front.specs.declared.request_heads.TheConstants.{MAX_HEAD_BYTES}
 use Rattle.oai_front.specs.declared.framings.Framing.{Framing}
 use Rattle.oai_front.specs.declared.framings.Framing.TheVariants.{Body, Refused}
@@ -107,7 +107,7 @@ splits_join bytes rest other [] ns s t = subst (λ (xs : List ℕ). Splits xs ns
 splits_join bytes rest other (m ∷ ms) ns s t = (s.0, s.1, s.2, splits_join s.0 rest other ms ns s.3 t)
 
 -- what was split off goes in front of what comes of the rest
-pub stream_join : (bytes rest : List ℕ) (ms ns : List Message) (end : End) → Splits bytes ms rest → Stream rest ns end → Stream bytes (ms ++ ns) end
+pub stream_join : (bytes rest : List ℕ) (ms ns : List Message) (end : End) → Splits bytes ms rest → IsMessageStream rest ns end → IsMessageStream bytes (ms ++ ns) end
 stream_join bytes rest ms ns (waits other) s t = (splits_join bytes rest other ms ns s t.0, t.1)
 stream_join bytes rest ms ns (faults status) s t = (t.0, splits_join bytes rest t.0 ms ns s t.1, t.2)
 stream_join bytes rest ms ns closes s t = (
@@ -122,7 +122,7 @@ stream_join bytes rest ms ns closes s t = (
 )
 
 -- two pieces
-pub stream_cut : (a b rest : List ℕ) (ms ns : List Message) (end : End) → Stream a ms (waits rest) → Stream (rest ++ b) ns end → Stream (a ++ b) (ms ++ ns) end
+pub stream_cut : (a b rest : List ℕ) (ms ns : List Message) (end : End) → IsMessageStream a ms (waits rest) → IsMessageStream (rest ++ b) ns end → IsMessageStream (a ++ b) (ms ++ ns) end
 stream_cut a b rest ms ns end s t = stream_join (a ++ b) (rest ++ b) ms ns end (splits_more a b rest ms s.0) t
 
 hopeless_more : (bytes more : List ℕ) → NeverHasRequest bytes ⊎ (MAX_HEAD_BYTES ≤ length bytes) → NeverHasRequest (bytes ++ more) ⊎ (MAX_HEAD_BYTES ≤ length (bytes ++ more))
@@ -135,7 +135,7 @@ fault_more bytes more status (inl never) =
 fault_more bytes more status (inr refused) = inr (refused_more bytes more status refused)
 
 -- what comes after the end changes nothing
-pub stream_over : (a b : List ℕ) (ms : List Message) (end : End) → Stream a ms end → IsClosing end → Stream (a ++ b) ms end
+pub stream_over : (a b : List ℕ) (ms : List Message) (end : End) → IsMessageStream a ms end → IsClosing end → IsMessageStream (a ++ b) ms end
 stream_over a b ms (waits rest) s closing = absurd closing
 stream_over a b ms (faults status) s closing = (s.0 ++ b, splits_more a b s.0 ms s.1, fault_more s.0 b status s.2)
 stream_over a b ms closes s closing = (s.0, s.1 ++ b, s.2, s.3 ++ b, splits_more a b s.1 s.0 s.4, reads_more s.1 b s.2 s.3 s.5, s.6, s.7)
@@ -163,7 +163,7 @@ record IsMore (bytes : List ℕ) (messages : List Message) (end : End) : Type 0 
   reads : ReadsMessages bytes message after
   stays : message.last ≡ false
   whole : messages ≡ message ∷ others
-  goes_on : Stream after others end
+  goes_on : IsMessageStream after others end
 
 Front : List ℕ → List Message → End → Type 0
 Front bytes messages end = ((messages ≡ []) × AtEnd bytes end) ⊎ (IsLast bytes messages end ⊎ IsMore bytes messages end)
@@ -176,7 +176,7 @@ closes_front bytes messages [] rest m after s r last e =
 closes_front bytes messages (n ∷ front) rest m after s r last e =
     inr (inr (record { message = n; after = s.0; others = front ++ m ∷ []; reads = s.1; stays = s.2; whole = e; goes_on = (front, rest, m, after, s.3, r, last, refl) }))
 
-front_of : (bytes : List ℕ) (messages : List Message) (end : End) → Stream bytes messages end → Front bytes messages end
+front_of : (bytes : List ℕ) (messages : List Message) (end : End) → IsMessageStream bytes messages end → Front bytes messages end
 unfolding AtEnd Front
 front_of bytes [] (waits rest) s = inl (refl, (s.0, subst IsUnfinished (sym s.0) s.1))
 front_of bytes (m ∷ ms) (waits rest) s =
@@ -236,10 +236,10 @@ unique [] ns bytes e f (inr (inr a)) (inr (inr b)) = absurd (not_cons a.message 
 unique (m ∷ ms) ns bytes e f (inr (inr a)) (inr (inr b)) =
     let same = reads_unique bytes a.message b.message a.after b.after a.reads b.reads in
     let others : ms ≡ a.others = tails_of m a.message ms a.others a.whole in
-    let one = unique ms b.others a.after e f (front_of a.after ms e (subst (λ (xs : List Message). Stream a.after xs e) (sym others) a.goes_on))
-    (front_of a.after b.others f (subst (λ (xs : List ℕ). Stream xs b.others f) (sym same.1) b.goes_on)) in
+    let one = unique ms b.others a.after e f (front_of a.after ms e (subst (λ (xs : List Message). IsMessageStream a.after xs e) (sym others) a.goes_on))
+    (front_of a.after b.others f (subst (λ (xs : List ℕ). IsMessageStream xs b.others f) (sym same.1) b.goes_on)) in
     (a.whole ∙ ap₂ (λ (x : Message) (xs : List Message). x ∷ xs) same.0 (sym others ∙ one.0) ∙ sym b.whole, one.1)
 
-pub streams_alike : (bytes : List ℕ) (ms ns : List Message) (e f : End) → Stream bytes ms e → Stream bytes ns f → (ms ≡ ns) × AreAlike e f
+pub streams_alike : (bytes : List ℕ) (ms ns : List Message) (e f : End) → IsMessageStream bytes ms e → IsMessageStream bytes ns f → (ms ≡ ns) × AreAlike e f
 unfolding AreOne
 streams_alike bytes ms ns e f s t = unique ms ns bytes e f (front_of bytes ms e s) (front_of bytes ns f t)

@@ -14,7 +14,7 @@ response_fields head = map name_and_value head.fields
 -- the bytes begin with an answer that has that status and that body, and others follow: a head, which has the number of
 -- the status, one length, in decimal digits, which is the body's, and no transfer coding; and `close` if the connection
 -- is closed after it
-pub record IsReadBack (bytes : List ℕ) (status : Status) (last : Bool) (body others : List ℕ) : Type 0 where
+pub record BeginsWithResponse (bytes : List ℕ) (status : Status) (last : Bool) (body others : List ℕ) : Type 0 where
   pub head : ResponseHead
   pub reads : ReadsResponse bytes head (body ++ others)
   pub number : status_code head ≡ number_of status

@@ -5,5 +5,5 @@ use Rattle.oai_front.specs.declared.fronts.Front.TheInside.{Inside}
 abbrev pub state_in : {H : Type 0} → Inside H → State H
 state_in f = record { handler = f.handler; limit = f.limit; last = f.last; connections = f.connections.items }
 
-abbrev pub IsHeld : {H : Type 0} → Inside H → Type 0
-IsHeld f = IsTable f.connections.items f.last
+abbrev pub HasConnectionTable : {H : Type 0} → Inside H → Type 0
+HasConnectionTable f = IsTable f.connections.items f.last

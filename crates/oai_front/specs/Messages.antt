@@ -102,10 +102,10 @@ IsClosing closes = ⊤
 IsClosing (faults status) = ⊤
 
 -- the messages of the bytes, and how they end. No bytes have two lists of messages: `split_law`
-abbrev pub Stream : List ℕ → List Message → End → Type 0
-Stream bytes messages (waits rest) = Splits bytes messages rest × IsUnfinished rest
-Stream bytes messages (faults status) = (rest : List ℕ) × Splits bytes messages rest × IsFault rest status
-Stream bytes messages closes =
+abbrev pub IsMessageStream : List ℕ → List Message → End → Type 0
+IsMessageStream bytes messages (waits rest) = Splits bytes messages rest × IsUnfinished rest
+IsMessageStream bytes messages (faults status) = (rest : List ℕ) × Splits bytes messages rest × IsFault rest status
+IsMessageStream bytes messages closes =
     (front : List Message) × (rest : List ℕ) × (message : Message) × (after : List ℕ)
     × Splits bytes front rest × ReadsMessages rest message after × (message.last ≡ true) × (messages ≡ front ++ message ∷ [])
 

@@ -25,8 +25,8 @@ IsNext bytes (Message head) = IsHead bytes head × (head.size ≤ length (drop h
 abbrev pub body_behind : List ℕ → Head → List ℕ
 body_behind bytes head = take head.size (drop head.start bytes)
 
-abbrev pub behind : List ℕ → Head → List ℕ
-behind bytes head = drop head.size (drop head.start bytes)
+abbrev pub behind_message : List ℕ → Head → List ℕ
+behind_message bytes head = drop head.size (drop head.start bytes)
 
 abbrev pub message_behind : List ℕ → Head → Asked
 message_behind bytes head = record {

@@ -40,7 +40,7 @@ abbrev pub parse_unless_full : ℕ → List ℕ → HeadParse
 parse_unless_full most bytes = if nat_lt (length bytes) most then Unknown else Fault BadRequest
 
 -- the result for a head that was found
-abbrev pub IsKept : List ℕ → HeadParse → Type 0
-IsKept bytes Unknown = ⊥
-IsKept bytes (Fault status) = IsRefused bytes status
-IsKept bytes (Whole head) = IsHead bytes head
+abbrev pub IsHeadResult : List ℕ → HeadParse → Type 0
+IsHeadResult bytes Unknown = ⊥
+IsHeadResult bytes (Fault status) = IsRefused bytes status
+IsHeadResult bytes (Whole head) = IsHead bytes head

@@ -4,8 +4,8 @@ use Rattle.std.specs.Prelude.{◌≡◌, ◌⊎◌, ◌<◌, ◌≤◌, ℕ, ℤ
 use Rattle.std.specs.List.{before_first, flat_map, list_any, sum_by}
 use Rattle.oai_front.specs.Connections.{Connection, fresh, rest_at, stage_at}
 use Rattle.oai_front.specs.Fronts.{HasOutput, IsChange, IsEnding, IsForgetting, IsOpening, IsPiece, IsTaking, State, connection_numbered}
-use Rattle.oai_front.specs.Messages.{End, HasWhole, IsUnfinished, Message, Splits, Stream, waits}
-use Rattle.oai_front.specs.Performing.{Chain, Done, Steps, answers_of, end_bytes, messages_of}
+use Rattle.oai_front.specs.Messages.{End, HasWhole, IsMessageStream, IsUnfinished, Message, Splits, waits}
+use Rattle.oai_front.specs.Performing.{AnsweredMessage, Chain, Steps, answers_of, end_bytes, messages_of}
 use Rattle.oai_front.specs.declared.faults.PieceFault.{PieceFault}
 use Rattle.oai_front.specs.declared.faults.PieceFault.TheVariants as refusal
 use Rattle.oai_front.specs.declared.numbers.ConnId.{ConnId}
@@ -53,7 +53,7 @@ Comes step old calls new = Chain (IsCall step) calls old new
 pub record Served : Type 0 where
   pub number : ℕ
   pub moment : ℤ
-  pub done : Done
+  pub done : AnsweredMessage
 
 -- the handler performs messages one after the other, whichever connections they came on
 abbrev pub Serves : {H : Type 0} → Steps H → H → List Served → H → Type 0
@@ -62,16 +62,16 @@ Serves step old served new = Chain (λ s before after. step before s.moment s.do
 -- the effect of a call: the messages that were performed with it
 pub record CallOutcome : Type 0 where
   pub call : FrontCall
-  pub done : List Done
+  pub done : List AnsweredMessage
 
 abbrev pub calls_of : List CallOutcome → List FrontCall
 calls_of outcomes = map (λ d. d.call) outcomes
 
 -- a message performed with a piece was served on its connection, at its moment
-abbrev pub served_with : Piece → Done → Served
+abbrev pub served_with : Piece → AnsweredMessage → Served
 served_with p done = record { number = p.number; moment = p.moment; done = done }
 
-abbrev pub served_by : FrontCall → List Done → List Served
+abbrev pub served_by : FrontCall → List AnsweredMessage → List Served
 served_by (Came p) done = map (served_with p) done
 served_by call done = []
 
@@ -84,7 +84,7 @@ all_served outcomes = flat_map (λ d. served_by d.call d.done) outcomes
 abbrev pub served_on : ℕ → Served → Bool
 served_on number s = s.number == number
 
-unfoldable pub done_on : ℕ → List Served → List Done
+unfoldable pub done_on : ℕ → List Served → List AnsweredMessage
 done_on number served = map (λ s. s.done) (filter (served_on number) served)
 
 -- the bytes that came on it before its end
@@ -92,12 +92,12 @@ abbrev pub is_over : ℕ → FrontCall → Bool
 is_over number (Over other) = other == number
 is_over number call = false
 
-abbrev pub bytes_of : ℕ → FrontCall → List ℕ
-bytes_of number (Came p) = if p.number == number then p.bytes else []
-bytes_of number call = []
+abbrev pub bytes_of_call : ℕ → FrontCall → List ℕ
+bytes_of_call number (Came p) = if p.number == number then p.bytes else []
+bytes_of_call number call = []
 
-unfoldable pub bytes_on : ℕ → List FrontCall → List ℕ
-bytes_on number calls = flat_map (bytes_of number) (before_first (is_over number) calls)
+unfoldable pub bytes_of_calls : ℕ → List FrontCall → List ℕ
+bytes_of_calls number calls = flat_map (bytes_of_call number) (before_first (is_over number) calls)
 
 -- how many bytes of its output were taken
 abbrev pub taken_count : ℕ → FrontCall → ℕ
@@ -114,14 +114,14 @@ abbrev pub comes_on : ℕ → FrontCall → Bool
 comes_on number (Came p) = p.number == number
 comes_on number call = false
 
-abbrev pub is_whole : Option FrontCall → Bool
-is_whole (Some (Came p)) = p.whole
-is_whole call = true
+abbrev pub is_whole_call : Option FrontCall → Bool
+is_whole_call (Some (Came p)) = p.whole
+is_whole_call call = true
 
 -- what some calls did to a connection
 pub record Seen : Type 0 where
   pub bytes : List ℕ
-  pub done : List Done
+  pub done : List AnsweredMessage
   pub taken : ℕ
   pub whole : Bool
   pub over : Bool
@@ -129,17 +129,17 @@ pub record Seen : Type 0 where
 
 unfoldable pub seen : ℕ → List CallOutcome → Seen
 seen number outcomes = record {
-  bytes = bytes_on number (calls_of outcomes);
+  bytes = bytes_of_calls number (calls_of outcomes);
   done = done_on number (all_served outcomes);
   taken = sum_by (taken_count number) (calls_of outcomes);
-  whole = is_whole (find (comes_on number) (reverse (calls_of outcomes)));
+  whole = is_whole_call (find (comes_on number) (reverse (calls_of outcomes)));
   over = list_any (is_over number) (calls_of outcomes);
   forgotten = list_any (is_forgotten number) (calls_of outcomes);
 }
 
 -- the messages of the bytes, up to that end: all of them; or the first of them, and something complete waits
 abbrev pub ArePerformed : Bool → List ℕ → List Message → End → Type 0
-ArePerformed true bytes messages end = Stream bytes messages end
+ArePerformed true bytes messages end = IsMessageStream bytes messages end
 ArePerformed false bytes messages (waits rest) = Splits bytes messages rest × HasWhole rest
 ArePerformed false bytes messages end = ⊥
 

@@ -125,7 +125,7 @@ impl Connection {
         ensures { IsTakenIn H.step moment piece.now self.old handler.old result self.new handler.new }
     {
         match self.read(piece) {
-            Ok(()) => self.perform(alloc, handler, moment),
+            Ok(()) => self.perform_messages(alloc, handler, moment),
             Err(_) => Err(PieceFault::NoMemory),
         }
     }
@@ -143,7 +143,7 @@ impl Connection {
     }
 
     /// Performs at the moment all complete messages.
-    fn perform<H: Handler>(
+    fn perform_messages<H: Handler>(
         &mut self,
         alloc: Global,
         handler: &mut H,

@@ -28,11 +28,11 @@ impl<H> Model for Front<H> {
 
     ghost Value = { State H };
 
-    ghost use Rattle.oai_front.specs.FrontInside.{IsHeld, state_in};
+    ghost use Rattle.oai_front.specs.FrontInside.{HasConnectionTable, state_in};
 
     ghost view = { state_in };
 
-    ghost invariant = { IsHeld };
+    ghost invariant = { HasConnectionTable };
 }
 
 impl<H> Front<H> {

@@ -1,10 +1,10 @@
 ghost use Rattle.std.specs.Prelude.{◌≡◌, ℕ, Bool, true, List, [], ◌++◌};
 ghost use Rattle.oai_http.specs.declared.exchanges.Answer.{Answer as Given};
 ghost use Rattle.oai_http.specs.declared.statuses.Status.{Status};
-ghost use Rattle.oai_front.specs.Clients.{IsReadBack};
+ghost use Rattle.oai_front.specs.Clients.{BeginsWithResponse};
 ghost use Rattle.oai_front.specs.Fronts.{State};
 ghost use Rattle.oai_front.specs.Heads.{answer_bytes, fault_bytes};
-ghost use Rattle.oai_front.specs.Messages.{AreAlike, End, IsClosing, IsUnfinished, Message, Splits, Stream, waits};
+ghost use Rattle.oai_front.specs.Messages.{AreAlike, End, IsClosing, IsMessageStream, IsUnfinished, Message, Splits, waits};
 ghost use Rattle.oai_front.specs.Runs.{AreServed, Comes, FrontCall};
 
 use crate::framings::{MAX_BODY_BYTES, MAX_DEPOSIT_BYTES, MAX_LENGTH_DIGITS};
@@ -16,7 +16,7 @@ use oai_http::Handler;
 /// proved by an empty function.
 pub fn split_law()
     ensures alike { (bytes : List ℕ) (messages others : List Message) (end other : End)
-        → Stream bytes messages end → Stream bytes others other
+        → IsMessageStream bytes messages end → IsMessageStream bytes others other
         → (messages ≡ others) × AreAlike end other }
 {}
 
@@ -25,13 +25,13 @@ pub fn split_law()
 /// What was performed before memory ran out is a prefix of what was completed. A theorem, proved by an empty function.
 pub fn cut_law()
     ensures joined { (first second rest : List ℕ) (messages others : List Message) (end : End)
-        → Stream first messages (waits rest) → Stream (rest ++ second) others end
-        → Stream (first ++ second) (messages ++ others) end }
+        → IsMessageStream first messages (waits rest) → IsMessageStream (rest ++ second) others end
+        → IsMessageStream (first ++ second) (messages ++ others) end }
     ensures over { (first second : List ℕ) (messages : List Message) (end : End)
-        → Stream first messages end → IsClosing end → Stream (first ++ second) messages end }
+        → IsMessageStream first messages end → IsClosing end → IsMessageStream (first ++ second) messages end }
     ensures begun { (bytes rest : List ℕ) (messages others : List Message) (end : End)
-        → Splits bytes messages rest → Stream rest others end
-        → Stream bytes (messages ++ others) end }
+        → Splits bytes messages rest → IsMessageStream rest others end
+        → IsMessageStream bytes (messages ++ others) end }
 {}
 
 /// The calls of a front come one after the other, on any number of connections, interleaved in any way; those that are
@@ -51,9 +51,9 @@ pub fn run_law<H: Handler>()
 /// empty function.
 pub fn head_law()
     ensures answers { (target : List ℕ) (last : Bool) (answer : Given) (others : List ℕ)
-        → IsReadBack (answer_bytes target last answer ++ others) answer.status last answer.body others }
+        → BeginsWithResponse (answer_bytes target last answer ++ others) answer.status last answer.body others }
     ensures faults { (status : Status) (others : List ℕ)
-        → IsReadBack (fault_bytes status ++ others) status true [] others }
+        → BeginsWithResponse (fault_bytes status ++ others) status true [] others }
 {}
 
 /// The limits in numbers, since definitions read them by their names. A theorem, proved

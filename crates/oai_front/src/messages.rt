@@ -6,9 +6,9 @@ ghost use Rattle.oai_http.specs.Exchanges.{asked_by};
 ghost use Rattle.oai_http.specs.Targets.{endpoint_of};
 ghost use Rattle.oai_front.specs.Queues.{AreFilled, IsTaken};
 ghost use Rattle.oai_front.specs.RequestHeads.{IsHead};
-ghost use Rattle.oai_front.specs.Pipelining.{IsRemainder, IsNext, behind, message_behind};
+ghost use Rattle.oai_front.specs.Pipelining.{IsRemainder, IsNext, behind_message, message_behind};
 
-use crate::queues::{perform, put_fault};
+use crate::queues::{perform_message, put_fault};
 use crate::request_heads::{Head, HeadParse, read_head};
 use httparse::spans::Span;
 use oai_http::{Exchange, Handler, Status};
@@ -69,7 +69,7 @@ pub(crate) fn perform_all<H: Handler>(
             }
             Next::Message(head) => {
                 let exchange = exchange_of(rest, &head);
-                match perform(alloc, handler, moment, &exchange, &head, queue) {
+                match perform_message(alloc, handler, moment, &exchange, &head, queue) {
                     Ok(()) => {}
                     Err(_) => return Left::Refused(bytes.len() - rest.len(), Some(head)),
                 }
@@ -122,7 +122,7 @@ fn behind_head<'b>(bytes: &'b [u8], head: &Head) -> &'b [u8]
 fn after<'b>(bytes: &'b [u8], head: &Head) -> &'b [u8]
     requires head { IsHead bytes.now head.now }
     requires whole { head.now.size ≤ length (drop head.now.start bytes.now) }
-    ensures { result.now ≡ behind bytes.now head.now }
+    ensures { result.now ≡ behind_message bytes.now head.now }
 {
     &behind_head(bytes, head)[head.size..]
 }

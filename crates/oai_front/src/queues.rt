@@ -19,7 +19,7 @@ use std::collections::VecDeque;
 /// Performs a message with that head and appends its answer to the output. Space for the answer's head, and in the
 /// queue, is reserved before the message is performed; the body is moved, not copied. The error is out of memory;
 /// nothing was performed then.
-pub(crate) fn perform<H: Handler>(
+pub(crate) fn perform_message<H: Handler>(
     alloc: Global,
     handler: &mut H,
     moment: i64,

@@ -1,6 +1,6 @@
 ghost use Rattle.std.specs.Prelude.{◌≡◌, ◌≤◌, length, take};
 ghost use Rattle.httparse.specs.Spans.{IsRequestOf, IsRequestWithin};
-ghost use Rattle.oai_front.specs.RequestHeads.{IsHeadParse, IsKept, parse_unless_full};
+ghost use Rattle.oai_front.specs.RequestHeads.{IsHeadParse, IsHeadResult, parse_unless_full};
 
 use crate::fields::read_fields;
 use crate::framings::{Framing, framing_of};
@@ -96,7 +96,7 @@ fn kept_of(bytes: &[u8], spans: &RequestSpans, headers: &[HeaderSpan]) -> HeadPa
     requires few { length headers.now ≤ MAX_HEAD_FIELDS }
     requires within { IsRequestWithin bytes.now headers.now spans.now }
     requires read { IsRequestOf bytes.now headers.now spans.now }
-    ensures { IsKept bytes.now result }
+    ensures { IsHeadResult bytes.now result }
 {
     let fields = read_fields(bytes, &headers[..spans.headers]);
     let endpoint = endpoint_of(spans.path.of(bytes));

@@ -17,30 +17,30 @@ use Rattle.oai_item.specs.Item.{ItemState}
 use Rattle.oai_item.specs.declared.deleted_record.DeletedRecord.TheVariants.{Persistent}
 use Rattle.oai_item.specs.declared.formats.Format.{Format}
 use Rattle.oai_item.specs.Selection.{selected}
-use Rattle.oai_answers.specs.Answers.{Answer, Page, fails, lists_records, whole}
+use Rattle.oai_answers.specs.Answers.{Page, VerbAnswer, fails, lists_records, whole}
 use Rattle.oai_answers.specs.Seen.{SeenAnswer, SeenDocument, SeenRecord, SeenToken, answer_seen, no_token, record_seen, seen_error, seen_formats, seen_headers, seen_identity, seen_record, seen_records, seen_sets, seen_token, token_seen}
 use Rattle.oai_answers.specs.declared.errors.ErrorCode.{ErrorCode}
 use Rattle.oai_answers.specs.declared.errors.ErrorCode.TheVariants.{BadArgument, BadResumptionToken, BadVerb, CannotDisseminateFormat, IdDoesNotExist, NoMetadataFormats, NoRecordsMatch, NoSetHierarchy}
-use Rattle.oai_settings.specs.Config.{Config, IsConfig}
+use Rattle.oai_settings.specs.Config.{IsConfig, RepositoryConfig}
 use Rattle.oai_repo.specs.Answers.{arguments_of_request, filter_of}
 use Rattle.oai_repo.specs.Listing.{answer_by_verb, format_response}
 use Rattle.oai_repo.specs.Machine.{act, outcome_of}
 use Rattle.oai_repo.specs.State.{RepoState, empty_state}
 use Rattle.oai_repo.proofs.ClockLemmas.{writable}
 use Rattle.oai_laws.specs.Effects.{IsSound}
-use Rattle.oai_laws.specs.Following.{AreNext, ArePagesAt, IsChain, IsNextRequest, ListRequest, answer_in, first_request, is_later, page_in, page_shown, selection_in}
+use Rattle.oai_laws.specs.Following.{AreNext, ArePagesAt, IsChain, IsNextRequest, ListQuery, answer_in, first_request, is_later, page_in, page_shown, selection_in}
 use Rattle.oai_laws.specs.Harvests.{AreHarvests, Harvest, IsHarvest, IsWholeCopy, datestamp_of, harvested, items_told, last_harvest, records_since}
-use Rattle.oai_laws.specs.Runs.{Exchange, IsPart, Timed, run}
+use Rattle.oai_laws.specs.Runs.{IsPart, Timed, Transition, run}
 use Rattle.oai_laws.specs.Shown.{is_followed_to_its_end, is_last_page}
 use Rattle.oai_laws.proofs.ChainLemmas.{chain_followed}
 use Rattle.oai_laws.proofs.HarvestLemmas.{harvests_copied, part_first}
 use Rattle.oai_laws.proofs.WholeLemmas.{none_told, whole_told}
 use Rattle.oai_copy.specs.Copies.{caught_up_with}
 use Rattle.oai_config.specs.Configs.{NamedConfig}
-use Rattle.oai_http.specs.declared.exchanges.Answer.{Answer as HttpAnswer}
+use Rattle.oai_http.specs.declared.exchanges.Answer.{Answer}
 use Rattle.oai_http.specs.declared.exchanges.Call.{Call}
 use Rattle.oai_host.specs.Tasks.{asking}
-use Rattle.oai_headline.specs.ClientHarvests.{AreClientHarvests, AreNextSeen, AreSuccessiveByClient, ClientHarvest, IsClientHarvest, IsNextSeen, IsRecordIn, IsSeenVisit, IsWholeClientCopy, SeenVisit, client_copy, datestamp_in, is_harvest_end, last_client_harvest, last_of_each, last_visit, records_of, records_seen, visits_of}
+use Rattle.oai_headline.specs.ClientHarvests.{AreClientHarvests, AreNextSeen, AreSuccessiveByClient, ClientHarvest, IsClientHarvest, IsNextSeen, IsRecordIn, IsSeenVisit, IsWholeClientCopy, SeenVisit, client_copy, datestamp_in, is_harvest_end, last_client_harvest, last_of_each, last_visit, records_of_harvest, records_seen, visits_of}
 use Rattle.oai_startup.specs.Rules.{HasRules}
 use Rattle.oai_host.specs.Alone.{own_answers, own_calls}
 use Rattle.oai_headline.specs.Throughout.{AreTrueFrom, own_calls_done, own_given, whole_visits}
@@ -56,29 +56,29 @@ use Rattle.oai_headline.proofs.TakenLemmas.{IsAsking, IsReachable, IsTaken, reac
 
 -- ---- the step of a visit
 
-pub taken_reachable : (config : Config) (visit : Visit) (step : Exchange) → IsTaken config visit step → IsReachable config step.found
+pub taken_reachable : (config : RepositoryConfig) (visit : Visit) (step : Transition) → IsTaken config visit step → IsReachable config step.found
 taken_reachable config visit step h =
     subst (IsReachable config) (sym (taken_found config visit step h)) (reachable_moved config visit.call.moment visit.before h.reachable)
 
-pub taken_acted : (config : Config) (visit : Visit) (step : Exchange) → IsTaken config visit step → step.outcome ≡ (act config step.found step.command).0
-taken_acted config visit step h = subst (λ (e : Exchange). e.outcome ≡ (act config e.found e.command).0) (sym h.is) refl
+pub taken_acted : (config : RepositoryConfig) (visit : Visit) (step : Transition) → IsTaken config visit step → step.outcome ≡ (act config step.found step.command).0
+taken_acted config visit step h = subst (λ (e : Transition). e.outcome ≡ (act config e.found e.command).0) (sym h.is) refl
 
 -- a visit has one step
-pub taken_once : (config : Config) (visit : Visit) (a b : Exchange) → IsTaken config visit a → IsTaken config visit b → a ≡ b
+pub taken_once : (config : RepositoryConfig) (visit : Visit) (a b : Transition) → IsTaken config visit a → IsTaken config visit b → a ≡ b
 taken_once config visit a b this that =
     let asks : asking this.arguments ≡ asking that.arguments = sym this.asked ∙ that.asked in
     let same : this.arguments ≡ that.arguments = cc in
     this.is ∙ ap (step_with config visit) same ∙ sym that.is
 
 -- what the client sees in the answer is what the step answered
-pub record IsMatched (config : Config) (visited : SeenVisit) (step : Exchange) : Type 0 where
+pub record IsMatched (config : RepositoryConfig) (visited : SeenVisit) (step : Transition) : Type 0 where
   pub taken : IsTaken config visited.visit step
   pub sees : IsSeenOf config step visited.seen
 
 abbrev pub visit_in : SeenVisit → Visit
 visit_in visited = visited.visit
 
-matched : (config : Config) (some : List SeenVisit) (steps : List Exchange) → AreRepositoryFormats config.formats → AllZip (IsTaken config) (map visit_in some) steps
+matched : (config : RepositoryConfig) (some : List SeenVisit) (steps : List Transition) → AreRepositoryFormats config.formats → AllZip (IsTaken config) (map visit_in some) steps
     → AllByRecursion IsSeenVisit some → AllZip (IsMatched config) some steps
 matched config [] [] formats each seen = tt
 matched config [] (step ∷ steps) formats each seen = absurd each
@@ -88,14 +88,14 @@ matched config (visited ∷ some) (step ∷ steps) formats each seen = (
   matched config some steps formats each.1 seen.1,
 )
 
-next_asking : (config : Config) (before : SeenVisit) (others : List SeenVisit) → AreNextSeen config before others → AllByRecursion IsAsking (map visit_in others)
+next_asking : (config : RepositoryConfig) (before : SeenVisit) (others : List SeenVisit) → AreNextSeen config before others → AllByRecursion IsAsking (map visit_in others)
 next_asking config before [] next = tt
 next_asking config before (visited ∷ others) next =
     (record { arguments = next.0.asked.arguments; asked = next.0.asked.asked }, next_asking config visited others next.1)
 
 -- ---- the links
 
-link : (config : Config) (before after : SeenVisit) (b a : Exchange) → IsConfig config → IsMatched config before b → IsMatched config after a → IsNextSeen config before after
+link : (config : RepositoryConfig) (before after : SeenVisit) (b a : Transition) → IsConfig config → IsMatched config before b → IsMatched config after a → IsNextSeen config before after
     → IsNextRequest list.Records b a
 link config before after b a rules is its next =
     let page = list_seen config b before.seen next.records (seen_token next.token (second_text next.expires) next.size next.cursor) is.sees next.offered in
@@ -112,7 +112,7 @@ link config before after b a rules is its next =
       unexpired = ap (λ (z : ℤ). int_lt z next.expires) at ∙ next.unexpired;
     }
 
-links : (config : Config) (before : SeenVisit) (others : List SeenVisit) (b : Exchange) (steps : List Exchange) → IsConfig config → IsMatched config before b
+links : (config : RepositoryConfig) (before : SeenVisit) (others : List SeenVisit) (b : Transition) (steps : List Transition) → IsConfig config → IsMatched config before b
     → AllZip (IsMatched config) others steps → AreNextSeen config before others → AreNext list.Records b steps
 links config before [] b [] rules is each next = tt
 links config before [] b (a ∷ steps) rules is each next = absurd each
@@ -123,59 +123,59 @@ links config before (visited ∷ others) b (a ∷ steps) rules is each next =
 -- ---- pages
 
 -- the step answered a page of records in that format, and with datestamps of the repository's granularity
-pub record IsPaged (config : Config) (format : Format) (step : Exchange) : Type 0 where
+pub record IsPaged (config : RepositoryConfig) (format : Format) (step : Transition) : Type 0 where
   pub page : Page
   pub told : answer_in step.outcome ≡ Some (lists_records format page)
   pub dated : page.granularity ≡ config.granularity
 
-pub all_paged : (config : Config) (format : Format) (size before : ℕ) (steps : List Exchange) (pages : List Page)
-    → map (λ (exchange : Exchange). answer_in exchange.outcome) steps ≡ map (λ (page : Page). Some (answer_by_verb list.Records format page)) pages → ArePagesAt config size before pages
+pub all_paged : (config : RepositoryConfig) (format : Format) (size before : ℕ) (steps : List Transition) (pages : List Page)
+    → map (λ (exchange : Transition). answer_in exchange.outcome) steps ≡ map (λ (page : Page). Some (answer_by_verb list.Records format page)) pages → ArePagesAt config size before pages
     → AllByRecursion (IsPaged config format) steps
 all_paged config format size before [] pages told placed = tt
 all_paged config format size before (step ∷ steps) [] told placed = cc
 all_paged config format size before (step ∷ steps) (page ∷ pages) told placed =
     let here : answer_in step.outcome ≡ Some (lists_records format page) = cc in
-    let rest : map (λ (exchange : Exchange). answer_in exchange.outcome) steps ≡ map (λ (page : Page). Some (answer_by_verb list.Records format page)) pages = cc in
+    let rest : map (λ (exchange : Transition). answer_in exchange.outcome) steps ≡ map (λ (page : Page). Some (answer_by_verb list.Records format page)) pages = cc in
     (record { page = page; told = here; dated = placed.0.dated }, all_paged config format size (before + length page.items) steps pages rest placed.1)
 
-pub paged_answer : (config : Config) (format : Format) (step : Exchange) (seen : SeenDocument) (sees : IsSeenOf config step seen) (paged : IsPaged config format step)
+pub paged_answer : (config : RepositoryConfig) (format : Format) (step : Transition) (seen : SeenDocument) (sees : IsSeenOf config step seen) (paged : IsPaged config format step)
     → sees.its.answer ≡ lists_records format paged.page
 paged_answer config format step seen sees paged =
     let both : Some sees.its.answer ≡ Some (lists_records format paged.page) = sym (ap answer_in sees.told) ∙ paged.told in
     let it : sees.its.answer ≡ lists_records format paged.page = cc in it
 
 -- the records that are seen are those of its items
-records_paged : (config : Config) (format : Format) (step : Exchange) (seen : SeenDocument) → IsSeenOf config step seen → IsPaged config format step
+records_paged : (config : RepositoryConfig) (format : Format) (step : Transition) (seen : SeenDocument) → IsSeenOf config step seen → IsPaged config format step
     → records_seen seen.answer ≡ map (record_seen config.granularity format) (items_told (page_shown step.outcome))
 records_paged config format step seen sees paged =
     ap (λ (s : SeenDocument). records_seen s.answer) (sym sees.shown)
-    ∙ ap (λ (a : Answer). records_seen (answer_seen sees.its.base a)) (paged_answer config format step seen sees paged)
+    ∙ ap (λ (a : VerbAnswer). records_seen (answer_seen sees.its.base a)) (paged_answer config format step seen sees paged)
     ∙ ap (λ (g : Granularity). map (record_seen g format) paged.page.items) paged.dated
     ∙ ap (λ (o : Option Page). map (record_seen config.granularity format) (items_told o)) (sym (page_in_answer step.outcome format paged.page paged.told))
 
-all_records : (config : Config) (format : Format) (some : List SeenVisit) (steps : List Exchange) → AllZip (IsMatched config) some steps → AllByRecursion (IsPaged config format) steps
+all_records : (config : RepositoryConfig) (format : Format) (some : List SeenVisit) (steps : List Transition) → AllZip (IsMatched config) some steps → AllByRecursion (IsPaged config format) steps
     → flat_map (λ (visited : SeenVisit). records_seen visited.seen.answer) some
-    ≡ map (record_seen config.granularity format) (flat_map (λ (exchange : Exchange). items_told (page_shown exchange.outcome)) steps)
+    ≡ map (record_seen config.granularity format) (flat_map (λ (exchange : Transition). items_told (page_shown exchange.outcome)) steps)
 all_records config format [] [] each paged = refl
 all_records config format [] (step ∷ steps) each paged = absurd each
 all_records config format (visited ∷ some) [] each paged = absurd each
 all_records config format (visited ∷ some) (step ∷ steps) each paged =
     let f : ItemState → SeenRecord = record_seen config.granularity format in
-    let items : List ItemState = flat_map (λ (exchange : Exchange). items_told (page_shown exchange.outcome)) steps in
+    let items : List ItemState = flat_map (λ (exchange : Transition). items_told (page_shown exchange.outcome)) steps in
     ap (λ (xs : List SeenRecord). xs ++ flat_map (λ (v : SeenVisit). records_seen v.seen.answer) some) (records_paged config format step visited.seen each.0.sees paged.0)
     ∙ ap (λ (ys : List SeenRecord). map f (items_told (page_shown step.outcome)) ++ ys) (all_records config format some steps each.1 paged.1)
     ∙ sym (map-append f (items_told (page_shown step.outcome)) items)
 
 -- the list ends with it where that is seen
-pub end_paged : (config : Config) (format : Format) (step : Exchange) (seen : SeenDocument) → IsSeenOf config step seen → IsPaged config format step
+pub end_paged : (config : RepositoryConfig) (format : Format) (step : Transition) (seen : SeenDocument) → IsSeenOf config step seen → IsPaged config format step
     → is_harvest_end seen.answer ≡ is_last_page (page_shown step.outcome)
 end_paged config format step seen sees paged =
     ap (λ (s : SeenDocument). is_harvest_end s.answer) (sym sees.shown)
-    ∙ ap (λ (a : Answer). is_harvest_end (answer_seen sees.its.base a)) (paged_answer config format step seen sees paged)
+    ∙ ap (λ (a : VerbAnswer). is_harvest_end (answer_seen sees.its.base a)) (paged_answer config format step seen sees paged)
     ∙ end_seen paged.page.continuation
     ∙ ap is_last_page (sym (page_in_answer step.outcome format paged.page paged.told))
 
-last_ends : (config : Config) (format : Format) (visited : SeenVisit) (others : List SeenVisit) (step : Exchange) (steps : List Exchange) → IsMatched config visited step
+last_ends : (config : RepositoryConfig) (format : Format) (visited : SeenVisit) (others : List SeenVisit) (step : Transition) (steps : List Transition) → IsMatched config visited step
     → AllZip (IsMatched config) others steps → AllByRecursion (IsPaged config format) (step ∷ steps) → is_harvest_end (last_visit visited others).seen.answer ≡ true
     → is_followed_to_its_end (step ∷ steps) ≡ true
 last_ends config format visited [] step [] is each paged ended =
@@ -188,7 +188,7 @@ last_ends config format visited (other ∷ others) step (next ∷ steps) is each
 -- ---- the first answer
 
 -- one that lists records tells all of them, or a part of a longer list
-record IsWholeAnswer (config : Config) (prefix : List ℕ) (step : Exchange) : Type 0 where
+record IsWholeAnswer (config : RepositoryConfig) (prefix : List ℕ) (step : Transition) : Type 0 where
   pub format : Format
   pub known : format_named prefix config.formats ≡ Some format
   pub paged : IsPaged config format step
@@ -198,11 +198,11 @@ pub none_or_some : (items : List ItemState) → (items ≡ []) ⊎ (items ≢ []
 none_or_some [] = inl refl
 none_or_some (item ∷ items) = inr (λ e. cc)
 
-long_or_whole : (config : Config) (prefix : List ℕ) (from : Option (List ℕ)) (step : Exchange) (format : Format) (page : Page) → IsSound config step.found
+long_or_whole : (config : RepositoryConfig) (prefix : List ℕ) (from : Option (List ℕ)) (step : Transition) (format : Format) (page : Page) → IsSound config step.found
     → step.outcome ≡ (act config step.found (first_request (records_since prefix from))).0 → answer_in step.outcome ≡ Some (lists_records format page)
     → (config.chunk < length (selection_in step.found (records_since prefix from))) ⊎ IsWholeAnswer config prefix step
 long_or_whole config prefix from step format page sound acted told =
-    let request : ListRequest = records_since prefix from in
+    let request : ListQuery = records_since prefix from in
     let selection : List ItemState = selection_in step.found request in
     elim (none_or_some selection) [
       | inl none ↦
@@ -224,7 +224,7 @@ long_or_whole config prefix from step format page sound acted told =
     ]
 
 -- where no records match, the repository has the format
-none_known : (config : Config) (state : RepoState) (prefix : List ℕ) (from : Option (List ℕ))
+none_known : (config : RepositoryConfig) (state : RepoState) (prefix : List ℕ) (from : Option (List ℕ))
     → answer_in (act config state (first_request (records_since prefix from))).0 ≡ Some (fails NoRecordsMatch) → (format : Format) × (format_named prefix config.formats ≡ Some format)
 unfolding act
 none_known config state prefix from h = by (format_named prefix config.formats) refl h
@@ -262,14 +262,14 @@ end_is (seen_records records token) h = inr (records, token, refl)
 -- ---- a harvest
 
 -- what the client sees of it is what the steps of the machine's harvest told
-pub record IsToldAs (config : Config) (prefix : List ℕ) (harvest : ClientHarvest) (machine : Harvest) : Type 0 where
+pub record IsToldAs (config : RepositoryConfig) (prefix : List ℕ) (harvest : ClientHarvest) (machine : Harvest) : Type 0 where
   pub taken : IsTaken config harvest.first.visit machine.first
   pub date : datestamp_of config machine ≡ datestamp_in config.granularity harvest.first.seen.date
   pub format : Format
   pub known : format_named prefix config.formats ≡ Some format
-  pub records : records_of harvest ≡ map (record_seen config.granularity format) (harvested machine)
+  pub records : records_of_harvest harvest ≡ map (record_seen config.granularity format) (harvested machine)
 
-pub record IsMet (config : Config) (exchanges : List Exchange) (prefix : List ℕ) (from : Option (List ℕ)) (harvest : ClientHarvest) : Type 0 where
+pub record IsMet (config : RepositoryConfig) (exchanges : List Transition) (prefix : List ℕ) (from : Option (List ℕ)) (harvest : ClientHarvest) : Type 0 where
   pub machine : Harvest
   pub among : IsPart (machine.first ∷ []) exchanges
   pub made : IsHarvest config exchanges (records_since prefix from) machine
@@ -279,14 +279,14 @@ date_of : (g : Granularity) (clock : ℤ) (date : List ℕ) → IsWritable clock
 date_of Day clock date dated same = sym (day_text-stamp_of clock dated) ∙ sym (day_in_second clock) ∙ ap (take 10) same
 date_of Second clock date dated same = same
 
-first_date : (config : Config) (visited : SeenVisit) (step : Exchange) (steps : List Exchange) → IsMatched config visited step
+first_date : (config : RepositoryConfig) (visited : SeenVisit) (step : Transition) (steps : List Transition) → IsMatched config visited step
     → datestamp_of config (record { first = step; others = steps }) ≡ datestamp_in config.granularity visited.seen.date
 first_date config visited step steps is =
     date_of config.granularity step.found.clock visited.seen.date (writable step.found.clock (taken_reachable config visited.visit step is.taken).years)
     (seen_date config step visited.seen is.sees)
 
 -- of its visits and their steps
-record AreMatched (config : Config) (begun : RepoState) (commands : List Timed) (prefix : List ℕ) (from : Option (List ℕ)) (first : SeenVisit) (others : List SeenVisit) (step : Exchange) (steps : List Exchange) : Type 0 where
+record AreMatched (config : RepositoryConfig) (begun : RepoState) (commands : List Timed) (prefix : List ℕ) (from : Option (List ℕ)) (first : SeenVisit) (others : List SeenVisit) (step : Transition) (steps : List Transition) : Type 0 where
   pub rules : IsConfig config
   pub sound : IsSound config begun
   pub here : IsMatched config first step
@@ -296,14 +296,14 @@ record AreMatched (config : Config) (begun : RepoState) (commands : List Timed) 
   pub next : AreNextSeen config first others
   pub ended : is_harvest_end (last_visit first others).seen.answer ≡ true
 
-abbrev MetAt : Config → RepoState → List Timed → List ℕ → Option (List ℕ) → SeenVisit → List SeenVisit → Type 0
+abbrev MetAt : RepositoryConfig → RepoState → List Timed → List ℕ → Option (List ℕ) → SeenVisit → List SeenVisit → Type 0
 MetAt config begun commands prefix from first others = IsMet config (run config begun commands) prefix from (record { first = first; others = others })
 
-long_met : (config : Config) (begun : RepoState) (commands : List Timed) (prefix : List ℕ) (from : Option (List ℕ)) (first : SeenVisit) (others : List SeenVisit) (step : Exchange) (steps : List Exchange)
+long_met : (config : RepositoryConfig) (begun : RepoState) (commands : List Timed) (prefix : List ℕ) (from : Option (List ℕ)) (first : SeenVisit) (others : List SeenVisit) (step : Transition) (steps : List Transition)
     → AreMatched config begun commands prefix from first others step steps → config.chunk < length (selection_in step.found (records_since prefix from)) → MetAt config begun commands prefix from first others
 long_met config begun commands prefix from first others step steps h long =
-    let request : ListRequest = records_since prefix from in
-    let exchanges : List Exchange = run config begun commands in
+    let request : ListQuery = records_since prefix from in
+    let exchanges : List Transition = run config begun commands in
     let chain : IsChain config exchanges request step steps = record {
       among = h.among;
       verb = refl;
@@ -334,7 +334,7 @@ long_met config begun commands prefix from first others step steps h long =
     }
 
 -- in one answer
-whole_met : (config : Config) (begun : RepoState) (commands : List Timed) (prefix : List ℕ) (from : Option (List ℕ)) (first : SeenVisit) (step : Exchange)
+whole_met : (config : RepositoryConfig) (begun : RepoState) (commands : List Timed) (prefix : List ℕ) (from : Option (List ℕ)) (first : SeenVisit) (step : Transition)
     → AreMatched config begun commands prefix from first [] step [] → IsWholeAnswer config prefix step → MetAt config begun commands prefix from first []
 whole_met config begun commands prefix from first step h answer = record {
   machine = record { first = step; others = [] };
@@ -358,7 +358,7 @@ whole_met config begun commands prefix from first step h answer = record {
 }
 
 -- with nothing to harvest
-none_met : (config : Config) (begun : RepoState) (commands : List Timed) (prefix : List ℕ) (from : Option (List ℕ)) (first : SeenVisit) (step : Exchange)
+none_met : (config : RepositoryConfig) (begun : RepoState) (commands : List Timed) (prefix : List ℕ) (from : Option (List ℕ)) (first : SeenVisit) (step : Transition)
     → AreMatched config begun commands prefix from first [] step [] → step.outcome ≡ (act config step.found (first_request (records_since prefix from))).0
     → first.seen.answer ≡ seen_error NoRecordsMatch → MetAt config begun commands prefix from first []
 none_met config begun commands prefix from first step h acted is =
@@ -381,7 +381,7 @@ none_met config begun commands prefix from first step h acted is =
     }
 
 -- a page that tells all has no token that others could ask with
-never_next : (config : Config) (prefix : List ℕ) (first : SeenVisit) (step : Exchange) (records : List SeenRecord) (token expires size cursor : List ℕ) → IsMatched config first step
+never_next : (config : RepositoryConfig) (prefix : List ℕ) (first : SeenVisit) (step : Transition) (records : List SeenRecord) (token expires size cursor : List ℕ) → IsMatched config first step
     → IsWholeAnswer config prefix step → first.seen.answer ≡ seen_records records (seen_token token expires size cursor) → ⊥
 never_next config prefix first step records token expires size cursor is answer offered =
     let page = list_seen config step first.seen records (seen_token token expires size cursor) is.sees offered in
@@ -392,21 +392,21 @@ never_next config prefix first step records token expires size cursor is answer 
     in
     cc
 
-met_at : (config : Config) (begun : RepoState) (commands : List Timed) (prefix : List ℕ) (from : Option (List ℕ)) (first : SeenVisit) (others : List SeenVisit) (step : Exchange) (steps : List Exchange)
+met_at : (config : RepositoryConfig) (begun : RepoState) (commands : List Timed) (prefix : List ℕ) (from : Option (List ℕ)) (first : SeenVisit) (others : List SeenVisit) (step : Transition) (steps : List Transition)
     → AreMatched config begun commands prefix from first others step steps → MetAt config begun commands prefix from first others
 met_at config begun commands prefix from first others step steps h = by others steps h
   where
-    acted : (others : List SeenVisit) (steps : List Exchange) → AreMatched config begun commands prefix from first others step steps
+    acted : (others : List SeenVisit) (steps : List Transition) → AreMatched config begun commands prefix from first others step steps
         → step.outcome ≡ (act config step.found (first_request (records_since prefix from))).0
     acted others steps h = taken_acted config first.visit step h.here.taken ∙ ap (λ c. (act config step.found c).0) h.asked
 
-    either : (others : List SeenVisit) (steps : List Exchange) (h : AreMatched config begun commands prefix from first others step steps) → IsListed first.seen.answer
+    either : (others : List SeenVisit) (steps : List Transition) (h : AreMatched config begun commands prefix from first others step steps) → IsListed first.seen.answer
         → (config.chunk < length (selection_in step.found (records_since prefix from))) ⊎ IsWholeAnswer config prefix step
     either others steps h listed =
         let page = list_seen config step first.seen listed.0 listed.1 h.here.sees listed.2 in
         long_or_whole config prefix from step page.format page.page (taken_reachable config first.visit step h.here.taken).sound (acted others steps h) page.told
 
-    by : (others : List SeenVisit) (steps : List Exchange) → AreMatched config begun commands prefix from first others step steps → MetAt config begun commands prefix from first others
+    by : (others : List SeenVisit) (steps : List Transition) → AreMatched config begun commands prefix from first others step steps → MetAt config begun commands prefix from first others
     by [] [] h =
         elim (end_is first.seen.answer h.ended) [
           | inl none ↦ none_met config begun commands prefix from first step h (acted [] [] h) none
@@ -426,7 +426,7 @@ met_at config begun commands prefix from first others step steps h = by others s
           | inr answer ↦ absurd (never_next config prefix first step next.records next.token (second_text next.expires) next.size next.cursor h.here answer next.offered)
         ]
 
-pub harvest_met : (config : Config) (begun : RepoState) (calls : List Call) (all : List Visit) (prefix : List ℕ) (from : Option (List ℕ)) (harvest : ClientHarvest) → IsConfig config → AreRepositoryFormats config.formats
+pub harvest_met : (config : RepositoryConfig) (begun : RepoState) (calls : List Call) (all : List Visit) (prefix : List ℕ) (from : Option (List ℕ)) (harvest : ClientHarvest) → IsConfig config → AreRepositoryFormats config.formats
     → IsReachable config begun → IsPart all (visits config begun calls) → IsClientHarvest config all prefix from harvest
     → IsMet config (run config begun (commands_in config.granularity calls)) prefix from harvest
 harvest_met config begun calls all prefix from harvest rules formats reachable part own =
@@ -438,7 +438,7 @@ harvest_met config begun calls all prefix from harvest rules formats reachable p
     by steps.steps (matched config (visits_of harvest) steps.steps formats steps.each own.seen)
     (subst (IsPart steps.steps) (steps_run config begun calls) steps.among)
   where
-    by : (steps : List Exchange) → AllZip (IsMatched config) (visits_of harvest) steps → IsPart steps (run config begun (commands_in config.granularity calls))
+    by : (steps : List Transition) → AllZip (IsMatched config) (visits_of harvest) steps → IsPart steps (run config begun (commands_in config.granularity calls))
         → IsMet config (run config begun (commands_in config.granularity calls)) prefix from harvest
     by [] each among = absurd each
     by (step ∷ steps) each among =
@@ -459,32 +459,32 @@ harvest_met config begun calls all prefix from harvest rules formats reachable p
 abbrev pub first_in : ClientHarvest → Visit
 first_in harvest = harvest.first.visit
 
-record AreMet (config : Config) (exchanges : List Exchange) (prefix : List ℕ) (from : Option (List ℕ)) (harvests : List ClientHarvest) (steps : List Exchange) : Type 0 where
+record AreMet (config : RepositoryConfig) (exchanges : List Transition) (prefix : List ℕ) (from : Option (List ℕ)) (harvests : List ClientHarvest) (steps : List Transition) : Type 0 where
   pub machines : List Harvest
   pub firsts : map (λ (machine : Harvest). machine.first) machines ≡ steps
   pub made : AreHarvests config exchanges prefix from machines
   pub told : AllZip (IsToldAs config prefix) harvests machines
 
-all_met : (config : Config) (calls : List Call) (all : List Visit) (prefix : List ℕ) (from : Option (List ℕ)) (harvests : List ClientHarvest) (steps : List Exchange) → IsConfig config
+all_met : (config : RepositoryConfig) (calls : List Call) (all : List Visit) (prefix : List ℕ) (from : Option (List ℕ)) (harvests : List ClientHarvest) (steps : List Transition) → IsConfig config
     → AreRepositoryFormats config.formats → IsPart all (visits config (empty_state config) calls) → AllZip (IsTaken config) (map first_in harvests) steps
     → AreClientHarvests config all prefix from harvests → AreMet config (run config (empty_state config) (commands_in config.granularity calls)) prefix from harvests steps
 all_met config calls all prefix from [] [] rules formats part each own = record { machines = []; firsts = refl; made = tt; told = tt }
 all_met config calls all prefix from [] (step ∷ steps) rules formats part each own = absurd each
 all_met config calls all prefix from (harvest ∷ harvests) [] rules formats part each own = absurd each
 all_met config calls all prefix from (harvest ∷ harvests) (step ∷ steps) rules formats part each own =
-    let exchanges : List Exchange = run config (empty_state config) (commands_in config.granularity calls) in
+    let exchanges : List Transition = run config (empty_state config) (commands_in config.granularity calls) in
     let one = harvest_met config (empty_state config) calls all prefix from harvest rules formats (reachable_empty config rules) part own.0 in
     let later = all_met config calls all prefix (Some (datestamp_in config.granularity harvest.first.seen.date)) harvests steps rules formats part each.1 own.1 in
     record {
       machines = one.machine ∷ later.machines;
       firsts =
-          ap (λ (e : Exchange). e ∷ map (λ (machine : Harvest). machine.first) later.machines) (taken_once config harvest.first.visit one.machine.first step one.told.taken each.0)
-          ∙ ap (λ (es : List Exchange). step ∷ es) later.firsts;
+          ap (λ (e : Transition). e ∷ map (λ (machine : Harvest). machine.first) later.machines) (taken_once config harvest.first.visit one.machine.first step one.told.taken each.0)
+          ∙ ap (λ (es : List Transition). step ∷ es) later.firsts;
       made = (one.made, subst (λ (text : List ℕ). AreHarvests config exchanges prefix (Some text) later.machines) (sym one.told.date) later.made);
       told = (one.told, later.told);
     }
 
-firsts_asking : (config : Config) (all : List Visit) (prefix : List ℕ) (from : Option (List ℕ)) (harvests : List ClientHarvest) → AreClientHarvests config all prefix from harvests
+firsts_asking : (config : RepositoryConfig) (all : List Visit) (prefix : List ℕ) (from : Option (List ℕ)) (harvests : List ClientHarvest) → AreClientHarvests config all prefix from harvests
     → AllByRecursion IsAsking (map first_in harvests)
 firsts_asking config all prefix from [] own = tt
 firsts_asking config all prefix from (harvest ∷ harvests) own = (
@@ -493,9 +493,9 @@ firsts_asking config all prefix from (harvest ∷ harvests) own = (
 )
 
 -- the records that the client sees are those of the items that the harvests told
-records_told : (config : Config) (prefix : List ℕ) (format : Format) (harvests : List ClientHarvest) (machines : List Harvest) → format_named prefix config.formats ≡ Some format
+records_told : (config : RepositoryConfig) (prefix : List ℕ) (format : Format) (harvests : List ClientHarvest) (machines : List Harvest) → format_named prefix config.formats ≡ Some format
     → AllZip (IsToldAs config prefix) harvests machines
-    → flat_map records_of harvests ≡ map (record_seen config.granularity format) (flat_map (λ (items : List ItemState). items) (map harvested machines))
+    → flat_map records_of_harvest harvests ≡ map (record_seen config.granularity format) (flat_map (λ (items : List ItemState). items) (map harvested machines))
 records_told config prefix format [] [] known told = refl
 records_told config prefix format [] (machine ∷ machines) known told = absurd told
 records_told config prefix format (harvest ∷ harvests) [] known told = absurd told
@@ -503,15 +503,15 @@ records_told config prefix format (harvest ∷ harvests) (machine ∷ machines) 
     let f : ItemState → SeenRecord = record_seen config.granularity format in
     let both : Some told.0.format ≡ Some format = sym told.0.known ∙ known in
     let same : told.0.format ≡ format = cc in
-    let here : records_of harvest ≡ map f (harvested machine) =
+    let here : records_of_harvest harvest ≡ map f (harvested machine) =
     told.0.records ∙ ap (λ (its : Format). map (record_seen config.granularity its) (harvested machine)) same
     in
-    ap (λ (xs : List SeenRecord). xs ++ flat_map records_of harvests) here
+    ap (λ (xs : List SeenRecord). xs ++ flat_map records_of_harvest harvests) here
     ∙ ap (λ (ys : List SeenRecord). map f (harvested machine) ++ ys) (records_told config prefix format harvests machines known told.1)
     ∙ sym (map-append f (harvested machine) (flat_map (λ (items : List ItemState). items) (map harvested machines)))
 
 -- the last ones find the same state
-last_found : (config : Config) (prefix : List ℕ) (harvest : ClientHarvest) (harvests : List ClientHarvest) (machine : Harvest) (machines : List Harvest) → IsToldAs config prefix harvest machine
+last_found : (config : RepositoryConfig) (prefix : List ℕ) (harvest : ClientHarvest) (harvests : List ClientHarvest) (machine : Harvest) (machines : List Harvest) → IsToldAs config prefix harvest machine
     → AllZip (IsToldAs config prefix) harvests machines → (last_harvest machine machines).first.found ≡ found_by (last_client_harvest harvest harvests).first.visit
 last_found config prefix harvest [] machine [] is told = taken_found config harvest.first.visit machine.first is.taken
 last_found config prefix harvest [] machine (next ∷ machines) is told = absurd told
@@ -519,7 +519,7 @@ last_found config prefix harvest (later ∷ harvests) machine [] is told = absur
 last_found config prefix harvest (later ∷ harvests) machine (next ∷ machines) is told = last_found config prefix later harvests next machines told.0 told.1
 
 -- if the copy of the machine's harvests is whole, so is the client's
-pub copied_told : (config : Config) (prefix : List ℕ) (first : ClientHarvest) (others : List ClientHarvest) (machine : Harvest) (machines : List Harvest) → IsToldAs config prefix first machine
+pub copied_told : (config : RepositoryConfig) (prefix : List ℕ) (first : ClientHarvest) (others : List ClientHarvest) (machine : Harvest) (machines : List Harvest) → IsToldAs config prefix first machine
     → AllZip (IsToldAs config prefix) others machines
     → IsWholeCopy prefix (last_harvest machine machines).first.found (caught_up_with [] (map harvested (machine ∷ machines)))
     → IsWholeClientCopy config prefix (found_by (last_client_harvest first others).first.visit) (client_copy (first ∷ others))
@@ -539,7 +539,7 @@ copied_told config prefix first others machine machines told later copied =
           (client_copied config.granularity format prefix state items copy);
     }
 
-pub client_harvests_copied : (config : Config) (calls : List Call) (all : List Visit) (prefix : List ℕ) (first : ClientHarvest) (others : List ClientHarvest) → IsConfig config
+pub client_harvests_copied : (config : RepositoryConfig) (calls : List Call) (all : List Visit) (prefix : List ℕ) (first : ClientHarvest) (others : List ClientHarvest) → IsConfig config
     → AreRepositoryFormats config.formats → config.deleted ≡ Persistent → IsPart all (visits config (empty_state config) calls) → AreSuccessiveByClient config all prefix first others
     → IsWholeClientCopy config prefix (found_by (last_client_harvest first others).first.visit) (client_copy (first ∷ others))
 client_harvests_copied config calls all prefix first others rules formats keeps part successive =
@@ -549,13 +549,13 @@ client_harvests_copied config calls all prefix first others rules formats keeps 
     (part_twice begun all every successive.begun part) in
     let met = all_met config calls all prefix None (first ∷ others) steps.steps rules formats part steps.each successive.harvests in
     by met.machines
-    (subst (λ (es : List Exchange). IsPart es exchanges) (sym met.firsts) (subst (IsPart steps.steps) (steps_run config (empty_state config) calls) steps.among))
+    (subst (λ (es : List Transition). IsPart es exchanges) (sym met.firsts) (subst (IsPart steps.steps) (steps_run config (empty_state config) calls) steps.among))
     met.made met.told
   where
     commands : List Timed
     commands = commands_in config.granularity calls
 
-    exchanges : List Exchange
+    exchanges : List Transition
     exchanges = run config (empty_state config) commands
 
     by : (machines : List Harvest) → IsPart (map (λ (machine : Harvest). machine.first) machines) exchanges → AreHarvests config exchanges prefix None machines
@@ -567,7 +567,7 @@ client_harvests_copied config calls all prefix first others rules formats keeps 
         (harvests_copied config commands prefix machine machines rules keeps (record { begun = among; harvests = made }))
 
 -- at a repository of a host
-pub client_harvests_given : (calls : List Call) (answers : List HttpAnswer) (entry : NamedConfig) (left : RepoState) (prefix : List ℕ) (first : ClientHarvest) (others : List ClientHarvest) → HasRules entry
+pub client_harvests_given : (calls : List Call) (answers : List Answer) (entry : NamedConfig) (left : RepoState) (prefix : List ℕ) (first : ClientHarvest) (others : List ClientHarvest) → HasRules entry
     → entry.config.deleted ≡ Persistent → AreTrueFrom entry.config (empty_state entry.config) (own_calls entry.name calls) (own_answers entry.name calls answers) left
     → AreSuccessiveByClient entry.config (whole_visits (own_given entry calls answers)) prefix first others
     → IsWholeClientCopy entry.config prefix (found_by (last_client_harvest first others).first.visit) (client_copy (first ∷ others))

@@ -9,23 +9,23 @@ use Rattle.oai_time.specs.Stamp.{IsWritable}
 use Rattle.oai_item.specs.Formats.{AreRepositoryFormats}
 use Rattle.oai_item.specs.Item.{ItemState}
 use Rattle.oai_item.specs.declared.formats.Format.{Format}
-use Rattle.oai_answers.specs.Answers.{Answer, Continuation, Document, Page, completes, fails, lists_records, remains, whole}
+use Rattle.oai_answers.specs.Answers.{Continuation, Document, Page, VerbAnswer, completes, fails, lists_records, remains, whole}
 use Rattle.oai_answers.specs.Seen.{SeenDocument, answer_seen, document_seen, record_seen, seen_records, token_seen}
 use Rattle.oai_answers.specs.declared.errors.ErrorCode.TheVariants.{NoRecordsMatch}
 use Rattle.oai_answers.specs.declared.tokens.Extent.{Extent}
-use Rattle.oai_settings.specs.Config.{Config, IsConfig}
+use Rattle.oai_settings.specs.Config.{IsConfig, RepositoryConfig}
 use Rattle.oai_repo.specs.Machine.{Outcome, accepted, act, documented, later, outcome_output, refused_with}
 use Rattle.oai_repo.specs.State.{empty_state}
 use Rattle.oai_repo.proofs.ClockLemmas.{writable}
 use Rattle.oai_laws.specs.Effects.{IsSound}
-use Rattle.oai_laws.specs.Following.{AreNext, IsChain, IsNextRequest, ListRequest, TokenOffer, answer_in, first_request, is_later, offer_in, page_in, page_shown, selection_in}
+use Rattle.oai_laws.specs.Following.{AreNext, IsChain, IsNextRequest, ListQuery, TokenOffer, answer_in, first_request, is_later, offer_in, page_in, page_shown, selection_in}
 use Rattle.oai_laws.specs.Harvests.{Harvest, IsHarvest, records_since, requests_of}
-use Rattle.oai_laws.specs.Runs.{Exchange, IsPart, Timed, run}
+use Rattle.oai_laws.specs.Runs.{IsPart, Timed, Transition, run}
 use Rattle.oai_laws.specs.Shown.{IsRegularOutcome, is_followed_to_its_end, is_last_page}
 use Rattle.oai_laws.proofs.ChainLemmas.{following}
 use Rattle.oai_laws.proofs.ShownLemmas.{regular_act}
 use Rattle.oai_laws.proofs.WholeLemmas.{none_told, whole_told}
-use Rattle.oai_http.specs.declared.exchanges.Answer.{Answer as HttpAnswer}
+use Rattle.oai_http.specs.declared.exchanges.Answer.{Answer}
 use Rattle.oai_http.specs.declared.exchanges.Call.{Call}
 use Rattle.oai_host.specs.Answers.{answer_of}
 use Rattle.oai_headline.specs.Chains.{IsStepOf}
@@ -41,13 +41,13 @@ use Rattle.oai_headline.proofs.TakenLemmas.{IsAsking, IsTaken, reachable_empty, 
 
 -- ---- the steps are those that were taken
 
-steps_asking : (config : Config) (some : List Visit) (steps : List Exchange) → AllZip (IsStepOf config) some steps → AllByRecursion IsAsking some
+steps_asking : (config : RepositoryConfig) (some : List Visit) (steps : List Transition) → AllZip (IsStepOf config) some steps → AllByRecursion IsAsking some
 steps_asking config [] [] each = tt
 steps_asking config [] (step ∷ steps) each = absurd each
 steps_asking config (visit ∷ some) [] each = absurd each
 steps_asking config (visit ∷ some) (step ∷ steps) each = (record { arguments = each.0.arguments; asked = each.0.asked }, steps_asking config some steps each.1)
 
-same_steps : (config : Config) (some : List Visit) (these those : List Exchange) → AllZip (IsTaken config) some these → AllZip (IsStepOf config) some those → these ≡ those
+same_steps : (config : RepositoryConfig) (some : List Visit) (these those : List Transition) → AllZip (IsTaken config) some these → AllZip (IsStepOf config) some those → these ≡ those
 same_steps config [] [] [] is each = refl
 same_steps config [] [] (b ∷ those) is each = absurd each
 same_steps config [] (a ∷ these) those is each = absurd is
@@ -56,20 +56,20 @@ same_steps config (visit ∷ some) (a ∷ these) [] is each = absurd each
 same_steps config (visit ∷ some) (a ∷ these) (b ∷ those) is each =
     let both : a ∷ [] ≡ b ∷ [] = sym (taken_step config visit a is.0).only ∙ each.0.only in
     let same : a ≡ b = cc in
-    ap (λ (e : Exchange). e ∷ these) same ∙ ap (λ (es : List Exchange). b ∷ es) (same_steps config some these those is.1 each.1)
+    ap (λ (e : Transition). e ∷ these) same ∙ ap (λ (es : List Transition). b ∷ es) (same_steps config some these those is.1 each.1)
 
 -- ---- what is seen of a step that answered something
 
-abbrev IsAnswered : Exchange → Type 0
-IsAnswered step = (answer : Answer) × (answer_in step.outcome ≡ Some answer)
+abbrev IsAnswered : Transition → Type 0
+IsAnswered step = (answer : VerbAnswer) × (answer_in step.outcome ≡ Some answer)
 
-document_in : (outcome : Outcome) (answer : Answer) → answer_in outcome ≡ Some answer → (its : Document) × (outcome ≡ documented its)
+document_in : (outcome : Outcome) (answer : VerbAnswer) → answer_in outcome ≡ Some answer → (its : Document) × (outcome ≡ documented its)
 document_in (documented its) answer h = (its, refl)
 document_in (later seconds) answer h = cc
 document_in (accepted stamp) answer h = cc
 document_in (refused_with cause) answer h = cc
 
-written_by : (config : Config) (answer : HttpAnswer) (outcome : Outcome) (its : Document) → answer ≡ answer_of (outcome_output config.granularity outcome) → IsRegularOutcome outcome → outcome ≡ documented its
+written_by : (config : RepositoryConfig) (answer : Answer) (outcome : Outcome) (its : Document) → answer ≡ answer_of (outcome_output config.granularity outcome) → IsRegularOutcome outcome → outcome ≡ documented its
     → IsSeen answer (document_seen its)
 unfolding outcome_output
 written_by config answer outcome its written regular told = record {
@@ -79,23 +79,23 @@ written_by config answer outcome its written regular told = record {
   shown = refl;
 }
 
-taken_shown : (config : Config) (visit : Visit) (step : Exchange) → AreRepositoryFormats config.formats → IsTaken config visit step → IsAnswered step
+taken_shown : (config : RepositoryConfig) (visit : Visit) (step : Transition) → AreRepositoryFormats config.formats → IsTaken config visit step → IsAnswered step
     → (seen : SeenDocument) × IsSeen visit.answer seen
 taken_shown config visit step formats h answered =
     let its = document_in step.outcome answered.0 answered.1 in
     let reachable = reachable_moved config visit.call.moment visit.before h.reachable in
     let regular : IsRegularOutcome step.outcome =
-    subst (λ (e : Exchange). IsRegularOutcome e.outcome) (sym h.is) (regular_act config (found_by visit) (request_in config h.arguments) formats reachable.sound)
+    subst (λ (e : Transition). IsRegularOutcome e.outcome) (sym h.is) (regular_act config (found_by visit) (request_in config h.arguments) formats reachable.sound)
     in
     (document_seen its.0, written_by config visit.answer step.outcome its.0 (taken_written config visit step h) regular its.1)
 
-record AreSeenAs (config : Config) (some : List Visit) (steps : List Exchange) : Type 0 where
+record AreSeenAs (config : RepositoryConfig) (some : List Visit) (steps : List Transition) : Type 0 where
   pub visited : List SeenVisit
   pub are : map visit_in visited ≡ some
   pub each : AllZip (IsMatched config) visited steps
   pub seen : AllByRecursion IsSeenVisit visited
 
-seen_as : (config : Config) (some : List Visit) (steps : List Exchange) → AreRepositoryFormats config.formats → AllZip (IsTaken config) some steps → AllByRecursion IsAnswered steps
+seen_as : (config : RepositoryConfig) (some : List Visit) (steps : List Transition) → AreRepositoryFormats config.formats → AllZip (IsTaken config) some steps → AllByRecursion IsAnswered steps
     → AreSeenAs config some steps
 seen_as config [] [] formats is answered = record { visited = []; are = refl; each = tt; seen = tt }
 seen_as config [] (step ∷ steps) formats is answered = absurd is
@@ -123,7 +123,7 @@ remaining (remains expires extent token) offer h =
     let same : record { token = token; expires = expires } ≡ offer = cc in
     record { extent = extent; is = ap (λ (o : TokenOffer). remains o.expires extent o.token) same }
 
-next_seen : (config : Config) (format : Format) (before after : SeenVisit) (b a : Exchange) → IsConfig config → IsMatched config before b → IsMatched config after a → IsPaged config format b
+next_seen : (config : RepositoryConfig) (format : Format) (before after : SeenVisit) (b a : Transition) → IsConfig config → IsMatched config before b → IsMatched config after a → IsPaged config format b
     → IsNextRequest list.Records b a → IsNextSeen config before after
 next_seen config format before after b a rules is its paged next =
     let both : Some next.page ≡ Some paged.page = sym next.told ∙ page_in_answer b.outcome format paged.page paged.told in
@@ -153,7 +153,7 @@ next_seen config format before after b a rules is its paged next =
       );
     }
 
-all_next : (config : Config) (format : Format) (before : SeenVisit) (others : List SeenVisit) (b : Exchange) (steps : List Exchange) → IsConfig config → IsMatched config before b
+all_next : (config : RepositoryConfig) (format : Format) (before : SeenVisit) (others : List SeenVisit) (b : Transition) (steps : List Transition) → IsConfig config → IsMatched config before b
     → AllZip (IsMatched config) others steps → AllByRecursion (IsPaged config format) (b ∷ steps) → AreNext list.Records b steps → AreNextSeen config before others
 all_next config format before [] b steps rules is each paged next = tt
 all_next config format before (visited ∷ others) b [] rules is each paged next = absurd each
@@ -164,10 +164,10 @@ all_next config format before (visited ∷ others) b (a ∷ steps) rules is each
 
 -- ---- the end
 
-never_last : (step : Exchange) (page : Page) (offer : TokenOffer) → page_shown step.outcome ≡ Some page → offer_in page.continuation ≡ Some offer → is_last_page (page_shown step.outcome) ≡ false
+never_last : (step : Transition) (page : Page) (offer : TokenOffer) → page_shown step.outcome ≡ Some page → offer_in page.continuation ≡ Some offer → is_last_page (page_shown step.outcome) ≡ false
 never_last step page offer shown offered = ap is_last_page shown ∙ ap is_none offered
 
-ends_last : (config : Config) (format : Format) (visited : SeenVisit) (others : List SeenVisit) (step : Exchange) (steps : List Exchange) → IsMatched config visited step
+ends_last : (config : RepositoryConfig) (format : Format) (visited : SeenVisit) (others : List SeenVisit) (step : Transition) (steps : List Transition) → IsMatched config visited step
     → AllZip (IsMatched config) others steps → AllByRecursion (IsPaged config format) (step ∷ steps) → AreNext list.Records step steps → is_followed_to_its_end (step ∷ steps) ≡ true
     → is_harvest_end (last_visit visited others).seen.answer ≡ true
 ends_last config format visited [] step [] is each paged next ended =
@@ -184,7 +184,7 @@ ends_last config format visited (other ∷ others) step (a ∷ steps) is each pa
       | inr none ↦ absurd (false≢true (sym (or_from (is_last_page (page_shown step.outcome)) (is_followed_to_its_end (a ∷ steps)) more none) ∙ ended))
     ]
 
-paged_answered : (config : Config) (format : Format) (steps : List Exchange) → AllByRecursion (IsPaged config format) steps → AllByRecursion IsAnswered steps
+paged_answered : (config : RepositoryConfig) (format : Format) (steps : List Transition) → AllByRecursion (IsPaged config format) steps → AllByRecursion IsAnswered steps
 paged_answered config format [] paged = tt
 paged_answered config format (step ∷ steps) paged = ((lists_records format paged.0.page, paged.0.told), paged_answered config format steps paged.1)
 
@@ -195,11 +195,11 @@ not_waiting (accepted stamp) page h = refl
 not_waiting (refused_with cause) page h = refl
 
 -- a list request that was answered a page was answered its records
-first_paged : (config : Config) (commands : List Timed) (prefix : List ℕ) (from : Option (List ℕ)) (step : Exchange) (page : Page) → IsConfig config → IsSound config step.found
+first_paged : (config : RepositoryConfig) (commands : List Timed) (prefix : List ℕ) (from : Option (List ℕ)) (step : Transition) (page : Page) → IsConfig config → IsSound config step.found
     → IsPart (step ∷ []) (run config (empty_state config) commands) → step.command ≡ first_request (records_since prefix from)
     → step.outcome ≡ (act config step.found (first_request (records_since prefix from))).0 → page_shown step.outcome ≡ Some page → (format : Format) × IsPaged config format step
 first_paged config commands prefix from step page rules sound among asked acted shown =
-    let request : ListRequest = records_since prefix from in
+    let request : ListQuery = records_since prefix from in
     let selection : List ItemState = selection_in step.found request in
     elim (none_or_some selection) [
       | inl none ↦
@@ -221,7 +221,7 @@ first_paged config commands prefix from step page rules sound among asked acted 
 
 -- ---- a harvest
 
-harvest_from : (config : Config) (all : List Visit) (prefix : List ℕ) (from : Option (List ℕ)) (some : List Visit) (step : Exchange) (steps : List Exchange) → IsPart some all
+harvest_from : (config : RepositoryConfig) (all : List Visit) (prefix : List ℕ) (from : Option (List ℕ)) (some : List Visit) (step : Transition) (steps : List Transition) → IsPart some all
     → step.command ≡ first_request (records_since prefix from) → AreSeenAs config some (step ∷ steps)
     → ((first : SeenVisit) (others : List SeenVisit) → IsMatched config first step → AllZip (IsMatched config) others steps
     → AreNextSeen config first others × (is_harvest_end (last_visit first others).seen.answer ≡ true))
@@ -244,25 +244,25 @@ harvest_from config all prefix from some step steps part asked seen rest = by se
         )
 
 -- a harvest in one answer, which ends it
-only : (config : Config) (step : Exchange) → ((visited : SeenVisit) → IsMatched config visited step → is_harvest_end visited.seen.answer ≡ true) → (first : SeenVisit) (others : List SeenVisit)
+only : (config : RepositoryConfig) (step : Transition) → ((visited : SeenVisit) → IsMatched config visited step → is_harvest_end visited.seen.answer ≡ true) → (first : SeenVisit) (others : List SeenVisit)
     → IsMatched config first step → AllZip (IsMatched config) others [] → AreNextSeen config first others × (is_harvest_end (last_visit first others).seen.answer ≡ true)
 only config step ended first [] here behind = (tt, ended first here)
 only config step ended first (visited ∷ others) here behind = absurd behind
 
-first_sound : (config : Config) (step : Exchange) (steps : List Exchange) (some : List Visit) → AllZip (IsTaken config) some (step ∷ steps)
+first_sound : (config : RepositoryConfig) (step : Transition) (steps : List Transition) (some : List Visit) → AllZip (IsTaken config) some (step ∷ steps)
     → IsSound config step.found × (step.outcome ≡ (act config step.found step.command).0)
 first_sound config step steps [] is = absurd is
 first_sound config step steps (visit ∷ some) is = ((taken_reachable config visit step is.0).sound, taken_acted config visit step is.0)
 
-pub harvest_seen : (config : Config) (calls : List Call) (prefix : List ℕ) (from : Option (List ℕ)) (some : List Visit) (harvest : Harvest) → IsConfig config → AreRepositoryFormats config.formats
+pub harvest_seen : (config : RepositoryConfig) (calls : List Call) (prefix : List ℕ) (from : Option (List ℕ)) (some : List Visit) (harvest : Harvest) → IsConfig config → AreRepositoryFormats config.formats
     → IsPart some (visits config (empty_state config) calls) → AllZip (IsStepOf config) some (requests_of harvest)
     → IsHarvest config (run config (empty_state config) (commands_in config.granularity calls)) (records_since prefix from) harvest
     → IsSomeClientHarvest config (visits config (empty_state config) calls) prefix from some
 harvest_seen config calls prefix from some harvest rules formats part each made =
     let own = taken config (empty_state config) calls some (reachable_empty config rules) (steps_asking config some (requests_of harvest) each) part in
     let same : own.steps ≡ requests_of harvest = same_steps config some own.steps (requests_of harvest) own.each each in
-    by harvest.first harvest.others (subst (λ (es : List Exchange). AllZip (IsTaken config) some es) same own.each)
-    (subst (λ (es : List Exchange). IsPart es exchanges) same (subst (IsPart own.steps) (steps_run config (empty_state config) calls) own.among)) made
+    by harvest.first harvest.others (subst (λ (es : List Transition). AllZip (IsTaken config) some es) same own.each)
+    (subst (λ (es : List Transition). IsPart es exchanges) same (subst (IsPart own.steps) (steps_run config (empty_state config) calls) own.among)) made
   where
     all : List Visit
     all = visits config (empty_state config) calls
@@ -270,35 +270,35 @@ harvest_seen config calls prefix from some harvest rules formats part each made 
     commands : List Timed
     commands = commands_in config.granularity calls
 
-    exchanges : List Exchange
+    exchanges : List Transition
     exchanges = run config (empty_state config) commands
 
-    request : ListRequest
+    request : ListQuery
     request = records_since prefix from
 
     -- in one answer, which ends it
-    one : (step : Exchange) (answer : Answer) → AllZip (IsTaken config) some (step ∷ []) → step.command ≡ first_request request → answer_in step.outcome ≡ Some answer
+    one : (step : Transition) (answer : VerbAnswer) → AllZip (IsTaken config) some (step ∷ []) → step.command ≡ first_request request → answer_in step.outcome ≡ Some answer
         → ((visited : SeenVisit) → IsMatched config visited step → is_harvest_end visited.seen.answer ≡ true) → IsSomeClientHarvest config all prefix from some
     one step answer is asked told ended =
         harvest_from config all prefix from some step [] part asked (seen_as config some (step ∷ []) formats is ((answer, told), tt)) (only config step ended)
 
-    none : (step : Exchange) → AllZip (IsTaken config) some (step ∷ []) → step.command ≡ first_request request → answer_in step.outcome ≡ Some (fails NoRecordsMatch)
+    none : (step : Transition) → AllZip (IsTaken config) some (step ∷ []) → step.command ≡ first_request request → answer_in step.outcome ≡ Some (fails NoRecordsMatch)
         → IsSomeClientHarvest config all prefix from some
     none step is asked told =
         one step (fails NoRecordsMatch) is asked told
         (λ visited h.
         let both : Some h.sees.its.answer ≡ Some (fails NoRecordsMatch) = sym (ap answer_in h.sees.told) ∙ told in
         let answer : h.sees.its.answer ≡ fails NoRecordsMatch = cc in
-        ap (λ (s : SeenDocument). is_harvest_end s.answer) (sym h.sees.shown) ∙ ap (λ (a : Answer). is_harvest_end (answer_seen h.sees.its.base a)) answer)
+        ap (λ (s : SeenDocument). is_harvest_end s.answer) (sym h.sees.shown) ∙ ap (λ (a : VerbAnswer). is_harvest_end (answer_seen h.sees.its.base a)) answer)
 
-    at_once : (step : Exchange) (page : Page) → AllZip (IsTaken config) some (step ∷ []) → IsPart (step ∷ []) exchanges → step.command ≡ first_request request
+    at_once : (step : Transition) (page : Page) → AllZip (IsTaken config) some (step ∷ []) → IsPart (step ∷ []) exchanges → step.command ≡ first_request request
         → IsSound config step.found → step.outcome ≡ (act config step.found (first_request request)).0 → page_shown step.outcome ≡ Some page → page.continuation ≡ whole → IsSomeClientHarvest config all prefix from some
     at_once step page is among asked sound acted shown tokenless =
         let paged = first_paged config commands prefix from step page rules sound among asked acted shown in
         one step (lists_records paged.0 paged.1.page) is asked paged.1.told
         (λ visited h. end_paged config paged.0 step visited.seen h.sees paged.1 ∙ ap is_last_page shown ∙ ap (λ (c : Continuation). is_none (offer_in c)) tokenless)
 
-    followed : (step : Exchange) (steps : List Exchange) → AllZip (IsTaken config) some (step ∷ steps) → step.command ≡ first_request request → IsChain config exchanges request step steps
+    followed : (step : Transition) (steps : List Transition) → AllZip (IsTaken config) some (step ∷ steps) → step.command ≡ first_request request → IsChain config exchanges request step steps
         → is_followed_to_its_end (step ∷ steps) ≡ true → IsSomeClientHarvest config all prefix from some
     followed step steps is asked chain ended =
         let told = following config commands request step steps rules chain in
@@ -310,17 +310,17 @@ harvest_seen config calls prefix from some harvest rules formats part each made 
           ends_last config told.1.format first others step steps here behind paged chain.next ended,
         ))
 
-    by : (step : Exchange) (steps : List Exchange) → AllZip (IsTaken config) some (step ∷ steps) → IsPart (step ∷ steps) exchanges
+    by : (step : Transition) (steps : List Transition) → AllZip (IsTaken config) some (step ∷ steps) → IsPart (step ∷ steps) exchanges
         → IsHarvest config exchanges request (record { first = step; others = steps }) → IsSomeClientHarvest config all prefix from some
     by step steps is among made =
         elim made.answered [
-          | inl empty ↦ none step (subst (λ (es : List Exchange). AllZip (IsTaken config) some (step ∷ es)) empty.only is) made.asked empty.told
+          | inl empty ↦ none step (subst (λ (es : List Transition). AllZip (IsTaken config) some (step ∷ es)) empty.only is) made.asked empty.told
           | inr more ↦
               elim more [
                 | inl single ↦
                     let known = first_sound config step steps some is in
-                    at_once step single.page (subst (λ (es : List Exchange). AllZip (IsTaken config) some (step ∷ es)) single.only is)
-                    (subst (λ (es : List Exchange). IsPart (step ∷ es) exchanges) single.only among) made.asked known.0
+                    at_once step single.page (subst (λ (es : List Transition). AllZip (IsTaken config) some (step ∷ es)) single.only is)
+                    (subst (λ (es : List Transition). IsPart (step ∷ es) exchanges) single.only among) made.asked known.0
                     (known.1 ∙ ap (λ c. (act config step.found c).0) made.asked) single.told single.tokenless
                 | inr chained ↦ followed step steps is made.asked chained.chain chained.ended
               ]

@@ -13,7 +13,7 @@ use Rattle.oai_item.specs.ShortTexts.{is_short_text}
 use Rattle.oai_item.specs.declared.formats.Format.{Format}
 use Rattle.oai_xml.specs.LegalTexts.{is_legal_text}
 use Rattle.oai_xml.proofs.LegalSpellings.{is_plain}
-use Rattle.oai_settings.specs.Config.{Config, IsConfig, is_described}
+use Rattle.oai_settings.specs.Config.{IsConfig, RepositoryConfig, is_described}
 use Rattle.oai_documents.specs.Texts.{is_legal_config, is_legal_format}
 use Rattle.oai_documents.proofs.LegalCommands.{prefix_plain, short_characters}
 use Rattle.oai_documents.proofs.LegalTrees.{plain_text}
@@ -71,7 +71,7 @@ formats_legal (x ∷ formats) utf8 rules =
 
 -- ---- a configuration
 
-pub config_legal : (config : Config) → IsConfig config → AreRepositoryFormats config.formats → IsUtf8Text config.base → IsUtf8Text config.repository_name → All IsUtf8Text config.addresses
+pub config_legal : (config : RepositoryConfig) → IsConfig config → AreRepositoryFormats config.formats → IsUtf8Text config.base → IsUtf8Text config.repository_name → All IsUtf8Text config.addresses
     → All HasUtf8Texts config.formats → is_legal_config config ≡ true
 unfolding is_described
 config_legal config rules formats base name addresses its =

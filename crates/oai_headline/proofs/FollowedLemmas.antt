@@ -7,13 +7,13 @@ use Rattle.oai_item.specs.Formats.{AreRepositoryFormats}
 use Rattle.oai_args.specs.Asks.{AskOrError}
 use Rattle.oai_args.specs.Pairs.{decoded_pairs}
 use Rattle.oai_args.specs.Requests.{request_of}
-use Rattle.oai_settings.specs.Config.{Config, IsConfig}
+use Rattle.oai_settings.specs.Config.{IsConfig, RepositoryConfig}
 use Rattle.oai_item.specs.declared.formats.Format.{Format}
 use Rattle.oai_repo.specs.Listing.{answer_by_verb}
 use Rattle.oai_repo.specs.Machine.{Outcome, accepted, documented, later, outcome_output, refused_with, requesting}
 use Rattle.oai_repo.specs.State.{RepoState, empty_state}
-use Rattle.oai_laws.specs.Following.{AreNext, IsChain, IsFollowedThrough, IsNextRequest, ListRequest, answer_in, selection_in}
-use Rattle.oai_laws.specs.Runs.{Exchange, IsPart, run}
+use Rattle.oai_laws.specs.Following.{AreNext, IsChain, IsFollowedThrough, IsNextRequest, ListQuery, answer_in, selection_in}
+use Rattle.oai_laws.specs.Runs.{IsPart, Transition, run}
 use Rattle.oai_laws.proofs.ChainLemmas.{chain_followed}
 use Rattle.oai_http.specs.declared.exchanges.Answer.{Answer}
 use Rattle.oai_http.specs.declared.exchanges.Call.{Call}
@@ -28,13 +28,13 @@ use Rattle.oai_headline.proofs.TakenLemmas.{AreTaken, IsAsking, IsReachable, IsT
 
 -- ---- each visit of a chain is a request
 
-pub next_asking : (config : Config) (verb : ListVerb) (before : Visit) (others : List Visit) → AreNextVisits config verb before others → AllByRecursion IsAsking others
+pub next_asking : (config : RepositoryConfig) (verb : ListVerb) (before : Visit) (others : List Visit) → AreNextVisits config verb before others → AllByRecursion IsAsking others
 next_asking config verb before [] next = tt
 next_asking config verb before (visit ∷ others) next =
     (record { arguments = next.0.asked.arguments; asked = next.0.asked.asked }, next_asking config verb visit others next.1)
 
 -- and the command of its step is that request
-pub its_command : (config : Config) (visit : Visit) (step : Exchange) (request : AskOrError) → IsTaken config visit step → IsRequest config.granularity visit.call request
+pub its_command : (config : RepositoryConfig) (visit : Visit) (step : Transition) (request : AskOrError) → IsTaken config visit step → IsRequest config.granularity visit.call request
     → step.command ≡ requesting request
 its_command config visit step request is asked =
     let asks : asking is.arguments ≡ asking asked.arguments = sym is.asked ∙ asked.asked in
@@ -45,7 +45,7 @@ its_command config visit step request is asked =
 
 -- ---- the links
 
-link : (config : Config) (verb : ListVerb) (before after : Visit) (b a : Exchange) → IsConfig config → AreRepositoryFormats config.formats → IsTaken config before b → IsTaken config after a
+link : (config : RepositoryConfig) (verb : ListVerb) (before after : Visit) (b a : Transition) → IsConfig config → AreRepositoryFormats config.formats → IsTaken config before b → IsTaken config after a
     → IsNextVisit config verb before after → IsNextRequest verb b a
 link config verb before after b a rules formats is its next =
     let told = taken_offer config before b next.offer rules formats is next.printed in
@@ -58,7 +58,7 @@ link config verb before after b a rules formats is its next =
       unexpired = ap (λ (state : RepoState). int_lt state.clock next.offer.expires) (taken_found config after a its) ∙ next.unexpired;
     }
 
-links : (config : Config) (verb : ListVerb) (before : Visit) (others : List Visit) (b : Exchange) (steps : List Exchange) → IsConfig config → AreRepositoryFormats config.formats
+links : (config : RepositoryConfig) (verb : ListVerb) (before : Visit) (others : List Visit) (b : Transition) (steps : List Transition) → IsConfig config → AreRepositoryFormats config.formats
     → IsTaken config before b → AllZip (IsTaken config) others steps → AreNextVisits config verb before others → AreNext verb b steps
 links config verb before [] b [] rules formats is each next = tt
 links config verb before [] b (a ∷ steps) rules formats is each next = absurd each
@@ -68,14 +68,14 @@ links config verb before (visit ∷ others) b (a ∷ steps) rules formats is eac
 
 -- ---- the whole
 
-steps_of_each : (config : Config) (some : List Visit) (steps : List Exchange) → AllZip (IsTaken config) some steps → AllZip (IsStepOf config) some steps
+steps_of_each : (config : RepositoryConfig) (some : List Visit) (steps : List Transition) → AllZip (IsTaken config) some steps → AllZip (IsStepOf config) some steps
 steps_of_each config [] [] each = tt
 steps_of_each config [] (step ∷ steps) each = absurd each
 steps_of_each config (visit ∷ some) [] each = absurd each
 steps_of_each config (visit ∷ some) (step ∷ steps) each = (taken_step config visit step each.0, steps_of_each config some steps each.1)
 
 -- what is answered tells the page
-page_of : (config : Config) (verb : ListVerb) (format : Format) (visit : Visit) (page : Page) (outcome : Outcome) → visit.answer ≡ answer_of (outcome_output config.granularity outcome)
+page_of : (config : RepositoryConfig) (verb : ListVerb) (format : Format) (visit : Visit) (page : Page) (outcome : Outcome) → visit.answer ≡ answer_of (outcome_output config.granularity outcome)
     → answer_in outcome ≡ Some (answer_by_verb verb format page) → IsPageOf verb format visit page
 unfolding outcome_output
 page_of config verb format visit page (documented its) written told = record { its = its; written = written; told = let e : its.answer ≡ answer_by_verb verb format page = cc in e }
@@ -83,8 +83,8 @@ page_of config verb format visit page (later seconds) written told = cc
 page_of config verb format visit page (accepted stamp) written told = cc
 page_of config verb format visit page (refused_with cause) written told = cc
 
-pages_of : (config : Config) (verb : ListVerb) (format : Format) (some : List Visit) (steps : List Exchange) (pages : List Page) → AllZip (IsTaken config) some steps
-    → map (λ (exchange : Exchange). answer_in exchange.outcome) steps ≡ map (λ (page : Page). Some (answer_by_verb verb format page)) pages
+pages_of : (config : RepositoryConfig) (verb : ListVerb) (format : Format) (some : List Visit) (steps : List Transition) (pages : List Page) → AllZip (IsTaken config) some steps
+    → map (λ (exchange : Transition). answer_in exchange.outcome) steps ≡ map (λ (page : Page). Some (answer_by_verb verb format page)) pages
     → AllZip (IsPageOf verb format) some pages
 pages_of config verb format [] [] [] each told = tt
 pages_of config verb format [] [] (page ∷ pages) each told = cc
@@ -93,12 +93,12 @@ pages_of config verb format (visit ∷ some) [] pages each told = absurd each
 pages_of config verb format (visit ∷ some) (step ∷ steps) [] each told = cc
 pages_of config verb format (visit ∷ some) (step ∷ steps) (page ∷ pages) each told =
     let here : answer_in step.outcome ≡ Some (answer_by_verb verb format page) = cc in
-    let rest : map (λ (exchange : Exchange). answer_in exchange.outcome) steps ≡ map (λ (page : Page). Some (answer_by_verb verb format page)) pages = cc in (
+    let rest : map (λ (exchange : Transition). answer_in exchange.outcome) steps ≡ map (λ (page : Page). Some (answer_by_verb verb format page)) pages = cc in (
       page_of config verb format visit page step.outcome (taken_written config visit step each.0) here,
       pages_of config verb format some steps pages each.1 rest,
     )
 
-reached : (config : Config) (state : RepoState) (calls : List Call) (all : List Visit) (list_request : ListRequest) (first : Visit) (others : List Visit) (steps : List Exchange)
+reached : (config : RepositoryConfig) (state : RepoState) (calls : List Call) (all : List Visit) (list_request : ListQuery) (first : Visit) (others : List Visit) (steps : List Transition)
     → IsConfig config → AreRepositoryFormats config.formats → IsReachable config state → IsFollowing config all list_request first others → AllZip (IsTaken config) (first ∷ others) steps
     → IsPart steps (run config state (commands_in config.granularity calls)) → AreReached config list_request first others
 reached config state calls all list_request first others [] rules formats reachable chain each among = absurd each
@@ -126,7 +126,7 @@ reached config state calls all list_request first others (step ∷ steps) rules 
       printed = pages_of config list_request.verb followed.format (first ∷ others) (step ∷ steps) told.0 each followed.told;
     }
 
-pub visits_followed_from : (config : Config) (state : RepoState) (calls : List Call) (list_request : ListRequest) (first : Visit) (others : List Visit) → IsConfig config → AreRepositoryFormats config.formats
+pub visits_followed_from : (config : RepositoryConfig) (state : RepoState) (calls : List Call) (list_request : ListQuery) (first : Visit) (others : List Visit) → IsConfig config → AreRepositoryFormats config.formats
     → IsReachable config state → IsFollowing config (visits config state calls) list_request first others → AreReached config list_request first others
 visits_followed_from config state calls list_request first others rules formats reachable chain =
     let all : List Visit = visits config state calls in
@@ -137,7 +137,7 @@ visits_followed_from config state calls list_request first others rules formats 
     reached config state calls all list_request first others steps.steps rules formats reachable chain steps.each
     (subst (IsPart steps.steps) (steps_run config state calls) steps.among)
 
-pub visits_followed : (config : Config) (calls : List Call) (list_request : ListRequest) (first : Visit) (others : List Visit) → IsConfig config → AreRepositoryFormats config.formats
+pub visits_followed : (config : RepositoryConfig) (calls : List Call) (list_request : ListQuery) (first : Visit) (others : List Visit) → IsConfig config → AreRepositoryFormats config.formats
     → IsFollowing config (visits config (empty_state config) calls) list_request first others → AreReached config list_request first others
 visits_followed config calls list_request first others rules formats chain =
     visits_followed_from config (empty_state config) calls list_request first others rules formats (reachable_empty config rules) chain

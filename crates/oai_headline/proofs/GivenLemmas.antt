@@ -3,7 +3,7 @@ use Rattle.std.proofs.Common.{◌≡◌, ◌∙◌, inl, inr, ℕ, Bool, true, f
 use Rattle.std.specs.List.{AllByRecursion}
 use Rattle.std.proofs.lemmas.Bool.{cond-true, cond-false}
 use Rattle.oai_item.specs.declared.faults.Fault.{Fault}
-use Rattle.oai_settings.specs.Config.{Config}
+use Rattle.oai_settings.specs.Config.{RepositoryConfig}
 use Rattle.oai_repo.specs.State.{RepoState}
 use Rattle.oai_laws.specs.Runs.{IsPart}
 use Rattle.oai_http.specs.declared.exchanges.Answer.{Answer}
@@ -22,18 +22,18 @@ use Rattle.oai_headline.proofs.TakenLemmas.{IsAsking}
 
 -- ---- what calls leave
 
-left_both : (config : Config) (state : RepoState) (calls others : List Call) → left_by config state (calls ++ others) ≡ left_by config (left_by config state calls) others
+left_both : (config : RepositoryConfig) (state : RepoState) (calls others : List Call) → left_by config state (calls ++ others) ≡ left_by config (left_by config state calls) others
 left_both config state [] others = refl
 left_both config state (call ∷ calls) others = left_both config (exchanged_alone config state call).1 calls others
 
 -- ---- one exchange
 
 -- what is known of an exchange once it was made
-pub record IsMet (config : Config) (call : Call) (before : RepoState) (answer : Answer) (after : RepoState) : Type 0 where
+pub record IsMet (config : RepositoryConfig) (call : Call) (before : RepoState) (answer : Answer) (after : RepoState) : Type 0 where
   pub given : IsTrueVisit config (record { call = call; before = before; answer = answer })
   pub left : after ≡ left_by config before (calls_done_by call answer)
 
-module _ (config : Config) (call : Call) (before : RepoState) (answer : Answer) (after : RepoState) where
+module _ (config : RepositoryConfig) (call : Call) (before : RepoState) (answer : Answer) (after : RepoState) where
   -- it was done
   met_done : (task : Task) → task_of call ≡ task → done_alone config before call.moment task ≡ (answer, after) → IsMet config call before answer after
   met_done task is done =
@@ -82,7 +82,7 @@ module _ (config : Config) (call : Call) (before : RepoState) (answer : Answer) 
             ∙ ap (λ (t : Task). (done_alone config before call.moment t).1) (cut_task call lines stopped.0 is));
       }
 
-met : (config : Config) (call : Call) (answer : Answer) (before : RepoState) (old : StoreState) (after : RepoState) (new : StoreState) → IsTrue old.honest
+met : (config : RepositoryConfig) (call : Call) (answer : Answer) (before : RepoState) (old : StoreState) (after : RepoState) (new : StoreState) → IsTrue old.honest
     → IsPerformed config call.moment (task_of call) answer before old after new → IsMet config call before answer after
 met config call answer before old after new honest performed = elim performed.ended [
   | inl done ↦ met_done config call before answer after (task_of call) refl (done_exact old.honest config call.moment (task_of call) before answer after honest done)
@@ -92,11 +92,11 @@ met config call answer before old after new honest performed = elim performed.en
 -- ---- one after the other
 
 -- what is known of them
-pub record AreMet (config : Config) (calls : List Call) (answers : List Answer) (before after : RepoState) : Type 0 where
+pub record AreMet (config : RepositoryConfig) (calls : List Call) (answers : List Answer) (before after : RepoState) : Type 0 where
   pub given : AllByRecursion (IsTrueVisit config) (visits_given config before calls answers)
   pub left : after ≡ left_by config before (calls_done calls answers)
 
-pub all_met : (config : Config) (calls : List Call) (answers : List Answer) (before : RepoState) (old : StoreState) (after : RepoState) (new : StoreState) → IsTrue old.honest
+pub all_met : (config : RepositoryConfig) (calls : List Call) (answers : List Answer) (before : RepoState) (old : StoreState) (after : RepoState) (new : StoreState) → IsTrue old.honest
     → IsRun config calls answers before old after new → AreMet config calls answers before after
 all_met config [] [] before old after new honest run = record { given = tt; left = run.0 }
 all_met config [] (answer ∷ answers) before old after new honest run = absurd run
@@ -117,7 +117,7 @@ all_met config (call ∷ calls) (answer ∷ answers) before old after new honest
 -- ---- those that were done whole
 
 -- a visit that was done whole is the machine's, in the state that it comes upon; any other is none of them
-pub whole_among : (config : Config) (state : RepoState) (calls : List Call) (answers : List Answer) → AllByRecursion (IsTrueVisit config) (visits_given config state calls answers)
+pub whole_among : (config : RepositoryConfig) (state : RepoState) (calls : List Call) (answers : List Answer) → AllByRecursion (IsTrueVisit config) (visits_given config state calls answers)
     → IsPart (whole_visits (visits_given config state calls answers)) (visits config state (calls_done calls answers))
 whole_among config state [] answers given = refl
 whole_among config state (call ∷ calls) [] given = refl
@@ -195,7 +195,7 @@ whole_among config state (call ∷ calls) (answer ∷ answers) given =
         cut other (first_is (depositing lines) is ∙ cond-false (is_none answer.fault) (call ∷ []) (other ∷ []) (ap is_none told)) (whole_is (depositing lines) (Some fault) is told) part
 
 -- a request among the visits of what was performed was done whole
-pub asking_whole : (config : Config) (state : RepoState) (calls : List Call) (answers : List Answer) → AllByRecursion (IsTrueVisit config) (visits_given config state calls answers)
+pub asking_whole : (config : RepositoryConfig) (state : RepoState) (calls : List Call) (answers : List Answer) → AllByRecursion (IsTrueVisit config) (visits_given config state calls answers)
     → (some : List Visit) → AllByRecursion IsAsking some → IsPart some (visits config state (calls_done calls answers)) → IsPart some (whole_visits (visits_given config state calls answers))
 asking_whole config state [] answers given some asks part = part
 asking_whole config state (call ∷ calls) [] given some asks part = part

@@ -10,11 +10,11 @@ use Rattle.oai_args.specs.Asks.{AskOrError}
 use Rattle.oai_args.specs.Pairs.{decoded_pairs}
 use Rattle.oai_args.specs.Requests.{request_of}
 use Rattle.oai_answers.specs.Answers.{Continuation, Page, completes, remains, whole}
-use Rattle.oai_settings.specs.Config.{Config, IsConfig}
+use Rattle.oai_settings.specs.Config.{IsConfig, RepositoryConfig}
 use Rattle.oai_repo.specs.Machine.{Outcome, accepted, documented, later, outcome_output, refused_with, requesting}
 use Rattle.oai_repo.specs.State.{RepoState, empty_state}
-use Rattle.oai_laws.specs.Following.{AreNext, IsChain, IsNextRequest, ListRequest, TokenOffer, is_later, offer_in, page_shown, selection_in}
-use Rattle.oai_laws.specs.Runs.{Exchange, IsPart, run}
+use Rattle.oai_laws.specs.Following.{AreNext, IsChain, IsNextRequest, ListQuery, TokenOffer, is_later, offer_in, page_shown, selection_in}
+use Rattle.oai_laws.specs.Runs.{IsPart, Transition, run}
 use Rattle.oai_laws.specs.Shown.{IsRegularOutcome}
 use Rattle.oai_laws.proofs.ShownLemmas.{regular_act}
 use Rattle.oai_http.specs.declared.exchanges.Answer.{Answer}
@@ -29,14 +29,14 @@ use Rattle.oai_headline.proofs.TakenLemmas.{IsReachable, only_step, reachable_af
 
 -- ---- each visit comes upon a state that commands lead to
 
-abbrev pub IsReached : Config → Visit → Type 0
+abbrev pub IsReached : RepositoryConfig → Visit → Type 0
 IsReached config visit = IsReachable config visit.before
 
-pub all_reached : (config : Config) (state : RepoState) (calls : List Call) → IsReachable config state → AllByRecursion (IsReached config) (visits config state calls)
+pub all_reached : (config : RepositoryConfig) (state : RepoState) (calls : List Call) → IsReachable config state → AllByRecursion (IsReached config) (visits config state calls)
 all_reached config state [] h = tt
 all_reached config state (call ∷ calls) h = (h, all_reached config (exchanged_alone config state call).1 calls (reachable_after config state call h))
 
-pub part_reached : (config : Config) (some all : List Visit) → IsPart some all → AllByRecursion (IsReached config) all → AllByRecursion (IsReached config) some
+pub part_reached : (config : RepositoryConfig) (some all : List Visit) → IsPart some all → AllByRecursion (IsReached config) all → AllByRecursion (IsReached config) some
 part_reached config some [] none h = subst (AllByRecursion (IsReached config)) (sym none) tt
 part_reached config some (visit ∷ all) (inl part) h = part_reached config some all part h.1
 part_reached config some (visit ∷ all) (inr here) h =
@@ -67,31 +67,31 @@ printed_by g end (later seconds) answer page offer is replied regular lasts told
 printed_by g end (accepted stamp) answer page offer is replied regular lasts told offered = absurd replied
 printed_by g end (refused_with cause) answer page offer is replied regular lasts told offered = absurd replied
 
-step_is : (config : Config) (visit : Visit) (step : Exchange) (h : IsStepOf config visit step) → step ≡ step_with config visit h.arguments
+step_is : (config : RepositoryConfig) (visit : Visit) (step : Transition) (h : IsStepOf config visit step) → step ≡ step_with config visit h.arguments
 step_is config visit step h =
     let both : step ∷ [] ≡ step_with config visit h.arguments ∷ [] = sym h.only ∙ only_step config visit h.arguments h.asked in
     let it : step ≡ step_with config visit h.arguments = cc in it
 
-pub printed_at : (config : Config) (visit : Visit) (step : Exchange) (page : Page) (offer : TokenOffer) → IsConfig config → AreRepositoryFormats config.formats → IsReached config visit
+pub printed_at : (config : RepositoryConfig) (visit : Visit) (step : Transition) (page : Page) (offer : TokenOffer) → IsConfig config → AreRepositoryFormats config.formats → IsReached config visit
     → IsStepOf config visit step → page_shown step.outcome ≡ Some page → offer_in page.continuation ≡ Some offer → IsPrinted visit.answer offer
 printed_at config visit step page offer rules formats before h told offered =
     let found : RepoState = found_by visit in
     let reachable = reachable_moved config visit.call.moment visit.before before in
     let is : step ≡ step_with config visit h.arguments = step_is config visit step h in
     printed_by config.granularity (found.clock +ℤ pos config.lifetime) step.outcome visit.answer page offer h.written
-    (subst (λ (e : Exchange). IsReplied (found.clock +ℤ pos config.lifetime) e.outcome) (sym is) (replied_act config found h.arguments))
-    (subst (λ (e : Exchange). IsRegularOutcome e.outcome) (sym is) (regular_act config found (request_in config h.arguments) formats reachable.sound))
+    (subst (λ (e : Transition). IsReplied (found.clock +ℤ pos config.lifetime) e.outcome) (sym is) (replied_act config found h.arguments))
+    (subst (λ (e : Transition). IsRegularOutcome e.outcome) (sym is) (regular_act config found (request_in config h.arguments) formats reachable.sound))
     (end_writable config found.clock rules reachable.years) told offered
 
 -- ---- the links
 
-pub its_request : (config : Config) (visit : Visit) (step : Exchange) (request : AskOrError) → IsStepOf config visit step → step.command ≡ requesting request → IsRequest config.granularity visit.call request
+pub its_request : (config : RepositoryConfig) (visit : Visit) (step : Transition) (request : AskOrError) → IsStepOf config visit step → step.command ≡ requesting request → IsRequest config.granularity visit.call request
 its_request config visit step request h is =
-    let both : requesting (request_of config.granularity (decoded_pairs h.arguments)) ≡ requesting request = ap (λ (e : Exchange). e.command) (sym (step_is config visit step h)) ∙ is in
+    let both : requesting (request_of config.granularity (decoded_pairs h.arguments)) ≡ requesting request = ap (λ (e : Transition). e.command) (sym (step_is config visit step h)) ∙ is in
     let read : request_of config.granularity (decoded_pairs h.arguments) ≡ request = cc in
     record { arguments = h.arguments; asked = h.asked; read = read }
 
-met : (config : Config) (verb : ListVerb) (before after : Visit) (b a : Exchange) → IsConfig config → AreRepositoryFormats config.formats → IsReached config before → IsStepOf config before b
+met : (config : RepositoryConfig) (verb : ListVerb) (before after : Visit) (b a : Transition) → IsConfig config → AreRepositoryFormats config.formats → IsReached config before → IsStepOf config before b
     → IsStepOf config after a → IsNextRequest verb b a → IsNextVisit config verb before after
 met config verb before after b a rules formats reached is its next = record {
   offer = next.offer;
@@ -100,7 +100,7 @@ met config verb before after b a rules formats reached is its next = record {
   unexpired = ap (λ (state : RepoState). int_lt state.clock next.offer.expires) (sym its.found) ∙ next.unexpired;
 }
 
-all_met : (config : Config) (verb : ListVerb) (before : Visit) (others : List Visit) (b : Exchange) (steps : List Exchange) → IsConfig config → AreRepositoryFormats config.formats
+all_met : (config : RepositoryConfig) (verb : ListVerb) (before : Visit) (others : List Visit) (b : Transition) (steps : List Transition) → IsConfig config → AreRepositoryFormats config.formats
     → IsReached config before → AllByRecursion (IsReached config) others → IsStepOf config before b → AllZip (IsStepOf config) others steps → AreNext verb b steps
     → AreNextVisits config verb before others
 all_met config verb before [] b steps rules formats here reached is each next = tt
@@ -115,7 +115,7 @@ not_told_to_wait g (later seconds) h = cc
 not_told_to_wait g (accepted stamp) h = refl
 not_told_to_wait g (refused_with cause) h = refl
 
-pub visits_met : (config : Config) (calls : List Call) (list_request : ListRequest) (first : Visit) (others : List Visit) (step : Exchange) (steps : List Exchange) → IsConfig config
+pub visits_met : (config : RepositoryConfig) (calls : List Call) (list_request : ListQuery) (first : Visit) (others : List Visit) (step : Transition) (steps : List Transition) → IsConfig config
     → AreRepositoryFormats config.formats → IsPart (first ∷ others) (visits config (empty_state config) calls) → AllZip (IsStepOf config) (first ∷ others) (step ∷ steps)
     → IsChain config (run config (empty_state config) (commands_in config.granularity calls)) list_request step steps
     → IsFollowing config (visits config (empty_state config) calls) list_request first others

@@ -1,9 +1,9 @@
 -- Lists of which some are part of others; chains and harvests among some visits are chains and harvests among all.
 use Rattle.std.proofs.Common.{inl, inr, ℕ, List, [], ◌∷◌, ◌++◌, map, Option, None, Some, refl, sym, ap, subst}
 use Rattle.std.specs.List.{flat_map}
-use Rattle.oai_settings.specs.Config.{Config}
-use Rattle.oai_laws.specs.Following.{IsChain, ListRequest}
-use Rattle.oai_laws.specs.Runs.{Exchange, IsPart}
+use Rattle.oai_settings.specs.Config.{RepositoryConfig}
+use Rattle.oai_laws.specs.Following.{IsChain, ListQuery}
+use Rattle.oai_laws.specs.Runs.{IsPart, Transition}
 use Rattle.oai_laws.specs.Harvests.{AreHarvests, AreSuccessive, Harvest, IsHarvest, datestamp_of, records_since}
 use Rattle.oai_headline.specs.Chains.{IsFollowing}
 use Rattle.oai_headline.specs.Visits.{Visit}
@@ -46,7 +46,7 @@ part_append {A} some (x ∷ all) few others (inr first) second =
 
 -- ---- chains
 
-pub following_more : (config : Config) (some all : List Visit) (list_request : ListRequest) (first : Visit) (others : List Visit) → IsPart some all
+pub following_more : (config : RepositoryConfig) (some all : List Visit) (list_request : ListQuery) (first : Visit) (others : List Visit) → IsPart some all
     → IsFollowing config some list_request first others → IsFollowing config all list_request first others
 following_more config some all list_request first others part chain = record {
   among = part_twice (first ∷ others) some all chain.among part;
@@ -59,7 +59,7 @@ following_more config some all list_request first others part chain = record {
 
 -- ---- harvests
 
-pub harvest_more : (config : Config) (some all : List Exchange) (list_request : ListRequest) (harvest : Harvest) → IsPart some all → IsHarvest config some list_request harvest
+pub harvest_more : (config : RepositoryConfig) (some all : List Transition) (list_request : ListQuery) (harvest : Harvest) → IsPart some all → IsHarvest config some list_request harvest
     → IsHarvest config all list_request harvest
 harvest_more config some all list_request harvest part its = record {
   asked = its.asked;
@@ -72,7 +72,7 @@ harvest_more config some all list_request harvest part its = record {
   ];
 }
   where
-    chain_more : (config : Config) (some all : List Exchange) (list_request : ListRequest) (first : Exchange) (others : List Exchange) → IsPart some all
+    chain_more : (config : RepositoryConfig) (some all : List Transition) (list_request : ListQuery) (first : Transition) (others : List Transition) → IsPart some all
         → IsChain config some list_request first others → IsChain config all list_request first others
     chain_more config some all list_request first others part chain = record {
       among = part_twice (first ∷ others) some all chain.among part;
@@ -83,7 +83,7 @@ harvest_more config some all list_request harvest part its = record {
       next = chain.next;
     }
 
-harvests_more : (config : Config) (some all : List Exchange) (prefix : List ℕ) (from : Option (List ℕ)) (harvests : List Harvest) → IsPart some all
+harvests_more : (config : RepositoryConfig) (some all : List Transition) (prefix : List ℕ) (from : Option (List ℕ)) (harvests : List Harvest) → IsPart some all
     → AreHarvests config some prefix from harvests → AreHarvests config all prefix from harvests
 harvests_more config some all prefix from [] part all_of = tt
 harvests_more config some all prefix from (harvest ∷ harvests) part all_of = (
@@ -91,7 +91,7 @@ harvests_more config some all prefix from (harvest ∷ harvests) part all_of = (
   harvests_more config some all prefix (Some (datestamp_of config harvest)) harvests part all_of.1,
 )
 
-pub successive_more : (config : Config) (some all : List Exchange) (prefix : List ℕ) (first : Harvest) (others : List Harvest) → IsPart some all
+pub successive_more : (config : RepositoryConfig) (some all : List Transition) (prefix : List ℕ) (first : Harvest) (others : List Harvest) → IsPart some all
     → AreSuccessive config some prefix first others → AreSuccessive config all prefix first others
 successive_more config some all prefix first others part successive = record {
   begun = part_twice (map (λ (harvest : Harvest). harvest.first) (first ∷ others)) some all successive.begun part;

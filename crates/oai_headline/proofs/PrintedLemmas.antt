@@ -5,7 +5,7 @@ use Rattle.oai_time.specs.TimeTexts.{second_text}
 use Rattle.oai_time.specs.declared.bound.Bound.TheVariants.{Second as OneSecond}
 use Rattle.oai_time.specs.declared.granularity.Granularity.{Granularity}
 use Rattle.oai_time.proofs.ReadingLemmas.{IsBound-unique}
-use Rattle.oai_answers.specs.Answers.{Answer, Continuation, Document, Page, completes, fails, gives_record, identifies, lists_formats, lists_headers, lists_records, lists_sets, remains, whole}
+use Rattle.oai_answers.specs.Answers.{Continuation, Document, Page, VerbAnswer, completes, fails, gives_record, identifies, lists_formats, lists_headers, lists_records, lists_sets, remains, whole}
 use Rattle.oai_answers.specs.Documents.{document}
 use Rattle.oai_answers.specs.Seen.{SeenAnswer, SeenDocument, SeenToken, answer_seen, document_seen, seen_error, seen_formats, seen_headers, seen_identity, seen_record, seen_records, seen_sets, token_seen}
 use Rattle.oai_answers.proofs.RegularLemmas.{same_seen}
@@ -13,7 +13,7 @@ use Rattle.oai_repo.specs.Machine.{Outcome, accepted, documented, later, outcome
 use Rattle.oai_laws.specs.Following.{TokenOffer, is_later, offer_in, page_in, page_shown}
 use Rattle.oai_laws.specs.Shown.{IsRegularOutcome}
 use Rattle.oai_http.specs.Answers.{answered_with}
-use Rattle.oai_http.specs.declared.exchanges.Answer.{Answer as HttpAnswer}
+use Rattle.oai_http.specs.declared.exchanges.Answer.{Answer}
 use Rattle.oai_host.specs.Answers.{answer_of}
 use Rattle.oai_headline.specs.Chains.{IsPrinted}
 use Rattle.oai_headline.proofs.EndLemmas.{AnswerEnds, EndsAt}
@@ -60,7 +60,7 @@ abbrev token_of_page : Option Page → Option SeenToken
 token_of_page None = None
 token_of_page (Some page) = Some (token_seen page.continuation)
 
-token_is : (base : List ℕ) (answer : Answer) → token_in (answer_seen base answer) ≡ token_of_page (page_in answer)
+token_is : (base : List ℕ) (answer : VerbAnswer) → token_in (answer_seen base answer) ≡ token_of_page (page_in answer)
 token_is base (fails code) = refl
 token_is base (identifies description) = refl
 token_is base (lists_formats formats) = refl
@@ -73,7 +73,7 @@ token_is base (lists_records format page) = refl
 abbrev pub HasOffer : Option Page → TokenOffer → Type 0
 HasOffer found offer = (page : Page) × (found ≡ Some page) × (offer_in page.continuation ≡ Some offer)
 
-pub page_ends : (end : ℤ) (answer : Answer) (page : Page) → page_in answer ≡ Some page → AnswerEnds end answer → EndsAt end page.continuation
+pub page_ends : (end : ℤ) (answer : VerbAnswer) (page : Page) → page_in answer ≡ Some page → AnswerEnds end answer → EndsAt end page.continuation
 page_ends end (fails code) page told ends = cc
 page_ends end (identifies description) page told ends = cc
 page_ends end (lists_formats formats) page told ends = cc
@@ -89,7 +89,7 @@ same_page end (Some its) page offer seen offered lasts dated ends =
     let same : token_seen its.continuation ≡ token_seen page.continuation = cc in
     (its, refl, same_offer end its.continuation page.continuation offer same offered lasts dated (ends its refl))
 
-answer_offers : (end : ℤ) (base its_base : List ℕ) (answer its : Answer) (page : Page) (offer : TokenOffer) → answer_seen base answer ≡ answer_seen its_base its
+answer_offers : (end : ℤ) (base its_base : List ℕ) (answer its : VerbAnswer) (page : Page) (offer : TokenOffer) → answer_seen base answer ≡ answer_seen its_base its
     → page_in its ≡ Some page → offer_in page.continuation ≡ Some offer → IsWritable end → IsWritable offer.expires → AnswerEnds end answer → HasOffer (page_in answer) offer
 answer_offers end base its_base answer its page offer seen told offered lasts dated ends =
     same_page end (page_in answer) page offer
@@ -107,14 +107,14 @@ IsReplied end (refused_with cause) = ⊥
 
 pub same_body : (g : Granularity) (d its : Document) → answer_of (outcome_output g (documented d)) ≡ answered_with (document its) → document d ≡ document its
 unfolding outcome_output
-same_body g d its same = ap (λ (a : HttpAnswer). a.body) same
+same_body g d its same = ap (λ (a : Answer). a.body) same
 
 pub never_printed : (g : Granularity) (seconds : ℤ) (body : List ℕ) → answer_of (outcome_output g (later seconds)) ≡ answered_with body → ⊥
 unfolding outcome_output
-never_printed g seconds body same = let e : Some seconds ≡ None = ap (λ (a : HttpAnswer). a.seconds) same in cc
+never_printed g seconds body same = let e : Some seconds ≡ None = ap (λ (a : Answer). a.seconds) same in cc
 
 -- the token that is printed is the one of the page that was answered
-pub printed_offer : (g : Granularity) (end : ℤ) (outcome : Outcome) (answer : HttpAnswer) (offer : TokenOffer) → answer ≡ answer_of (outcome_output g outcome)
+pub printed_offer : (g : Granularity) (end : ℤ) (outcome : Outcome) (answer : Answer) (offer : TokenOffer) → answer ≡ answer_of (outcome_output g outcome)
     → IsReplied end outcome → IsRegularOutcome outcome → IsWritable end → IsPrinted answer offer → HasOffer (page_shown outcome) offer
 printed_offer g end (documented d) answer offer is replied regular lasts printed =
     let bytes : document d ≡ document printed.its = same_body g d printed.its (sym is ∙ printed.written) in

@@ -10,8 +10,8 @@ use Rattle.oai_answers.specs.Answers.{Document}
 use Rattle.oai_answers.specs.Documents.{document}
 use Rattle.oai_answers.specs.Documents as doc
 use Rattle.oai_deposit.specs.Lines.{line_of}
-use Rattle.oai_settings.specs.Config.{Config}
-use Rattle.oai_repo.specs.Changes.{refusal_of, stamp_at}
+use Rattle.oai_settings.specs.Config.{RepositoryConfig}
+use Rattle.oai_holdings.specs.Changes.{refusal_of, stamp_at}
 use Rattle.oai_repo.specs.Machine.{Outcome, accepted, act, act_on_change, command_of, documented, later, line, outcome_output, refused_with}
 use Rattle.oai_repo.specs.State.{RepoState, moved}
 use Rattle.oai_laws.specs.Following.{TokenOffer}
@@ -66,11 +66,11 @@ IsOfLine (later seconds) = ⊥
 IsOfLine (accepted stamp) = Unit {0}
 IsOfLine (refused_with cause) = Unit {0}
 
-changed_line : (config : Config) (state : RepoState) (stamp : ℤ) (change : Change) (refusal : Option ChangeRefusal) → IsOfLine (act_on_change config state stamp change refusal).0
+changed_line : (config : RepositoryConfig) (state : RepoState) (stamp : ℤ) (change : Change) (refusal : Option ChangeRefusal) → IsOfLine (act_on_change config state stamp change refusal).0
 changed_line config state stamp change (Some cause) = tt
 changed_line config state stamp change None = tt
 
-line_outcome : (config : Config) (state : RepoState) (read : Result Change LineRefusal) → IsOfLine (act config state (command_of config.granularity (line read))).0
+line_outcome : (config : RepositoryConfig) (state : RepoState) (read : Result Change LineRefusal) → IsOfLine (act config state (command_of config.granularity (line read))).0
 unfolding act
 line_outcome config state (Ok change) =
     changed_line config state (stamp_at config state.clock) change (refusal_of config (stamp_at config state.clock) state.holdings change)
@@ -95,7 +95,7 @@ not_first g (later seconds) others of_line first = of_line
 not_first g (accepted stamp) others of_line first = ok_first (datestamp_text g stamp) others first
 not_first g (refused_with cause) others of_line first = refused_first cause others first
 
-lines_first : (config : Config) (moment : ℤ) (state : RepoState) (lines : List (List ℕ)) → first_of (after_lines config moment state lines).0 ≡ 60 → ⊥
+lines_first : (config : RepositoryConfig) (moment : ℤ) (state : RepoState) (lines : List (List ℕ)) → first_of (after_lines config moment state lines).0 ≡ 60 → ⊥
 lines_first config moment state [] first = cc
 lines_first config moment state (text ∷ lines) first =
     not_first config.granularity (act config (moved moment state) (command_of config.granularity (line (line_of text)))).0
@@ -103,7 +103,7 @@ lines_first config moment state (text ∷ lines) first =
 
 -- ---- a visit
 
-pub alone_visit : (config : Config) (state : RepoState) (calls : List Call) (visit : Visit) → IsPart (visit ∷ []) (visits config state calls)
+pub alone_visit : (config : RepositoryConfig) (state : RepoState) (calls : List Call) (visit : Visit) → IsPart (visit ∷ []) (visits config state calls)
     → visit.answer ≡ (exchanged_alone config visit.before visit.call).0
 alone_visit config state [] visit part = cc
 alone_visit config state (call ∷ calls) visit (inl part) = alone_visit config (exchanged_alone config state call).1 calls visit part
@@ -111,7 +111,7 @@ alone_visit config state (call ∷ calls) visit (inr here) =
     let is : visit_in config state call ≡ visit = cc in
     subst (λ (v : Visit). v.answer ≡ (exchanged_alone config v.before v.call).0) is refl
 
-pub printing_asks : (config : Config) (visit : Visit) (offer : TokenOffer) → visit.answer ≡ (exchanged_alone config visit.before visit.call).0 → IsPrinted visit.answer offer → IsAsking visit
+pub printing_asks : (config : RepositoryConfig) (visit : Visit) (offer : TokenOffer) → visit.answer ≡ (exchanged_alone config visit.before visit.call).0 → IsPrinted visit.answer offer → IsAsking visit
 printing_asks config visit offer is printed = by (task_of visit.call) refl
   where
     begins : (task : Task) → task_of visit.call ≡ task → first_of (done_alone config visit.before visit.call.moment task).0.body ≡ 60

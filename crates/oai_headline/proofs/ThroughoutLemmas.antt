@@ -3,7 +3,7 @@ use Rattle.std.proofs.Common.{◌≡◌, ◌∙◌, ℕ, suc, Bool, false, IsTru
 use Rattle.std.specs.List.{All, AllByRecursion, AllZip, flat_map}
 use Rattle.std.proofs.lemmas.Bool.{cond-false}
 use Rattle.oai_item.specs.declared.faults.Fault.{Fault}
-use Rattle.oai_settings.specs.Config.{Config}
+use Rattle.oai_settings.specs.Config.{RepositoryConfig}
 use Rattle.oai_repo.specs.State.{RepoState, empty_state}
 use Rattle.oai_config.specs.Configs.{HostConfig, NamedConfig}
 use Rattle.oai_laws.proofs.EndedLemmas.{standing_empty}
@@ -27,7 +27,7 @@ use Rattle.oai_headline.proofs.EraLemmas.{throughout_from}
 at_one : (calls : List Call) (answers : List Answer) (entry : NamedConfig) (old new : StoreState) (after : Repository) → HasRules entry → IsTrue old.honest → IsOwnRun calls answers old new (begun entry) after
     → IsThroughoutAt calls answers entry after.state
 at_one calls answers entry old new after rules honest own =
-    let config : Config = entry.config in
+    let config : RepositoryConfig = entry.config in
     let state : RepoState = empty_state config in
     let own_cs : List Call = own_calls entry.name calls in
     let own_as : List Answer = own_answers entry.name calls answers in
@@ -71,7 +71,7 @@ throughout_on config honest failures first last calls answers rules made so run 
 
 -- ---- one place
 
-pub given_there : (config : Config) (state : RepoState) (front : List Call) (call : Call) (back : List Call) (given : List Answer) (answer : Answer) (more : List Answer) → length front ≡ length given
+pub given_there : (config : RepositoryConfig) (state : RepoState) (front : List Call) (call : Call) (back : List Call) (given : List Answer) (answer : Answer) (more : List Answer) → length front ≡ length given
     → AllByRecursion (IsTrueVisit config) (visits_given config state (front ++ call ∷ back) (given ++ answer ∷ more)) → answer.fault ≡ None
     → answer ≡ (exchanged_alone config (left_by config state (calls_done front given)) call).0
 given_there config state [] call back [] answer more same all none = subst (λ (f : Option Fault). IsTrueBy config (record { call = call; before = state; answer = answer }) f) none all.0
@@ -81,7 +81,7 @@ given_there config state (c ∷ front) call back (a ∷ given) answer more same 
     given_there config (left_by config state (calls_done_by c a)) front call back given answer more (omega (arith, same)) all.1 none
     ∙ ap (λ (s : RepoState). (exchanged_alone config s call).0) (sym (both config state (calls_done_by c a) (calls_done front given)))
   where
-    both : (config : Config) (state : RepoState) (calls others : List Call) → left_by config state (calls ++ others) ≡ left_by config (left_by config state calls) others
+    both : (config : RepositoryConfig) (state : RepoState) (calls others : List Call) → left_by config state (calls ++ others) ≡ left_by config (left_by config state calls) others
     both config state [] others = refl
     both config state (call ∷ calls) others = both config (exchanged_alone config state call).1 calls others
 

@@ -17,7 +17,7 @@ use Rattle.jiff_core.proofs.MarchLemmas.{day_count-early}
 use Rattle.jiff_core.proofs.SignedLemmas.{signed_arith}
 use Rattle.oai_time.specs.declared.bound.Bound.{Bound}
 use Rattle.oai_time.specs.declared.granularity.Granularity.TheVariants.{Second}
-use Rattle.oai_deposit.specs.Json.{elements_at, elements_of, has_members, json_in, text_at, texts_at}
+use Rattle.oai_json.specs.Json.{elements_at, elements_of, has_members, json_in, text_at, texts_at}
 use Rattle.oai_deposit.specs.Lines.{asked_change, deletion_shape, deposit_shape, field_list_of, have_xml_texts, line_of, record_of, records_at, records_of, shape_of}
 use Rattle.oai_args.specs.Arguments.{arguments_in, given}
 use Rattle.oai_args.specs.Bounds.{are_bounds, are_not_turned, is_some_bound}

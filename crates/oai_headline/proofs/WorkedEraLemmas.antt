@@ -12,7 +12,7 @@ use Rattle.oai_answers.specs.declared.errors.ErrorCode.TheVariants.{BadResumptio
 use Rattle.oai_repo.specs.Machine.{Outcome, accepted, documented, later, outcome_output, refused_with}
 use Rattle.oai_repo.specs.State.{RepoState, empty_state}
 use Rattle.oai_laws.specs.Following.{answer_in}
-use Rattle.oai_laws.specs.Runs.{Exchange, IsPart, run}
+use Rattle.oai_laws.specs.Runs.{IsPart, Transition, run}
 use Rattle.oai_laws.specs.WorkedHarvests.{archive_b, harvest_run, prefix}
 use Rattle.oai_laws.proofs.WorkedEraLemmas.{e0, later_run, page_among, refused, refused_among, refused_told}
 use Rattle.oai_laws.proofs.WorkedHarvestLemmas.{configured, offer_1, offered_1, page_1, shown_page_1, told_1}

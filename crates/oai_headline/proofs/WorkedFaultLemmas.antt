@@ -5,7 +5,7 @@ use Rattle.std.specs.Prelude.{if◌then◌else◌}
 use Rattle.std.proofs.lemmas.Bool.{cond-true}
 use Rattle.oai_item.specs.declared.faults.Fault.{Fault}
 use Rattle.oai_item.specs.declared.faults.Fault.TheVariants.{Device, NoMemory}
-use Rattle.oai_settings.specs.Config.{Config}
+use Rattle.oai_settings.specs.Config.{RepositoryConfig}
 use Rattle.oai_repo.specs.State.{RepoState, empty_state}
 use Rattle.oai_laws.specs.Runs.{IsPart}
 use Rattle.oai_laws.specs.Worked.{all_records, worked_config}
@@ -32,7 +32,7 @@ abbrev FailsSo : Call → Option Answer → Type 0
 FailsSo call None = Unit {0}
 FailsSo call (Some answer) = (fault : Fault) × (answer.fault ≡ Some fault) × IsFailure fault (task_of call) answer
 
-given_with : (config : Config) (state : RepoState) (calls : List Call) (fails : List (Option Answer)) → AllZip FailsSo calls fails
+given_with : (config : RepositoryConfig) (state : RepoState) (calls : List Call) (fails : List (Option Answer)) → AllZip FailsSo calls fails
     → AllByRecursion (IsTrueVisit config) (visits_given config state calls (answers_with config state calls fails))
 given_with config state [] fails so = tt
 given_with config state (call ∷ calls) [] so = tt
@@ -59,7 +59,7 @@ whole_one call answer (refusing status) none = refl
 whole_one call answer (asking arguments) none = cond-true (is_none answer.fault) (call ∷ []) [] none
 whole_one call answer (depositing lines) none = cond-true (is_none answer.fault) (call ∷ []) _ none
 
-performed_with : (config : Config) (state : RepoState) (calls : List Call) (fails : List (Option Answer)) → calls_done calls (answers_with config state calls fails) ≡ planned calls fails
+performed_with : (config : RepositoryConfig) (state : RepoState) (calls : List Call) (fails : List (Option Answer)) → calls_done calls (answers_with config state calls fails) ≡ planned calls fails
 performed_with config state [] fails = refl
 performed_with config state (call ∷ calls) [] = refl
 performed_with config state (call ∷ calls) (None ∷ fails) =

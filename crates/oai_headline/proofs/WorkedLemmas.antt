@@ -17,8 +17,8 @@ use Rattle.oai_settings.specs.Config.{is_repository_name}
 use Rattle.oai_repo.specs.Listing.{part_from, selection_response, wait_at}
 use Rattle.oai_repo.specs.Machine.{Outcome, accepted, act, documented, later, outcome_output, refused_with}
 use Rattle.oai_repo.specs.State.{RepoState, empty_state}
-use Rattle.oai_laws.specs.Following.{IsChain, ListRequest, first_request, next_request, page_shown}
-use Rattle.oai_laws.specs.Runs.{Exchange, IsPart, Timed, performed, run}
+use Rattle.oai_laws.specs.Following.{IsChain, ListQuery, first_request, next_request, page_shown}
+use Rattle.oai_laws.specs.Runs.{IsPart, Timed, Transition, performed, run}
 use Rattle.oai_laws.specs.Worked.{after, all_headers, all_records, delete, deposit, worked_commands, worked_config, worked_run}
 use Rattle.oai_laws.proofs.WorkedLemmas.{chain, configured, from_2, from_3, from_4, from_5, from_6, from_7, from_8, from_9, from_10, from_11, from_12, from_13, from_14, from_15, last_page, led_1, led_2, led_3, led_4, led_5, led_6, led_7, led_8, led_9, led_10, led_11, led_12, led_13, led_14, opens, page_1, page_2, page_3, passes_over, records_told, s1, s2, s3, s4, s5, s6, s7, s9, s10, s12, s13, s14, second, second_page, takes_up, told_1, told_2, told_3}
 use Rattle.oai_laws.specs.Harvests.{AreSuccessive, Harvest}
@@ -45,17 +45,17 @@ abbrev pub own_a : List Call
 own_a = own_calls (codes "a") worked_calls
 
 -- another list is asked for while the table is full
-abbrev waits : Exchange
+abbrev waits : Transition
 waits = performed worked_config s10 (after 30 (first_request all_headers))
 
-abbrev four_steps : List Exchange
+abbrev four_steps : List Transition
 four_steps = opens ∷ waits ∷ second_page ∷ last_page ∷ []
 
 amid : IsPart four_steps worked_run
 amid =
-    let chain_15 : List Exchange = last_page ∷ [] in
-    let chain_13 : List Exchange = second_page ∷ chain_15 in
-    let chain_11 : List Exchange = waits ∷ chain_13 in
+    let chain_15 : List Transition = last_page ∷ [] in
+    let chain_13 : List Transition = second_page ∷ chain_15 in
+    let chain_11 : List Transition = waits ∷ chain_13 in
     let part_15 : IsPart chain_15 (run worked_config s14 from_15) = inr ([], refl, refl) in
     let part_14 : IsPart chain_15 (run worked_config s13 from_14) = passes_over s13 s14 (after 70 (deposit (codes "oai:a:5"))) from_15 chain_15 led_14 part_15 in
     let part_13 : IsPart chain_13 (run worked_config s12 from_13) = takes_up s12 s13 (after 64 (next_request list.Records (codes "2.2"))) from_14 chain_15 led_13 part_14 in
@@ -98,10 +98,10 @@ told_outcome g visit (later seconds) page is shown = cc
 told_outcome g visit (accepted stamp) page is shown = cc
 told_outcome g visit (refused_with cause) page is shown = cc
 
-told_at : (visit : Visit) (step : Exchange) (page : Page) → IsStepOf worked_config visit step → page_shown step.outcome ≡ Some page → IsTold visit page
+told_at : (visit : Visit) (step : Transition) (page : Page) → IsStepOf worked_config visit step → page_shown step.outcome ≡ Some page → IsTold visit page
 told_at visit step page h shown = told_outcome Second visit step.outcome page h.written shown
 
-asks_for : (state : RepoState) (moment : ℤ) (r : ListRequest) → IsAsked (performed worked_config state (record { moment = moment; command = first_request r }))
+asks_for : (state : RepoState) (moment : ℤ) (r : ListQuery) → IsAsked (performed worked_config state (record { moment = moment; command = first_request r }))
 asks_for state moment r = (asks (ask.List r.verb r.prefix r.from r.until r.set), refl)
 
 asks_next : (state : RepoState) (moment : ℤ) (verb : ListVerb) (token : List ℕ) → IsAsked (performed worked_config state (record { moment = moment; command = next_request verb token }))
@@ -154,7 +154,7 @@ worked_list carried =
     let steps : worked_run ≡ flat_map (steps_of worked_config) (own_visits first_entry worked_calls) =
     ap (run worked_config (empty_state worked_config)) (sym carried) ∙ sym (steps_run worked_config (empty_state worked_config) own_a) in
     let its : AreFound worked_config four_steps (own_visits first_entry worked_calls) =
-    found worked_config (empty_state worked_config) own_a four_steps asked_each (subst (λ (all : List Exchange). IsPart four_steps all) steps amid) in
+    found worked_config (empty_state worked_config) own_a four_steps asked_each (subst (λ (all : List Transition). IsPart four_steps all) steps amid) in
     four_visits carried its.some its.each its.among
 
 -- ---- the second repository
@@ -167,7 +167,7 @@ beside_of carried first second third h =
     let steps : beside.harvest_run ≡ own_steps second_entry worked_calls =
     ap (run archive_b (empty_state archive_b)) (sym carried) ∙ sym (steps_run archive_b (empty_state archive_b) own_b) in
     record {
-      successive = subst (λ (all : List Exchange). AreSuccessive archive_b all prefix first (second ∷ third ∷ [])) steps h.successive;
+      successive = subst (λ (all : List Transition). AreSuccessive archive_b all prefix first (second ∷ third ∷ [])) steps h.successive;
       by_pages = h.by_pages;
       at_once = h.at_once;
       nothing = h.nothing;

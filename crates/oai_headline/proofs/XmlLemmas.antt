@@ -11,7 +11,7 @@ use Rattle.oai_args.specs.Pairs.{decoded_pairs}
 use Rattle.oai_args.specs.Requests.{request_of}
 use Rattle.oai_answers.specs.Answers.{Attributes, Document}
 use Rattle.oai_answers.specs.Documents.{document}
-use Rattle.oai_settings.specs.Config.{Config}
+use Rattle.oai_settings.specs.Config.{RepositoryConfig}
 use Rattle.oai_repo.specs.Answers.{arguments_of_request, document_at}
 use Rattle.oai_repo.specs.Listing.{Response, request_response, retry_after, with_answer}
 use Rattle.oai_repo.specs.Machine.{act, line, outcome_of, outcome_output, requesting}
@@ -43,17 +43,17 @@ use Rattle.oai_headline.specs.Eras.{AreTrueEach, AreTrueOver, HaveNumbersIn, Vis
 use Rattle.oai_startup.specs.Rules.{HasRules}
 use Rattle.oai_headline.specs.Throughout.{AreTrueFrom, IsFailure, IsTrueBy, IsTrueVisit, calls_done, calls_done_by, left_by, own_given, visits_given}
 use Rattle.oai_headline.specs.Visits.{Visit, commands_by, commands_in, commands_of, timed_input}
-use Rattle.oai_headline.specs.XmlAnswers.{AreAnsweredInXml, HasTexts, IsAnsweredInXml, IsXmlDocument}
+use Rattle.oai_headline.specs.XmlAnswers.{AreAnsweredInXml, HasLegalTexts, IsAnsweredInXml, IsXmlDocument}
 use Rattle.oai_headline.proofs.CarriedLemmas.{calls_behind}
 
 -- ---- what is asked of the configuration
 
-record IsFit (config : Config) : Type 0 where
+record IsFit (config : RepositoryConfig) : Type 0 where
   pub rules : Rules may_be_default config
   pub foreign : have_namespaces is_foreign config ≡ true → Rules is_foreign config
   pub texts : is_legal_config config ≡ true
 
-is_fit : (entry : NamedConfig) → HasRules entry → HasTexts entry → have_namespaces may_be_default entry.config ≡ true → IsFit entry.config
+is_fit : (entry : NamedConfig) → HasRules entry → HasLegalTexts entry → have_namespaces may_be_default entry.config ≡ true → IsFit entry.config
 is_fit entry rules texts all = record {
   rules = rules_of may_be_default entry.config rules.rules rules.formats all;
   foreign = λ none. rules_of is_foreign entry.config rules.rules rules.formats none;
@@ -76,19 +76,19 @@ calls_legal g [] = refl
 calls_legal g (call ∷ calls) =
     list_all-append (λ (timed : Timed). is_legal_command timed.command) (commands_by g call) (commands_in g calls) ∙ both (task_legal g call.moment (task_of call)) (calls_legal g calls)
 
-record Holds (config : Config) (state : RepoState) : Type 0 where
+record Holds (config : RepositoryConfig) (state : RepoState) : Type 0 where
   pub sound : IsSound config state
   pub texts : AreLegal state
 
-sound_behind : (config : Config) (state : RepoState) (commands : List Timed) → IsSound config state → IsSound config (left_behind config state commands)
+sound_behind : (config : RepositoryConfig) (state : RepoState) (commands : List Timed) → IsSound config state → IsSound config (left_behind config state commands)
 sound_behind config state [] sound = sound
 sound_behind config state (timed ∷ commands) sound =
     sound_behind config (performed config state timed).left commands (sound_act config (moved timed.moment state) timed.command (sound_moved config timed.moment state sound))
 
-holds_empty : (config : Config) → Holds config (empty_state config)
+holds_empty : (config : RepositoryConfig) → Holds config (empty_state config)
 holds_empty config = record { sound = sound_empty config; texts = legal_empty config }
 
-holds_left : (config : Config) (state : RepoState) (calls : List Call) → IsFit config → Holds config state → Holds config (left_by config state calls)
+holds_left : (config : RepositoryConfig) (state : RepoState) (calls : List Call) → IsFit config → Holds config state → Holds config (left_by config state calls)
 holds_left config state calls fit held =
     subst (Holds config) (calls_behind config state calls)
     (record {
@@ -96,13 +96,13 @@ holds_left config state calls fit held =
       texts = legal_behind config state (commands_in config.granularity calls) fit.texts (calls_legal config.granularity calls) held.texts;
     })
 
-holds_ended : (config : Config) (raise : ℕ) (state : RepoState) → (ended raise state).open_lists.next ≤ LAST_NUMBER → Holds config state → Holds config (ended raise state)
+holds_ended : (config : RepositoryConfig) (raise : ℕ) (state : RepoState) → (ended raise state).open_lists.next ≤ LAST_NUMBER → Holds config state → Holds config (ended raise state)
 holds_ended config raise state few held =
     record { sound = sound_ended config raise state few held.sound; texts = record { items = held.texts.items; sets = held.texts.sets; lists = refl } }
 
 -- ---- an answer
 
-in_xml : (config : Config) (d : Document) → IsGivenDocument may_be_default d → (have_namespaces is_foreign config ≡ true → IsGivenDocument is_foreign d) → IsLegalDocument d → IsXmlDocument config (document d)
+in_xml : (config : RepositoryConfig) (d : Document) → IsGivenDocument may_be_default d → (have_namespaces is_foreign config ≡ true → IsGivenDocument is_foreign d) → IsLegalDocument d → IsXmlDocument config (document d)
 in_xml config d given other texts =
     let its = is_read d given texts in
     record { tree = document_tree d; written = document_written d; whole = given_whole d given; text = its.0; read = its.1; schema = λ none. given_of_schema d (other none) }
@@ -110,7 +110,7 @@ in_xml config d given other texts =
 not_unavailable : status.ServiceUnavailable ≢ status.Ok
 not_unavailable same = cc
 
-in_xml_said : (config : Config) (clock : ℤ) (asked : Attributes) (said : Response) → IsGivenBy may_be_default (outcome_of config clock asked said)
+in_xml_said : (config : RepositoryConfig) (clock : ℤ) (asked : Attributes) (said : Response) → IsGivenBy may_be_default (outcome_of config clock asked said)
     → (have_namespaces is_foreign config ≡ true → IsGivenBy is_foreign (outcome_of config clock asked said)) → IsLegalOutcome (outcome_of config clock asked said)
     → (answer_of (outcome_output config.granularity (outcome_of config clock asked said))).status ≡ status.Ok
     → IsXmlDocument config (answer_of (outcome_output config.granularity (outcome_of config clock asked said))).body
@@ -118,7 +118,7 @@ unfolding outcome_output
 in_xml_said config clock asked (with_answer answer) given other texts ok = in_xml config (document_at config clock asked answer) given other texts
 in_xml_said config clock asked (retry_after seconds) given other texts ok = absurd (not_unavailable ok)
 
-in_xml_done : (config : Config) (state : RepoState) (moment : ℤ) (arguments : List ℕ) → IsFit config → Holds config state → (done_alone config state moment (asking arguments)).0.status ≡ status.Ok
+in_xml_done : (config : RepositoryConfig) (state : RepoState) (moment : ℤ) (arguments : List ℕ) → IsFit config → Holds config state → (done_alone config state moment (asking arguments)).0.status ≡ status.Ok
     → IsXmlDocument config (done_alone config state moment (asking arguments)).0.body
 unfolding act
 in_xml_done config state moment arguments fit held ok =
@@ -138,7 +138,7 @@ never_ok Damaged same = cc
 
 -- ---- a visit
 
-in_xml_by : (config : Config) (visit : Visit) (fault : Option Fault) → IsFit config → Holds config visit.before → IsTrueBy config visit fault → IsAnsweredInXml config visit
+in_xml_by : (config : RepositoryConfig) (visit : Visit) (fault : Option Fault) → IsFit config → Holds config visit.before → IsTrueBy config visit fault → IsAnsweredInXml config visit
 in_xml_by config visit None fit held so = λ arguments asked ok.
     let written : visit.answer ≡ (done_alone config visit.before visit.call.moment (asking arguments)).0 = so ∙ ap (λ (task : Task). (done_alone config visit.before visit.call.moment task).0) asked in
     subst (λ (answer : Answer). IsXmlDocument config answer.body) (sym written)
@@ -149,7 +149,7 @@ in_xml_by config visit (Some fault) fit held so = λ arguments asked ok.
 
 -- ---- visits, one after the other
 
-in_xml_each : (config : Config) (state : RepoState) (calls : List Call) (answers : List Answer) → IsFit config → Holds config state
+in_xml_each : (config : RepositoryConfig) (state : RepoState) (calls : List Call) (answers : List Answer) → IsFit config → Holds config state
     → AllByRecursion (IsTrueVisit config) (visits_given config state calls answers) → AllByRecursion (IsAnsweredInXml config) (visits_given config state calls answers)
 in_xml_each config state [] answers fit held given = tt
 in_xml_each config state (call ∷ calls) [] fit held given = tt
@@ -158,7 +158,7 @@ in_xml_each config state (call ∷ calls) (answer ∷ answers) fit held given = 
   in_xml_each config (left_by config state (calls_done_by call answer)) calls answers fit (holds_left config state (calls_done_by call answer) fit held) given.1,
 )
 
-in_xml_eras : (config : Config) (state : RepoState) (eras : List VisitedEra) → IsFit config → Holds config state → HaveNumbersIn config state eras → AreTrueEach config state eras
+in_xml_eras : (config : RepositoryConfig) (state : RepoState) (eras : List VisitedEra) → IsFit config → Holds config state → HaveNumbersIn config state eras → AreTrueEach config state eras
     → AreAnsweredInXml config state eras
 in_xml_eras config state [] fit held numbers given = tt
 in_xml_eras config state (era ∷ eras) fit held numbers given =
@@ -169,14 +169,14 @@ in_xml_eras config state (era ∷ eras) fit held numbers given =
 
 -- ---- a repository from its beginning on
 
-pub answered_in_xml : (calls : List Call) (answers : List Answer) (entry : NamedConfig) (left : RepoState) → HasRules entry → HasTexts entry
+pub answered_in_xml : (calls : List Call) (answers : List Answer) (entry : NamedConfig) (left : RepoState) → HasRules entry → HasLegalTexts entry
     → have_namespaces may_be_default entry.config ≡ true
     → AreTrueFrom entry.config (empty_state entry.config) (own_calls entry.name calls) (own_answers entry.name calls answers) left
     → AllByRecursion (IsAnsweredInXml entry.config) (own_given entry calls answers)
 answered_in_xml calls answers entry left rules texts all so =
     in_xml_each entry.config (empty_state entry.config) (own_calls entry.name calls) (own_answers entry.name calls answers) (is_fit entry rules texts all) (holds_empty entry.config) so.given
 
-pub answered_in_xml_over : (eras : List VisitedEra) (entry : NamedConfig) (left : RepoState) → HasRules entry → HasTexts entry
+pub answered_in_xml_over : (eras : List VisitedEra) (entry : NamedConfig) (left : RepoState) → HasRules entry → HasLegalTexts entry
     → have_namespaces may_be_default entry.config ≡ true → AreTrueOver entry.config eras left → HaveNumbersIn entry.config (empty_state entry.config) eras
     → AreAnsweredInXml entry.config (empty_state entry.config) eras
 answered_in_xml_over eras entry left rules texts all so numbers =

@@ -13,12 +13,12 @@ use Rattle.oai_args.specs.declared.requests.Ask.TheVariants as ask
 use Rattle.oai_answers.specs.Answers.{Document, Page}
 use Rattle.oai_answers.specs.Documents.{document}
 use Rattle.oai_answers.specs.Seen.{IsRegular}
-use Rattle.oai_settings.specs.Config.{Config}
+use Rattle.oai_settings.specs.Config.{RepositoryConfig}
 use Rattle.oai_repo.specs.Listing.{answer_by_verb}
 use Rattle.oai_repo.specs.Machine.{outcome_output}
 use Rattle.oai_args.specs.Verbs.{is_of_records}
-use Rattle.oai_laws.specs.Following.{IsFollowedThrough, ListRequest, TokenOffer, offer_in, page_in, selection_in}
-use Rattle.oai_laws.specs.Runs.{Exchange, IsPart}
+use Rattle.oai_laws.specs.Following.{IsFollowedThrough, ListQuery, TokenOffer, offer_in, page_in, selection_in}
+use Rattle.oai_laws.specs.Runs.{IsPart, Transition}
 use Rattle.oai_http.specs.Answers.{answered_with}
 use Rattle.oai_http.specs.declared.exchanges.Answer.{Answer}
 use Rattle.oai_http.specs.declared.exchanges.Call.{Call}
@@ -49,20 +49,20 @@ pub record IsPrinted (answer : Answer) (offer : TokenOffer) : Type 0 where
 -- ---- a chain
 
 -- the second visit comes, by the verb, with the token that the answer to the first prints, before its expirationDate
-pub record IsNextVisit (config : Config) (verb : ListVerb) (before after : Visit) : Type 0 where
+pub record IsNextVisit (config : RepositoryConfig) (verb : ListVerb) (before after : Visit) : Type 0 where
   pub offer : TokenOffer
   pub printed : IsPrinted before.answer offer
   pub asked : IsRequest config.granularity after.call (asks (ask.Resume verb offer.token))
   pub unexpired : int_lt (found_by after).clock offer.expires ≡ true
 
 -- each comes with the token of the one before it
-abbrev pub AreNextVisits : Config → ListVerb → Visit → List Visit → Type 0
+abbrev pub AreNextVisits : RepositoryConfig → ListVerb → Visit → List Visit → Type 0
 AreNextVisits config verb before [] = Unit {0}
 AreNextVisits config verb before (next ∷ others) = IsNextVisit config verb before next × AreNextVisits config verb next others
 
 -- a chain among visits: the first requests a list that is too long for one answer, and is not answered with a time to
 -- wait (section 3.1.2.2); and the others follow it by the tokens, whatever else comes between
-pub record IsFollowing (config : Config) (all : List Visit) (list_request : ListRequest) (first : Visit) (others : List Visit) : Type 0 where
+pub record IsFollowing (config : RepositoryConfig) (all : List Visit) (list_request : ListQuery) (first : Visit) (others : List Visit) : Type 0 where
   pub among : IsPart (first ∷ others) all
   pub verb : is_of_records list_request.verb ≡ true
   pub asked : IsRequest config.granularity first.call
@@ -74,7 +74,7 @@ pub record IsFollowing (config : Config) (all : List Visit) (list_request : List
 -- ---- what follows
 
 -- the visit is a request, is one step of the machine, and is answered with its outcome, written
-pub record IsStepOf (config : Config) (visit : Visit) (step : Exchange) : Type 0 where
+pub record IsStepOf (config : RepositoryConfig) (visit : Visit) (step : Transition) : Type 0 where
   pub arguments : List ℕ
   pub asked : task_of visit.call ≡ asking arguments
   pub only : steps_of config visit ≡ step ∷ []
@@ -89,8 +89,8 @@ pub record IsPageOf (verb : ListVerb) (format : Format) (visit : Visit) (page : 
 
 -- each visit is a step of the machine; each is answered with a page; and the pages, joined, are a prefix of the
 -- selection at the first of them, and all of it once a page has the empty token, each record once, in order
-pub record AreReached (config : Config) (list_request : ListRequest) (first : Visit) (others : List Visit) : Type 0 where
-  pub steps : List Exchange
+pub record AreReached (config : RepositoryConfig) (list_request : ListQuery) (first : Visit) (others : List Visit) : Type 0 where
+  pub steps : List Transition
   pub each : AllZip (IsStepOf config) (first ∷ others) steps
   pub pages : List Page
   pub followed : IsFollowedThrough config list_request (selection_in (found_by first) list_request) steps pages

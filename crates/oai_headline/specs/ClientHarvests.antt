@@ -19,7 +19,7 @@ use Rattle.oai_answers.specs.Documents.{document}
 use Rattle.oai_answers.specs.Seen.{IsRegular, SeenAnswer, SeenDocument, SeenRecord, SeenToken, document_seen, empty_token, no_token, record_seen, seen_error, seen_formats, seen_headers, seen_identity, seen_record, seen_records, seen_sets, seen_token}
 use Rattle.oai_answers.specs.declared.errors.ErrorCode.{ErrorCode}
 use Rattle.oai_answers.specs.declared.errors.ErrorCode.TheVariants.{BadArgument, BadResumptionToken, BadVerb, CannotDisseminateFormat, IdDoesNotExist, NoMetadataFormats, NoRecordsMatch, NoSetHierarchy}
-use Rattle.oai_settings.specs.Config.{Config}
+use Rattle.oai_settings.specs.Config.{RepositoryConfig}
 use Rattle.oai_repo.specs.State.{RepoState}
 use Rattle.oai_laws.specs.Runs.{IsPart}
 use Rattle.oai_http.specs.Answers.{answered_with}
@@ -99,7 +99,7 @@ last_visit visited (next ∷ others) = last_visit next others
 
 -- the second visit comes with the token that is seen in the answer to the first; and its own answer has a responseDate
 -- before the expirationDate that is seen there. Both are dates of the years 0000 to 9999
-pub record IsNextSeen (config : Config) (before after : SeenVisit) : Type 0 where
+pub record IsNextSeen (config : RepositoryConfig) (before after : SeenVisit) : Type 0 where
   pub records : List SeenRecord
   pub token : List ℕ
   pub expires : ℤ
@@ -113,13 +113,13 @@ pub record IsNextSeen (config : Config) (before after : SeenVisit) : Type 0 wher
   pub writable : IsWritable date × IsWritable expires
 
 -- each comes with the token of the one before it
-abbrev pub AreNextSeen : Config → SeenVisit → List SeenVisit → Type 0
+abbrev pub AreNextSeen : RepositoryConfig → SeenVisit → List SeenVisit → Type 0
 AreNextSeen config before [] = Unit {0}
 AreNextSeen config before (next ∷ others) = IsNextSeen config before next × AreNextSeen config next others
 
 -- a harvest among visits, whatever else comes between: the first requests all records in the metadataPrefix, from that
 -- date on if one is given; the others follow its list by the tokens; and with the last answer the harvest is over
-pub record IsClientHarvest (config : Config) (all : List Visit) (prefix : List ℕ) (from : Option (List ℕ)) (harvest : ClientHarvest) : Type 0 where
+pub record IsClientHarvest (config : RepositoryConfig) (all : List Visit) (prefix : List ℕ) (from : Option (List ℕ)) (harvest : ClientHarvest) : Type 0 where
   pub among : IsPart (map (λ (visited : SeenVisit). visited.visit) (visits_of harvest)) all
   pub seen : AllByRecursion IsSeenVisit (visits_of harvest)
   pub asked : IsRequest config.granularity harvest.first.visit.call (asks (ask.List list.Records prefix from None None))
@@ -127,7 +127,7 @@ pub record IsClientHarvest (config : Config) (all : List Visit) (prefix : List �
   pub ended : is_harvest_end (last_visit harvest.first harvest.others).seen.answer ≡ true
 
 -- a client can see the visits as such a harvest
-abbrev pub IsSomeClientHarvest : Config → List Visit → List ℕ → Option (List ℕ) → List Visit → Type 0
+abbrev pub IsSomeClientHarvest : RepositoryConfig → List Visit → List ℕ → Option (List ℕ) → List Visit → Type 0
 IsSomeClientHarvest config all prefix from some =
     (harvest : ClientHarvest) × (map (λ (visited : SeenVisit). visited.visit) (visits_of harvest) ≡ some) × IsClientHarvest config all prefix from harvest
 
@@ -140,7 +140,7 @@ datestamp_in Second date = date
 
 -- the first of the harvests begins with the records of `from`, and each other one with those of the responseDate that
 -- is seen in the first answer of the one before it
-abbrev pub AreClientHarvests : Config → List Visit → List ℕ → Option (List ℕ) → List ClientHarvest → Type 0
+abbrev pub AreClientHarvests : RepositoryConfig → List Visit → List ℕ → Option (List ℕ) → List ClientHarvest → Type 0
 AreClientHarvests config all prefix from [] = Unit {0}
 AreClientHarvests config all prefix from (harvest ∷ harvests) =
     IsClientHarvest config all prefix from harvest
@@ -148,7 +148,7 @@ AreClientHarvests config all prefix from (harvest ∷ harvests) =
 
 -- a harvest of all records in the metadataPrefix, and others after it, each of which begins later than the one before
 -- it and harvests from the responseDate of that one's first answer on
-pub record AreSuccessiveByClient (config : Config) (all : List Visit) (prefix : List ℕ) (first : ClientHarvest) (others : List ClientHarvest) : Type 0 where
+pub record AreSuccessiveByClient (config : RepositoryConfig) (all : List Visit) (prefix : List ℕ) (first : ClientHarvest) (others : List ClientHarvest) : Type 0 where
   pub begun : IsPart (map (λ (harvest : ClientHarvest). harvest.first.visit) (first ∷ others)) all
   pub harvests : AreClientHarvests config all prefix None (first ∷ others)
 
@@ -160,14 +160,14 @@ last_client_harvest harvest (next ∷ harvests) = last_client_harvest next harve
 -- ---- over eras, each of which a checkpoint ends: the visits of each
 
 -- a harvest among the visits of one era
-abbrev pub IsClientHarvestWithin : Config → List (List Visit) → List ℕ → Option (List ℕ) → ClientHarvest → Type 0
+abbrev pub IsClientHarvestWithin : RepositoryConfig → List (List Visit) → List ℕ → Option (List ℕ) → ClientHarvest → Type 0
 IsClientHarvestWithin config [] prefix from harvest = ⊥
 IsClientHarvestWithin config (all ∷ eras) prefix from harvest =
     IsClientHarvest config all prefix from harvest ⊎ IsClientHarvestWithin config eras prefix from harvest
 
 -- each in some era: the first from that date on if one is given, and each other one from the date on that was seen in
 -- the first answer of the one before it
-abbrev pub AreClientHarvestsWithin : Config → List (List Visit) → List ℕ → Option (List ℕ) → List ClientHarvest → Type 0
+abbrev pub AreClientHarvestsWithin : RepositoryConfig → List (List Visit) → List ℕ → Option (List ℕ) → List ClientHarvest → Type 0
 AreClientHarvestsWithin config eras prefix from [] = Unit {0}
 AreClientHarvestsWithin config eras prefix from (harvest ∷ harvests) =
     IsClientHarvestWithin config eras prefix from harvest
@@ -178,15 +178,15 @@ abbrev pub all_visits : List (List Visit) → List Visit
 all_visits eras = flat_map (λ (all : List Visit). all) eras
 
 -- a harvest of all records, and others after it, each of them within an era, whichever it is
-pub record AreSuccessiveByClientWithin (config : Config) (eras : List (List Visit)) (prefix : List ℕ) (first : ClientHarvest) (others : List ClientHarvest) : Type 0 where
+pub record AreSuccessiveByClientWithin (config : RepositoryConfig) (eras : List (List Visit)) (prefix : List ℕ) (first : ClientHarvest) (others : List ClientHarvest) : Type 0 where
   pub begun : IsPart (map (λ (harvest : ClientHarvest). harvest.first.visit) (first ∷ others)) (all_visits eras)
   pub harvests : AreClientHarvestsWithin config eras prefix None (first ∷ others)
 
 -- ---- a client's copy
 
 -- the records that are seen in a harvest, one answer after the other
-abbrev pub records_of : ClientHarvest → List SeenRecord
-records_of harvest = flat_map (λ (visited : SeenVisit). records_seen visited.seen.answer) (visits_of harvest)
+abbrev pub records_of_harvest : ClientHarvest → List SeenRecord
+records_of_harvest harvest = flat_map (λ (visited : SeenVisit). records_seen visited.seen.answer) (visits_of harvest)
 
 abbrev pub is_record_of : List ℕ → SeenRecord → Bool
 is_record_of identifier seen = bytes_eq seen.header.identifier identifier
@@ -199,7 +199,7 @@ last_of_each (seen ∷ records) =
 
 -- what a client keeps of harvests: of all records that it saw, the last of each identifier
 abbrev pub client_copy : List ClientHarvest → List SeenRecord
-client_copy harvests = last_of_each (flat_map records_of harvests)
+client_copy harvests = last_of_each (flat_map records_of_harvest harvests)
 
 -- the record is that of an item in that state, live or deleted, in the format
 pub record IsRecordIn (granularity : Granularity) (format : Format) (prefix : List ℕ) (state : RepoState) (seen : SeenRecord) : Type 0 where
@@ -209,7 +209,7 @@ pub record IsRecordIn (granularity : Granularity) (format : Format) (prefix : Li
   pub shown : record_seen granularity format item ≡ seen
 
 -- the copy has exactly the records that the repository has in the metadataPrefix in that state
-pub record IsWholeClientCopy (config : Config) (prefix : List ℕ) (state : RepoState) (copy : List SeenRecord) : Type 0 where
+pub record IsWholeClientCopy (config : RepositoryConfig) (prefix : List ℕ) (state : RepoState) (copy : List SeenRecord) : Type 0 where
   pub format : Format
   pub known : format_named prefix config.formats ≡ Some format
   pub members : (seen : SeenRecord) → Contains copy seen ↔ IsRecordIn config.granularity format prefix state seen
@@ -218,7 +218,7 @@ pub record IsWholeClientCopy (config : Config) (prefix : List ℕ) (state : Repo
 
 -- such harvests miss nothing, if the repository keeps deleted records (section 2.5.1): the client then has exactly the
 -- records of the items that had one in the metadataPrefix when the last of them began
-abbrev pub MissNothingSeen : Config → List (List Visit) → Type 0
+abbrev pub MissNothingSeen : RepositoryConfig → List (List Visit) → Type 0
 MissNothingSeen config eras =
     (prefix : List ℕ) (first : ClientHarvest) (others : List ClientHarvest)
     → config.deleted ≡ Persistent

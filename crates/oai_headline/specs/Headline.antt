@@ -3,9 +3,9 @@
 use Rattle.std.specs.Prelude.{◌≡◌, ℕ, Bool, List, [], ◌∷◌, map}
 use Rattle.std.specs.List.{flat_map}
 use Rattle.oai_item.specs.declared.deleted_record.DeletedRecord.TheVariants.{Persistent}
-use Rattle.oai_settings.specs.Config.{Config}
+use Rattle.oai_settings.specs.Config.{RepositoryConfig}
 use Rattle.oai_repo.specs.State.{empty_state}
-use Rattle.oai_laws.specs.Runs.{Exchange}
+use Rattle.oai_laws.specs.Runs.{Transition}
 use Rattle.oai_config.specs.Configs.{HostConfig, NamedConfig}
 use Rattle.oai_http.specs.declared.exchanges.Call.{Call}
 use Rattle.oai_host.specs.Alone.{own_calls}
@@ -28,7 +28,7 @@ abbrev pub own_visits : NamedConfig → List Call → List Visit
 own_visits entry calls = visits entry.config (empty_state entry.config) (own_calls entry.name calls)
 
 -- the steps that they make
-abbrev pub own_steps : NamedConfig → List Call → List Exchange
+abbrev pub own_steps : NamedConfig → List Call → List Transition
 own_steps entry calls = flat_map (steps_of entry.config) (own_visits entry calls)
 
 -- ---- harvests
@@ -37,7 +37,7 @@ own_steps entry calls = flat_map (steps_of entry.config) (own_visits entry calls
 -- copy, updated with harvests of it, the first of all records in a metadataPrefix, and each other one from the
 -- datestamp on at which the one before it began, holds exactly the items that had a record in that metadataPrefix when
 -- the last one began
-abbrev pub MissNothing : Config → List Exchange → Type 0
+abbrev pub MissNothing : RepositoryConfig → List Transition → Type 0
 MissNothing config steps =
     (prefix : List ℕ) (first : Harvest) (others : List Harvest)
     → config.deleted ≡ Persistent

@@ -11,23 +11,23 @@ use Rattle.oai_http.specs.Exchanges.{call_at}
 use Rattle.oai_front.specs.Runs.{AreServed, FrontCall, Served, all_served}
 
 -- the messages that were performed, as calls of the host, and their answers
-abbrev pub call_in : Served → Call
-call_in s = call_at s.moment s.done.message.asked
+abbrev pub call_of_served : Served → Call
+call_of_served s = call_at s.moment s.done.message.asked
 
-abbrev pub calls_in : List Served → List Call
-calls_in served = map call_in served
+abbrev pub calls_of_served : List Served → List Call
+calls_of_served served = map call_of_served served
 
-abbrev pub answers_in : List Served → List Answer
-answers_in served = map (λ s. s.done.answer) served
+abbrev pub answers_of_served : List Served → List Answer
+answers_of_served served = map (λ s. s.done.answer) served
 
 -- calls came, and messages were performed as `AreServed` says. At each repository the answers are a run of its own
 -- exchanges, whatever came between them, on the same connection or on others; if none of its own failed, they are what
 -- that repository alone answers. A fault is reported only if it has its cause
 pub record AreServedByHost (old new : State HostState) (calls : List FrontCall) : Type 0 where
   pub served : AreServed IsHandled old new calls
-  pub answered : AreAnswered (calls_in (all_served served.each)) (answers_in (all_served served.each)) old.handler new.handler
-  pub alone : AreAloneUnlessFailed (calls_in (all_served served.each)) (answers_in (all_served served.each)) old.handler.repositories
-  pub device : AreCounted (answers_in (all_served served.each)) old.handler.failures new.handler.failures
-  pub damaged : AreHonest (answers_in (all_served served.each)) old.handler.honest new.handler.honest
+  pub answered : AreAnswered (calls_of_served (all_served served.each)) (answers_of_served (all_served served.each)) old.handler new.handler
+  pub alone : AreAloneUnlessFailed (calls_of_served (all_served served.each)) (answers_of_served (all_served served.each)) old.handler.repositories
+  pub device : AreCounted (answers_of_served (all_served served.each)) old.handler.failures new.handler.failures
+  pub damaged : AreHonest (answers_of_served (all_served served.each)) old.handler.honest new.handler.honest
   pub honesty : new.handler.honest ≡ old.handler.honest
   pub count : old.handler.failures ≤ new.handler.failures

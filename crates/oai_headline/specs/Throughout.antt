@@ -3,9 +3,9 @@
 use Rattle.std.specs.Prelude.{◌≡◌, ◌<◌, ℕ, Bool, true, false, ◌&&◌, if◌then◌else◌, is_none, List, [], ◌∷◌, ◌++◌, length, take, filter, Option, None, Some, unwrap_or}
 use Rattle.std.specs.List.{AllByRecursion, AllZip, flat_map}
 use Rattle.oai_item.specs.declared.faults.Fault.{Fault}
-use Rattle.oai_settings.specs.Config.{Config}
+use Rattle.oai_settings.specs.Config.{RepositoryConfig}
 use Rattle.oai_repo.specs.State.{RepoState, empty_state}
-use Rattle.oai_laws.specs.Following.{ListRequest}
+use Rattle.oai_laws.specs.Following.{ListQuery}
 use Rattle.oai_laws.specs.Runs.{IsPart}
 use Rattle.oai_config.specs.Configs.{HostConfig, NamedConfig}
 use Rattle.oai_http.specs.Answers.{failed}
@@ -47,14 +47,14 @@ calls_done (call ∷ calls) [] = []
 calls_done (call ∷ calls) (answer ∷ answers) = calls_done_by call answer ++ calls_done calls answers
 
 -- the state that calls leave, of a repository alone
-abbrev pub left_by : Config → RepoState → List Call → RepoState
+abbrev pub left_by : RepositoryConfig → RepoState → List Call → RepoState
 left_by config state [] = state
 left_by config state (call ∷ calls) = left_by config (exchanged_alone config state call).1 calls
 
 -- ---- the exchanges with a repository
 
 -- each with its answer, and the state that what was performed before it has left
-abbrev pub visits_given : Config → RepoState → List Call → List Answer → List Visit
+abbrev pub visits_given : RepositoryConfig → RepoState → List Call → List Answer → List Visit
 visits_given config state [] answers = []
 visits_given config state (call ∷ calls) [] = []
 visits_given config state (call ∷ calls) (answer ∷ answers) =
@@ -68,11 +68,11 @@ IsFailure fault (asking arguments) answer = answer ≡ failed fault None
 IsFailure fault (depositing lines) answer = (done : ℕ) × (done < length lines) × (answer ≡ failed fault (Some done))
 
 -- an answer without a fault is the machine's, in the state that what was performed before has left
-abbrev pub IsTrueBy : Config → Visit → Option Fault → Type 0
+abbrev pub IsTrueBy : RepositoryConfig → Visit → Option Fault → Type 0
 IsTrueBy config visit None = visit.answer ≡ (exchanged_alone config visit.before visit.call).0
 IsTrueBy config visit (Some fault) = IsFailure fault (task_of visit.call) visit.answer
 
-abbrev pub IsTrueVisit : Config → Visit → Type 0
+abbrev pub IsTrueVisit : RepositoryConfig → Visit → Type 0
 IsTrueVisit config visit = IsTrueBy config visit visit.answer.fault
 
 -- it asks for something
@@ -101,7 +101,7 @@ own_calls_done entry calls answers = calls_done (own_calls entry.name calls) (ow
 -- was performed before it, and one with a fault did what its number of lines says, or nothing; those without a fault
 -- are, in order, among the visits of the machine that make up what was performed; what was performed leaves the state;
 -- and if no answer has a fault, all of them are those that the repository alone gives
-pub record AreTrueFrom (config : Config) (begun : RepoState) (calls : List Call) (answers : List Answer) (left : RepoState) : Type 0 where
+pub record AreTrueFrom (config : RepositoryConfig) (begun : RepoState) (calls : List Call) (answers : List Answer) (left : RepoState) : Type 0 where
   pub given : AllByRecursion (IsTrueVisit config) (visits_given config begun calls answers)
   pub among : IsPart (whole_visits (visits_given config begun calls answers)) (visits config begun (calls_done calls answers))
   pub state : left ≡ left_by config begun (calls_done calls answers)
@@ -109,15 +109,15 @@ pub record AreTrueFrom (config : Config) (begun : RepoState) (calls : List Call)
 
 -- if visits without a fault follow a list by its unexpired tokens, also by repeating what failed, their pages, joined,
 -- are the records selected at the first of them, each once, in order
-abbrev pub FollowLists : Config → List Visit → Type 0
+abbrev pub FollowLists : RepositoryConfig → List Visit → Type 0
 FollowLists config all =
-    (list_request : ListRequest) (first : Visit) (others : List Visit)
+    (list_request : ListQuery) (first : Visit) (others : List Visit)
     → IsFollowing config (whole_visits all) list_request first others
     → AreReached config list_request first others
 
 -- for exchanges with a repository that begins in that state, the answers are true, lists are followed, and harvests by
 -- visits without a fault miss nothing
-pub record IsThroughoutFrom (config : Config) (begun : RepoState) (calls : List Call) (answers : List Answer) (left : RepoState) : Type 0 where
+pub record IsThroughoutFrom (config : RepositoryConfig) (begun : RepoState) (calls : List Call) (answers : List Answer) (left : RepoState) : Type 0 where
   pub answered : AreTrueFrom config begun calls answers left
   pub followed : FollowLists config (visits_given config begun calls answers)
   pub harvests : MissNothing config (flat_map (steps_of config) (whole_visits (visits_given config begun calls answers)))

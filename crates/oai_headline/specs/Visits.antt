@@ -4,10 +4,10 @@ use Rattle.std.specs.Prelude.{◌≡◌, ℕ, ℤ, List, [], ◌∷◌, map}
 use Rattle.std.specs.List.{flat_map}
 use Rattle.oai_time.specs.declared.granularity.Granularity.{Granularity}
 use Rattle.oai_deposit.specs.Lines.{line_of}
-use Rattle.oai_settings.specs.Config.{Config}
+use Rattle.oai_settings.specs.Config.{RepositoryConfig}
 use Rattle.oai_repo.specs.Machine.{RepoInput, command_of, line, outcome_output, query}
 use Rattle.oai_repo.specs.State.{RepoState, moved}
-use Rattle.oai_laws.specs.Runs.{Exchange, Timed, run}
+use Rattle.oai_laws.specs.Runs.{Timed, Transition, run}
 use Rattle.oai_http.specs.Answers.{answered, answered_with}
 use Rattle.oai_http.specs.declared.exchanges.Answer.{Answer}
 use Rattle.oai_http.specs.declared.exchanges.Call.{Call}
@@ -48,37 +48,37 @@ abbrev pub found_by : Visit → RepoState
 found_by visit = moved visit.call.moment visit.before
 
 -- what the machine does then: a step for each command
-abbrev pub steps_of : Config → Visit → List Exchange
+abbrev pub steps_of : RepositoryConfig → Visit → List Transition
 steps_of config visit = run config visit.before (commands_by config.granularity visit.call)
 
 -- the exchange, with the repository in that state
-abbrev pub visit_in : Config → RepoState → Call → Visit
+abbrev pub visit_in : RepositoryConfig → RepoState → Call → Visit
 visit_in config state call = record { call = call; before = state; answer = (exchanged_alone config state call).0 }
 
 -- exchanges, one after the other, the first in that state
-abbrev pub visits : Config → RepoState → List Call → List Visit
+abbrev pub visits : RepositoryConfig → RepoState → List Call → List Visit
 visits config state [] = []
 visits config state (call ∷ calls) = visit_in config state call ∷ visits config (exchanged_alone config state call).1 calls
 
 -- ---- what is written
 
 -- a line for each step
-abbrev pub lines_written : Granularity → List Exchange → List ℕ
-lines_written granularity steps = flat_map (λ (step : Exchange). with_end (outcome_output granularity step.outcome)) steps
+abbrev pub lines_written : Granularity → List Transition → List ℕ
+lines_written granularity steps = flat_map (λ (step : Transition). with_end (outcome_output granularity step.outcome)) steps
 
 -- the answer is what the steps made: a status if nothing is asked; for a request, which is one step, a document or a
 -- time to wait; for a deposit, which is a step for each line, a line for each
-abbrev pub IsWritten : Granularity → Task → List Exchange → Answer → Type 0
+abbrev pub IsWritten : Granularity → Task → List Transition → Answer → Type 0
 IsWritten granularity (refusing status) steps answer = (steps ≡ []) × (answer ≡ answered status)
 IsWritten granularity (asking arguments) steps answer =
-    (step : Exchange)
+    (step : Transition)
     × (steps ≡ step ∷ [])
     × (step.command ≡ command_of granularity (query arguments))
     × (answer ≡ answer_of (outcome_output granularity step.outcome))
 IsWritten granularity (depositing lines) steps answer =
-    (map (λ (step : Exchange). step.command) steps ≡ map (λ (text : List ℕ). command_of granularity (line (line_of text))) lines)
+    (map (λ (step : Transition). step.command) steps ≡ map (λ (text : List ℕ). command_of granularity (line (line_of text))) lines)
     × (answer ≡ answered_with (lines_written granularity steps))
 
 -- the same, of the visit
-abbrev pub IsWrittenVisit : Config → Visit → Type 0
+abbrev pub IsWrittenVisit : RepositoryConfig → Visit → Type 0
 IsWrittenVisit config visit = IsWritten config.granularity (task_of visit.call) (steps_of config visit) visit.answer

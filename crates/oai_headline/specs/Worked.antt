@@ -7,7 +7,7 @@ use Rattle.oai_args.specs.Asks.{asks}
 use Rattle.oai_args.specs.declared.requests.Ask.TheVariants as ask
 use Rattle.oai_answers.specs.Answers.{Document, Page}
 use Rattle.oai_answers.specs.Documents.{document}
-use Rattle.oai_settings.specs.Config.{Config}
+use Rattle.oai_settings.specs.Config.{RepositoryConfig}
 use Rattle.oai_laws.specs.Following.{TokenOffer, joined, page_in}
 use Rattle.oai_laws.specs.Runs.{IsPart}
 use Rattle.oai_laws.specs.Worked.{all_records, identifiers, worked_config}
@@ -123,7 +123,7 @@ pub record AreMadeBeside (first second third : Harvest) : Type 0 where
 
 -- a token that the answer to one of the earlier visits prints comes with one of the later ones, before it expires, and
 -- is refused (section 3.6), since its list was ended between them
-pub record IsTokenEnded (config : Config) (earlier later : List Visit) (before after : Visit) : Type 0 where
+pub record IsTokenEnded (config : RepositoryConfig) (earlier later : List Visit) (before after : Visit) : Type 0 where
   pub printing : IsPart (before ∷ []) earlier
   pub coming : IsPart (after ∷ []) later
   pub offer : TokenOffer

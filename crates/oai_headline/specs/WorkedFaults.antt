@@ -3,7 +3,7 @@
 use Rattle.std.specs.Prelude.{◌≡◌, ◌++◌, List, [], ◌∷◌, length, filter, is_some, codes, Option, None, Some}
 use Rattle.std.specs.List.{AllByRecursion}
 use Rattle.oai_item.specs.declared.faults.Fault.TheVariants.{Device, NoMemory}
-use Rattle.oai_settings.specs.Config.{Config}
+use Rattle.oai_settings.specs.Config.{RepositoryConfig}
 use Rattle.oai_repo.specs.State.{RepoState, empty_state}
 use Rattle.oai_laws.specs.Worked.{all_records, worked_config}
 use Rattle.oai_http.specs.Answers.{failed}
@@ -16,12 +16,12 @@ use Rattle.oai_headline.specs.Visits.{Visit}
 use Rattle.oai_headline.specs.Worked.{delete_line, deposit_line, get, post, worked_calls}
 
 -- the answer to an exchange: the given one if it fails, otherwise the machine's
-abbrev pub answer_to : Config → RepoState → Call → Option Answer → Answer
+abbrev pub answer_to : RepositoryConfig → RepoState → Call → Option Answer → Answer
 answer_to config state call None = (exchanged_alone config state call).0
 answer_to config state call (Some answer) = answer
 
 -- exchanges, one after the other, of which some fail
-abbrev pub answers_with : Config → RepoState → List Call → List (Option Answer) → List Answer
+abbrev pub answers_with : RepositoryConfig → RepoState → List Call → List (Option Answer) → List Answer
 answers_with config state [] failures = []
 answers_with config state (call ∷ calls) [] = []
 answers_with config state (call ∷ calls) (failure ∷ failures) =

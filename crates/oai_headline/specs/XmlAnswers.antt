@@ -9,7 +9,7 @@ use Rattle.oai_xml.specs.Documents.{tree_in}
 use Rattle.oai_xml.specs.LegalTexts.{is_legal_text}
 use Rattle.oai_xml.specs.Trees.{Tree, spelled}
 use Rattle.oai_xml.specs.Whole.{is_whole}
-use Rattle.oai_settings.specs.Config.{Config}
+use Rattle.oai_settings.specs.Config.{RepositoryConfig}
 use Rattle.oai_repo.specs.State.{RepoState}
 use Rattle.oai_documents.specs.Answering.{have_namespaces}
 use Rattle.oai_documents.specs.DocumentTrees.{line_end, xml_declaration}
@@ -26,11 +26,11 @@ use Rattle.oai_headline.specs.Visits.{Visit}
 -- ---- what is required of the configuration
 
 -- the texts of a repository's configuration are UTF-8, of characters that XML allows
-abbrev pub HasTexts : NamedConfig → Type 0
-HasTexts entry = is_legal_config entry.config ≡ true
+abbrev pub HasLegalTexts : NamedConfig → Type 0
+HasLegalTexts entry = is_legal_config entry.config ≡ true
 
 abbrev pub HaveTexts : HostConfig → Type 0
-HaveTexts config = All HasTexts config.repositories
+HaveTexts config = All HasLegalTexts config.repositories
 
 -- a text in UTF-8
 abbrev pub IsUtf8Text : List ℕ → Type 0
@@ -47,7 +47,7 @@ pub record HasUtf8Texts (format : Format) : Type 0 where
 -- the bytes are an XML document: the XML declaration and one element, whose tree is whole, in UTF-8, of XML's
 -- characters; and an XML parser reads that tree. It has the elements that the schema of OAI-PMH asks for, if no format
 -- of the repository has OAI-PMH's own namespace
-pub record IsXmlDocument (config : Config) (body : List ℕ) : Type 0 where
+pub record IsXmlDocument (config : RepositoryConfig) (body : List ℕ) : Type 0 where
   pub tree : Tree
   pub written : body ≡ xml_declaration ++ (spelled tree ++ line_end)
   pub whole : is_whole tree ≡ true
@@ -56,7 +56,7 @@ pub record IsXmlDocument (config : Config) (body : List ℕ) : Type 0 where
   pub schema : have_namespaces is_foreign config ≡ true → IsOfSchema tree
 
 -- if the visit is a request of OAI-PMH, by GET or by POST, and is answered with status 200, the body is such a document
-abbrev pub IsAnsweredInXml : Config → Visit → Type 0
+abbrev pub IsAnsweredInXml : RepositoryConfig → Visit → Type 0
 IsAnsweredInXml config visit =
     (arguments : List ℕ)
     → task_of visit.call ≡ asking arguments
@@ -64,7 +64,7 @@ IsAnsweredInXml config visit =
     → IsXmlDocument config visit.answer.body
 
 -- so is each visit, in each era
-abbrev pub AreAnsweredInXml : Config → RepoState → List VisitedEra → Type 0
+abbrev pub AreAnsweredInXml : RepositoryConfig → RepoState → List VisitedEra → Type 0
 AreAnsweredInXml config state [] = Unit {0}
 AreAnsweredInXml config state (era ∷ eras) =
     AllByRecursion (IsAnsweredInXml config) (visits_given config (era_begins state era) era.calls era.answers)

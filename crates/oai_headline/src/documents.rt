@@ -11,7 +11,7 @@ ghost use Rattle.oai_host.specs.Alone.{own_answers, own_calls};
 ghost use Rattle.oai_headline.specs.Eras.{AreTrueOver, HaveNumbersIn, VisitedEra};
 ghost use Rattle.oai_startup.specs.Rules.{HasRules};
 ghost use Rattle.oai_headline.specs.Throughout.{AreTrueFrom, own_given};
-ghost use Rattle.oai_headline.specs.XmlAnswers.{AreAnsweredInXml, HasTexts, IsAnsweredInXml};
+ghost use Rattle.oai_headline.specs.XmlAnswers.{AreAnsweredInXml, HasLegalTexts, IsAnsweredInXml};
 
 /// What is answered with status 200 to a request of OAI-PMH is a well-formed XML document (XML 1.0, fifth edition;
 /// Namespaces in XML 1.0, third edition), whatever bytes were deposited and requested before, and whatever failed. It is
@@ -24,12 +24,12 @@ ghost use Rattle.oai_headline.specs.XmlAnswers.{AreAnsweredInXml, HasTexts, IsAn
 /// XML reserves; and for the schema, none has that of OAI-PMH. The function is empty.
 pub fn documents_law()
     ensures answered { (calls : List Call) (answers : List Answer) (entry : NamedConfig) (left : RepoState)
-        → HasRules entry → HasTexts entry → have_namespaces may_be_default entry.config ≡ true
+        → HasRules entry → HasLegalTexts entry → have_namespaces may_be_default entry.config ≡ true
         → AreTrueFrom entry.config (empty_state entry.config) (own_calls entry.name calls)
         (own_answers entry.name calls answers) left
         → AllByRecursion (IsAnsweredInXml entry.config) (own_given entry calls answers) }
     ensures over { (eras : List VisitedEra) (entry : NamedConfig) (left : RepoState) → HasRules entry
-        → HasTexts entry → have_namespaces may_be_default entry.config ≡ true
+        → HasLegalTexts entry → have_namespaces may_be_default entry.config ≡ true
         → AreTrueOver entry.config eras left → HaveNumbersIn entry.config (empty_state entry.config) eras
         → AreAnsweredInXml entry.config (empty_state entry.config) eras }
 {}

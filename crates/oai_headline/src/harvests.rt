@@ -4,7 +4,7 @@ ghost use Rattle.std.specs.List.{AllZip};
 ghost use Rattle.oai_item.specs.Formats.{AreRepositoryFormats};
 ghost use Rattle.oai_item.specs.declared.deleted_record.DeletedRecord.TheVariants.{Persistent};
 ghost use Rattle.oai_answers.specs.Seen.{SeenDocument};
-ghost use Rattle.oai_settings.specs.Config.{Config, IsConfig};
+ghost use Rattle.oai_settings.specs.Config.{IsConfig, RepositoryConfig};
 ghost use Rattle.oai_repo.specs.State.{RepoState, empty_state};
 ghost use Rattle.oai_laws.specs.Harvests.{Harvest, IsHarvest, records_since, requests_of};
 ghost use Rattle.oai_laws.specs.Runs.{IsPart, run};
@@ -50,7 +50,7 @@ pub fn client_harvests_law()
         (client_copy (first ∷ others)) }
     ensures seen { (answer : Answer) (one other : SeenDocument) → IsSeen answer one → IsSeen answer other
         → one ≡ other }
-    ensures met { (config : Config) (calls : List Call) (prefix : List ℕ) (from : Option (List ℕ))
+    ensures met { (config : RepositoryConfig) (calls : List Call) (prefix : List ℕ) (from : Option (List ℕ))
         (some : List Visit) (harvest : Harvest) → IsConfig config → AreRepositoryFormats config.formats
         → IsPart some (visits config (empty_state config) calls)
         → AllZip (IsStepOf config) some (requests_of harvest)

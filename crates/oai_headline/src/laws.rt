@@ -1,10 +1,10 @@
 ghost use Rattle.std.specs.Prelude.{◌≡◌, ◌∷◌, ◌++◌, ℕ, Bool, List, IsTrue, None, false, is_none, length, map};
 ghost use Rattle.std.specs.List.{AllByRecursion, AllZip, flat_map};
 ghost use Rattle.oai_item.specs.Formats.{AreRepositoryFormats};
-ghost use Rattle.oai_settings.specs.Config.{Config, IsConfig};
+ghost use Rattle.oai_settings.specs.Config.{IsConfig, RepositoryConfig};
 ghost use Rattle.oai_repo.specs.State.{RepoState, empty_state};
-ghost use Rattle.oai_laws.specs.Following.{IsChain, ListRequest};
-ghost use Rattle.oai_laws.specs.Runs.{Exchange, IsPart, run};
+ghost use Rattle.oai_laws.specs.Following.{IsChain, ListQuery};
+ghost use Rattle.oai_laws.specs.Runs.{IsPart, Transition, run};
 ghost use Rattle.oai_http.specs.declared.exchanges.Call.{Call};
 ghost use Rattle.oai_laws.specs.Harvests.{Harvest};
 ghost use Rattle.oai_host.specs.Alone.{answers_alone, exchanged_alone};
@@ -30,12 +30,12 @@ use oai_device::PageDevice;
 /// refused by its path, method or type is answered with its status, and is no step. So what the laws of runs say holds
 /// of the exchanges. The function is empty.
 pub fn carried_law()
-    ensures answers { (config : Config) (state : RepoState) (calls : List Call)
+    ensures answers { (config : RepositoryConfig) (state : RepoState) (calls : List Call)
         → map (λ (visit : Visit). visit.answer) (visits config state calls) ≡ answers_alone config state calls }
-    ensures steps { (config : Config) (state : RepoState) (calls : List Call)
+    ensures steps { (config : RepositoryConfig) (state : RepoState) (calls : List Call)
         → flat_map (steps_of config) (visits config state calls)
         ≡ run config state (commands_in config.granularity calls) }
-    ensures written { (config : Config) (state : RepoState) (calls : List Call)
+    ensures written { (config : RepositoryConfig) (state : RepoState) (calls : List Call)
         → AllByRecursion (IsWrittenVisit config) (visits config state calls) }
 {}
 
@@ -47,12 +47,12 @@ pub fn carried_law()
 /// whose steps are a chain of the machine are such a chain: the machine's answers satisfy what is required of a printed
 /// token. The function is empty.
 pub fn visits_law()
-    ensures reached { (config : Config) (calls : List Call) (list_request : ListRequest) (first : Visit)
+    ensures reached { (config : RepositoryConfig) (calls : List Call) (list_request : ListQuery) (first : Visit)
         (others : List Visit) → IsConfig config → AreRepositoryFormats config.formats
         → IsFollowing config (visits config (empty_state config) calls) list_request first others
         → AreReached config list_request first others }
-    ensures met { (config : Config) (calls : List Call) (list_request : ListRequest) (first : Visit)
-        (others : List Visit) (step : Exchange) (steps : List Exchange) → IsConfig config
+    ensures met { (config : RepositoryConfig) (calls : List Call) (list_request : ListQuery) (first : Visit)
+        (others : List Visit) (step : Transition) (steps : List Transition) → IsConfig config
         → AreRepositoryFormats config.formats
         → IsPart (first ∷ others) (visits config (empty_state config) calls)
         → AllZip (IsStepOf config) (first ∷ others) (step ∷ steps)
@@ -100,7 +100,7 @@ pub fn throughout_runs_law()
 /// in the state that what was performed before it has left; and a request that failed has, for all that comes later, no
 /// effect. The function is empty.
 pub fn place_law()
-    ensures given { (config : Config) (state : RepoState) (front : List Call) (call : Call) (back : List Call)
+    ensures given { (config : RepositoryConfig) (state : RepoState) (front : List Call) (call : Call) (back : List Call)
         (given : List Answer) (answer : Answer) (more : List Answer) → length front ≡ length given
         → AllByRecursion (IsTrueVisit config)
         (visits_given config state (front ++ call ∷ back) (given ++ answer ∷ more))

@@ -2,7 +2,7 @@
 ghost use Rattle.std.specs.Prelude.{◌≡◌, true};
 ghost use Rattle.std.specs.List.{All};
 ghost use Rattle.oai_documents.specs.Texts.{is_legal_config};
-ghost use Rattle.oai_headline.specs.XmlAnswers.{HasTexts, HasUtf8Texts, HaveTexts, IsUtf8Text};
+ghost use Rattle.oai_headline.specs.XmlAnswers.{HasLegalTexts, HasUtf8Texts, HaveTexts, IsUtf8Text};
 
 use oai_config::{Config, NamedConfig};
 use oai_item::Format;
@@ -19,7 +19,7 @@ pub fn texts_law(config: Config)
 }
 
 fn have_texts(entries: &[NamedConfig])
-    ensures { All HasTexts entries.now }
+    ensures { All HasLegalTexts entries.now }
 {
     for entry in entries {
         has_texts(entry);
@@ -27,7 +27,7 @@ fn have_texts(entries: &[NamedConfig])
 }
 
 fn has_texts(entry: &NamedConfig)
-    ensures { HasTexts entry.now }
+    ensures { HasLegalTexts entry.now }
 {
     is_legal(&entry.config);
 }

@@ -8,19 +8,19 @@ use Rattle.std.proofs.Math.Seq.{drop-append-add, get_or-append_seam, take-append
 use Rattle.std.proofs.lemmas.Bool.{and_from, and_parts, cond-true, cond-false, not-true, or_parts}
 use Rattle.std.proofs.lemmas.List.{get_or_append_left}
 use Rattle.std.proofs.lemmas.List.Sums.{position_or_len_is}
-use Rattle.oai_catalogue.specs.Store.{Lists}
+use Rattle.oai_catalogue.specs.Store.{VersionLists}
 use Rattle.oai_catalogue.specs.declared.versions.Versions.{Ghosts}
 use Rattle.oai_item.specs.Rules.{has_repeat}
 use Rattle.oai_item.specs.declared.faults.Fault.{Fault}
 use Rattle.oai_repo.specs.Fields.{RepoFields, state_of}
 use Rattle.oai_repo.specs.State.{RepoState}
-use Rattle.oai_settings.specs.Config.{Config, is_repository_byte, is_repository_name}
-use Rattle.oai_http.specs.Redone.{call_again, is_short_name, left_again, own_call}
+use Rattle.oai_settings.specs.Config.{RepositoryConfig, is_repository_byte, is_repository_name}
+use Rattle.oai_replay.specs.Redone.{call_again, is_short_name, left_again, own_call}
 use Rattle.oai_http.specs.Targets.{front_of, is_question_mark, leads_to_repository, path_of, query_of}
 use Rattle.oai_http.specs.declared.exchanges.Answer.{Answer}
 use Rattle.oai_http.specs.declared.exchanges.Call.{Call}
 use Rattle.oai_http.specs.declared.exchanges.Exchange.{Exchange}
-use Rattle.oai_http.specs.declared.handlers.Performed.{Performed}
+use Rattle.oai_replay.specs.declared.replays.Performed.{Performed}
 use Rattle.oai_http.specs.declared.targets.Endpoint.{Endpoint}
 use Rattle.oai_http.specs.declared.targets.Endpoint.TheVariants.{Deposits, Requests}
 use Rattle.oai_http.proofs.TargetLemmas.{bytes_turned, endpoint_is, leads_not, leads_there}
@@ -30,7 +30,7 @@ use Rattle.oai_host.specs.NamedRepos.{AreNamedRepos, place_in, repo_names, repos
 use Rattle.oai_host.specs.Exchanged.{RedoesIn, store_state}
 use Rattle.oai_host.specs.Places.{IsRepoPlace}
 use Rattle.oai_host.specs.Performed.{IsPerformed, StoreState}
-use Rattle.oai_host.specs.Redone.{AreLeftBy, AreRedone, IsLeftBy, IsNoLonger, IsPerformedAt, has_name, redone_all, redone_at, task_again}
+use Rattle.oai_host.specs.Redone.{AreLeftBy, AreRedone, IsLeftBy, IsNoLonger, IsPerformedAt, has_name, redone_at, redone_repositories, task_again}
 use Rattle.oai_host.specs.Tasks.{Task, asking, task_at, task_in, task_of}
 use Rattle.oai_host.specs.declared.repositories.NamedRepo.{NamedRepo}
 use Rattle.oai_host.proofs.NamedRepoLemmas.{steps_set, unused_at}
@@ -81,7 +81,7 @@ place_utf8 repos name named never = one (place_in (repo_names repos) name) refl
         let there = place_there repos name i is in
         absurd (never (subst IsUtf8 there.2 (name_utf8 there.0.name (named_at repos i there.0 there.1 named))))
 
-pub lacks_name : (repos : List NamedRepo) (lists : Lists) (name : List ℕ) → place_in (repo_names repos) name ≡ None → has_name (repositories_of repos lists) name ≡ false
+pub lacks_name : (repos : List NamedRepo) (lists : VersionLists) (name : List ℕ) → place_in (repo_names repos) name ≡ None → has_name (repositories_of repos lists) name ≡ false
 lacks_name repos lists name none = same repos ∙ place_none (repo_names repos) name none
   where
     same : (these : List NamedRepo) → has_name (repositories_of these lists) name ≡ list_any (λ (one : List ℕ). bytes_eq one name) (repo_names these)
@@ -147,7 +147,7 @@ own_moment : (moment : ℤ) (endpoint : Endpoint) (name bytes : List ℕ) → (o
 own_moment moment Requests name bytes = refl
 own_moment moment Deposits name bytes = refl
 
-again_done : (config : Config) (state : RepoState) (moment : ℤ) (endpoint : Endpoint) (name bytes : List ℕ) → is_repository_name name ≡ true
+again_done : (config : RepositoryConfig) (state : RepoState) (moment : ℤ) (endpoint : Endpoint) (name bytes : List ℕ) → is_repository_name name ≡ true
     → exchanged_alone config state (own_call moment endpoint name bytes) ≡ done_alone config state moment (task_again endpoint bytes)
 again_done config state moment endpoint name bytes is =
     let own : Call = own_call moment endpoint name bytes in
@@ -161,7 +161,7 @@ map_same [] = refl
 map_same (x ∷ repositories) = ap (λ (rs : List Repository). x ∷ rs) (map_same repositories)
 
 -- one of them is changed as `f` changes it, and the path of the call leads to it alone
-module _ (call : Call) (answer : Answer) (m n : StoreState) (endpoint : Endpoint) (one : NamedRepo) (new : RepoFields) (before after : Lists) (path : path_of call.target ≡ front_of endpoint ++ one.name)
+module _ (call : Call) (answer : Answer) (m n : StoreState) (endpoint : Endpoint) (one : NamedRepo) (new : RepoFields) (before after : VersionLists) (path : path_of call.target ≡ front_of endpoint ++ one.name)
     (f : Repository → Repository) (elsewhere : (r : Repository) → leads_to_repository r.name call.target ≡ false → f r ≡ r) where
   other_left : (x : NamedRepo) → bytes_eq one.name x.name ≡ false → IsStep call answer m n (repository_of before x) (repository_of after x) → repository_of after x ≡ f (repository_of before x)
   other_left x apart step =
@@ -194,7 +194,7 @@ module _ (call : Call) (answer : Answer) (m n : StoreState) (endpoint : Endpoint
       ∙ ap (λ (rs : List Repository). f (repository_of before x) ∷ rs) (set_left repos i there parts.1 steps.1 own)
 
 -- what is left of one by these bytes is what their call leaves of all
-pub set_left_by : (call : Call) (answer : Answer) (m n : StoreState) (endpoint : Endpoint) (one : NamedRepo) (new : RepoFields) (before after : Lists) → path_of call.target ≡ front_of endpoint ++ one.name
+pub set_left_by : (call : Call) (answer : Answer) (m n : StoreState) (endpoint : Endpoint) (one : NamedRepo) (new : RepoFields) (before after : VersionLists) → path_of call.target ≡ front_of endpoint ++ one.name
     → is_repository_name one.name ≡ true → (repos : List NamedRepo) (i : ℕ) → slice_get repos i ≡ Some one → has_repeat (repo_names repos) ≡ false
     → AreSteps call answer m n (repositories_of repos before) (repositories_of (slice_set repos i (record { name = one.name; repo = new })) after) → new.config ≡ one.repo.config
     → (moment : ℤ) (bytes : Option (List ℕ)) → IsLeftBy one.repo.config moment endpoint bytes (state_of one.repo before) (state_of new after)
@@ -253,12 +253,12 @@ again_place moment performed repos i found all =
 -- ---- what is to be performed again
 
 pub left_performed : (moment : ℤ) (endpoint : Endpoint) (name : List ℕ) (bytes : Option (List ℕ)) (performed : Option Performed) (before after : List Repository) → IsPerformedAt endpoint name bytes performed
-    → AreLeftBy moment endpoint name bytes before after → after ≡ left_again redone_all before moment performed
+    → AreLeftBy moment endpoint name bytes before after → after ≡ left_again redone_repositories before moment performed
 left_performed moment endpoint name bytes None before after is left = subst (λ (b : Option (List ℕ)). AreLeftBy moment endpoint name b before after) is left
 left_performed moment endpoint name bytes (Some p) before after is left =
     subst (λ (b : Option (List ℕ)). AreLeftBy moment endpoint name b before after) is.2 left
-    ∙ ap (λ (e : Endpoint). redone_all before (own_call moment e name p.bytes.now)) (sym is.0)
-    ∙ ap (λ (n : List ℕ). redone_all before (own_call moment p.endpoint n p.bytes.now)) (sym is.1)
+    ∙ ap (λ (e : Endpoint). redone_repositories before (own_call moment e name p.bytes.now)) (sym is.0)
+    ∙ ap (λ (n : List ℕ). redone_repositories before (own_call moment p.endpoint n p.bytes.now)) (sym is.1)
 
 pub performed_name : (endpoint : Endpoint) (name : List ℕ) (bytes : Option (List ℕ)) (performed : Option Performed) → IsPerformedAt endpoint name bytes performed → is_repository_name name ≡ true
     → IfSome performed (λ (p : Performed). IsTrue (is_short_name p.name.now))

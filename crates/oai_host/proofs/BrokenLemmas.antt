@@ -9,7 +9,7 @@ use Rattle.oai_item.specs.declared.faults.Fault.TheVariants.{Damaged, Device, No
 use Rattle.oai_catalogue.specs.Store.{IsHonest}
 use Rattle.oai_device.specs.Device.{CountsFailures}
 use Rattle.oai_device.specs.declared.devices.TheConstants.{MAX_FAILURES}
-use Rattle.oai_settings.specs.Config.{Config}
+use Rattle.oai_settings.specs.Config.{RepositoryConfig}
 use Rattle.oai_repo.specs.State.{RepoState}
 use Rattle.oai_http.specs.Answers.{answered, answered_with, asked_to_wait, failed}
 use Rattle.oai_http.specs.Bodies.{is_form}
@@ -64,7 +64,7 @@ one_more answer answers old mid new counted later below others =
           omega (arith, all, count, others)
     ]
 
-pub run_counted : (config : Config) (calls : List Call) (answers : List Answer) (before : RepoState) (old : StoreState) (after : RepoState) (new : StoreState)
+pub run_counted : (config : RepositoryConfig) (calls : List Call) (answers : List Answer) (before : RepoState) (old : StoreState) (after : RepoState) (new : StoreState)
     → IsRun config calls answers before old after new → new.failures < MAX_FAILURES → length (filter tells_of_device answers) + old.failures ≤ new.failures
 run_counted config [] [] before old after new run below = let count = run.1.count in omega (arith, count)
 run_counted config [] (a ∷ answers) before old after new run below = absurd run
@@ -113,7 +113,7 @@ reply_not_broken : (seconds : Option ℤ) (answer : Answer) → MatchOption seco
 reply_not_broken None answer reply broken = let same : status.Ok ≡ status.InternalServerError = sym (ap (λ (a : Answer). a.status) reply) ∙ broken in cc
 reply_not_broken (Some seconds) answer reply broken = let same : status.ServiceUnavailable ≡ status.InternalServerError = sym (ap (λ (a : Answer). a.status) reply) ∙ broken in cc
 
-done_not_broken : (honest : Bool) (config : Config) (moment : ℤ) (task : Task) (before : RepoState) (answer : Answer) (after : RepoState) → (task ≡ refusing status.InternalServerError → ⊥)
+done_not_broken : (honest : Bool) (config : RepositoryConfig) (moment : ℤ) (task : Task) (before : RepoState) (answer : Answer) (after : RepoState) → (task ≡ refusing status.InternalServerError → ⊥)
     → IsDone honest config moment task before answer after → answer.status ≡ status.InternalServerError → ⊥
 done_not_broken honest config moment (refusing why) before answer after never done is = never (ap refusing (sym (ap (λ (a : Answer). a.status) done.0) ∙ is))
 done_not_broken honest config moment (asking arguments) before answer after never done is = reply_not_broken answer.seconds answer done.reply is
@@ -134,13 +134,13 @@ module _ (was is : Bool) (honest : IsTrue was) where
       ap tells_of_device told
       ∙ failed_broken fault lines (subst (λ (a : Answer). IsHonest (failure_in a) was is) told honesty) (sym (ap (λ (a : Answer). a.status) told) ∙ broken)
 
-  stopped_broken : (config : Config) (moment : ℤ) (task : Task) (fault : Fault) (before : RepoState) (answer : Answer) (after : RepoState) → HasStopped was config moment task fault before answer after
+  stopped_broken : (config : RepositoryConfig) (moment : ℤ) (task : Task) (fault : Fault) (before : RepoState) (answer : Answer) (after : RepoState) → HasStopped was config moment task fault before answer after
       → IsHonest (failure_in answer) was is → answer.status ≡ status.InternalServerError → tells_of_device answer ≡ true
   stopped_broken config moment (refusing why) fault before answer after stopped honesty broken = absurd stopped
   stopped_broken config moment (asking arguments) fault before answer after stopped honesty broken = so_failed fault None answer stopped.0 honesty broken
   stopped_broken config moment (depositing lines) fault before answer after stopped honesty broken = so_failed fault (Some stopped.0) answer stopped.2 honesty broken
 
-performed_broken : (config : Config) (call : Call) (answer : Answer) (before : RepoState) (old : StoreState) (after : RepoState) (new : StoreState) → IsTrue old.honest
+performed_broken : (config : RepositoryConfig) (call : Call) (answer : Answer) (before : RepoState) (old : StoreState) (after : RepoState) (new : StoreState) → IsTrue old.honest
     → IsPerformed config call.moment (task_of call) answer before old after new → answer.status ≡ status.InternalServerError → tells_of_device answer ≡ true
 performed_broken config call answer before old after new honest performed broken = elim performed.ended [
   | inl done ↦ absurd (done_not_broken old.honest config call.moment (task_of call) before answer after (task_not_broken (endpoint_of call.target) call) done broken)

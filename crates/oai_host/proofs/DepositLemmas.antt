@@ -7,11 +7,11 @@ use Rattle.oai_item.specs.Refusals.{in_repository, refusal_line}
 use Rattle.oai_item.specs.declared.changes.Change.{Change}
 use Rattle.oai_item.specs.declared.faults.Fault.{Fault}
 use Rattle.oai_item.specs.declared.refusals.ChangeRefusal.{ChangeRefusal}
-use Rattle.oai_catalogue.specs.Store.{Lists}
-use Rattle.oai_settings.specs.Config.{Config}
+use Rattle.oai_catalogue.specs.Store.{VersionLists}
+use Rattle.oai_settings.specs.Config.{RepositoryConfig}
 use Rattle.oai_repo.specs.Calls.{IsAccepted, IsRefusedAt}
-use Rattle.oai_repo.specs.Changes.{stamp_at}
-use Rattle.oai_repo.specs.Fields.{IsStored, Keeps, RepoFields, StandsIn, numbers_of, state_of}
+use Rattle.oai_holdings.specs.Changes.{stamp_at}
+use Rattle.oai_repo.specs.Fields.{HasNumbersIn, IsStored, Keeps, RepoFields, numbers_of, state_of}
 use Rattle.oai_repo.specs.Machine.{Outcome, act_at, changing, outcome_output}
 use Rattle.oai_repo.specs.State.{RepoState}
 use Rattle.oai_repo.proofs.NumberLemmas.{kept_same, kept_twice}
@@ -21,36 +21,36 @@ use Rattle.oai_host.specs.Tasks.{depositing}
 use Rattle.oai_host.specs.Performed.{AreLinesPerformed, HasStopped, IsDone, IsLineAnswered, IsLinePerformed}
 
 -- a change that was performed or refused is a step, of which this is told
-pub told_line : (config : Config) (moment : ℤ) (change : Change) (outcome : Outcome) (before after : RepoState) (text : List ℕ)
+pub told_line : (config : RepositoryConfig) (moment : ℤ) (change : Change) (outcome : Outcome) (before after : RepoState) (text : List ℕ)
     → act_at config before moment (changing change) ≡ (outcome, after) → with_end (outcome_output config.granularity outcome) ≡ text
     → after_read config moment before (Ok change) ≡ (text, after)
 told_line config moment change outcome before after text acted told =
     ap (λ (done : Outcome × RepoState). (with_end (outcome_output config.granularity done.0), done.1)) acted ∙ ap (λ (t : List ℕ). (t, after)) told
 
-abbrev IsAnsweredSo : RepoFields → Lists → ℤ → Change → List ℕ → RepoFields → Lists → Type 0
+abbrev IsAnsweredSo : RepoFields → VersionLists → ℤ → Change → List ℕ → RepoFields → VersionLists → Type 0
 IsAnsweredSo old before moment change text new after = IsLineAnswered old.config moment (Ok change) (state_of old before) text (state_of new after)
 
 -- a change that was accepted, over every store
-pub accepted_line : (old : RepoFields) (before : Lists) (moment stamp : ℤ) (change : Change) (new : RepoFields) (after : Lists) → IsAccepted moment stamp change old before new after
+pub accepted_line : (old : RepoFields) (before : VersionLists) (moment stamp : ℤ) (change : Change) (new : RepoFields) (after : VersionLists) → IsAccepted moment stamp change old before new after
     → new.clock ≡ tick old.clock moment → new.config ≡ old.config → IsAnsweredSo old before moment change ((codes "ok " ++ datestamp_text old.config.granularity stamp) ++ 10 ∷ []) new after
 accepted_line old before moment stamp change new after accepted clock config = inl (record {
-  told = ap (λ (s : ℤ). (codes "ok " ++ datestamp_text old.config.granularity s) ++ 10 ∷ []) (accepted.stamped ∙ ap (λ (c : Config). stamp_at c new.clock) config);
+  told = ap (λ (s : ℤ). (codes "ok " ++ datestamp_text old.config.granularity s) ++ 10 ∷ []) (accepted.stamped ∙ ap (λ (c : RepositoryConfig). stamp_at c new.clock) config);
   clock = clock;
   sets = accepted.kept.sets;
   open_lists = accepted.open_lists;
 })
 
 -- one that was refused
-pub refused_line : (old : RepoFields) (before : Lists) (moment : ℤ) (change : Change) (cause : ChangeRefusal) (new : RepoFields) (after : Lists) → IsRefusedAt moment old before new after
+pub refused_line : (old : RepoFields) (before : VersionLists) (moment : ℤ) (change : Change) (cause : ChangeRefusal) (new : RepoFields) (after : VersionLists) → IsRefusedAt moment old before new after
     → IsAnsweredSo old before moment change (refusal_line (in_repository cause) ++ 10 ∷ []) new after
 refused_line old before moment change cause new after refused = inr (cause, record { told = refl; state = refused.state })
 
 -- ---- what is kept
 
-pub kept_start : (honest : Bool) (old : RepoFields) (before : Lists) → StandsIn old before → (IsTrue honest → IsStored old before) → Keeps honest old before old before
+pub kept_start : (honest : Bool) (old : RepoFields) (before : VersionLists) → HasNumbersIn old before → (IsTrue honest → IsStored old before) → Keeps honest old before old before
 kept_start honest old before stands held = record { config = refl; stands = stands; held = held; others = kept_same (numbers_of old) before }
 
-pub kept_on : (honest : Bool) (old mid new : RepoFields) (before between after : Lists) → Keeps honest old before mid between → Keeps honest mid between new after → Keeps honest old before new after
+pub kept_on : (honest : Bool) (old mid new : RepoFields) (before between after : VersionLists) → Keeps honest old before mid between → Keeps honest mid between new after → Keeps honest old before new after
 kept_on honest old mid new before between after first second = record {
   config = second.config ∙ first.config;
   stands = second.stands;
@@ -68,7 +68,7 @@ nothing_behind : (xs : List ℕ) → xs ++ [] ≡ xs
 nothing_behind [] = refl
 nothing_behind (x ∷ xs) = ap (λ (all : List ℕ). x ∷ all) (nothing_behind xs)
 
-module _ (honest : Bool) (config : Config) (moment : ℤ) where
+module _ (honest : Bool) (config : RepositoryConfig) (moment : ℤ) where
   -- the last of some lines
   lines_last : (front : List (List ℕ)) (text told line : List ℕ) (before between after : RepoState) → AreLinesPerformed honest config moment front before told between
       → IsLinePerformed honest config moment (line_of text) between line after → AreLinesPerformed honest config moment (front ++ text ∷ []) before (told ++ line) after
@@ -99,14 +99,14 @@ module _ (honest : Bool) (config : Config) (moment : ℤ) where
       ∙ ap (λ (t : List ℕ). (t, after)) (sym all.3)
 
 -- the lines that were performed so far, and those that are left
-pub record AreDone (honest : Bool) (old : RepoFields) (before : Lists) (moment : ℤ) (all left : List (List ℕ)) (told : List ℕ) (done : ℕ) (new : RepoFields) (after : Lists) : Type 0 where
+pub record AreDone (honest : Bool) (old : RepoFields) (before : VersionLists) (moment : ℤ) (all left : List (List ℕ)) (told : List ℕ) (done : ℕ) (new : RepoFields) (after : VersionLists) : Type 0 where
   pub front : List (List ℕ)
   pub whole : all ≡ front ++ left
   pub many : done ≡ length front
   pub performed : AreLinesPerformed honest old.config moment front (state_of old before) told (state_of new after)
   pub kept : Keeps honest old before new after
 
-pub none_done : (honest : Bool) (old : RepoFields) (before : Lists) (moment : ℤ) (all : List (List ℕ)) → StandsIn old before → (IsTrue honest → IsStored old before) → AreDone honest old before moment all all [] 0 old before
+pub none_done : (honest : Bool) (old : RepoFields) (before : VersionLists) (moment : ℤ) (all : List (List ℕ)) → HasNumbersIn old before → (IsTrue honest → IsStored old before) → AreDone honest old before moment all all [] 0 old before
 none_done honest old before moment all stands held =
     record { front = []; whole = refl; many = refl; performed = (refl, refl); kept = kept_start honest old before stands held }
 
@@ -118,7 +118,7 @@ one_more : (front : List (List ℕ)) (text : List ℕ) → suc (length front) �
 one_more [] text = refl
 one_more (one ∷ front) text = ap suc (one_more front text)
 
-pub one_done : (honest : Bool) (old mid new : RepoFields) (before between after : Lists) (moment : ℤ) (all left : List (List ℕ)) (text told line tells : List ℕ) (done : ℕ)
+pub one_done : (honest : Bool) (old mid new : RepoFields) (before between after : VersionLists) (moment : ℤ) (all left : List (List ℕ)) (text told line tells : List ℕ) (done : ℕ)
     → AreDone honest old before moment all (text ∷ left) told done mid between → tells ≡ told ++ line
     → IsLinePerformed honest mid.config moment (line_of text) (state_of mid between) line (state_of new after) → Keeps honest mid between new after
     → AreDone honest old before moment all left tells (done + 1) new after
@@ -127,7 +127,7 @@ one_done honest old mid new before between after moment all left text told line 
   whole = so_far.whole ∙ join_lines so_far.front left text;
   many = (let many = so_far.many in omega (arith, many)) ∙ one_more so_far.front text;
   performed =
-      let this = subst (λ (config : Config). IsLinePerformed honest config moment (line_of text) (state_of mid between) line (state_of new after)) so_far.kept.config line_done in
+      let this = subst (λ (config : RepositoryConfig). IsLinePerformed honest config moment (line_of text) (state_of mid between) line (state_of new after)) so_far.kept.config line_done in
       subst (λ (t : List ℕ). AreLinesPerformed honest old.config moment (so_far.front ++ text ∷ []) (state_of old before) t (state_of new after)) (sym is)
       (lines_last honest old.config moment so_far.front text told line (state_of old before) (state_of mid between) (state_of new after) so_far.performed this);
   kept = kept_on honest old mid new before between after so_far.kept kept;
@@ -138,7 +138,7 @@ ends_here [] = refl
 ends_here (one ∷ front) = ap (λ (xs : List (List ℕ)). one ∷ xs) (ends_here front)
 
 -- no line is left
-pub all_done : (honest : Bool) (old new : RepoFields) (before after : Lists) (moment : ℤ) (all left : List (List ℕ)) (told : List ℕ) (done : ℕ)
+pub all_done : (honest : Bool) (old new : RepoFields) (before after : VersionLists) (moment : ℤ) (all left : List (List ℕ)) (told : List ℕ) (done : ℕ)
     → AreDone honest old before moment all left told done new after → left ≡ []
     → IsDone honest old.config moment (depositing all) (state_of old before) (answered_with told) (state_of new after)
 all_done honest old new before after moment all left told done so_far none =
@@ -154,7 +154,7 @@ front_of_all [] left = refl
 front_of_all (one ∷ front) left = ap (λ (xs : List (List ℕ)). one ∷ xs) (front_of_all front left)
 
 -- a line failed
-pub line_failed : (honest : Bool) (old new : RepoFields) (before after : Lists) (moment : ℤ) (all left : List (List ℕ)) (text told : List ℕ) (done : ℕ) (fault : Fault)
+pub line_failed : (honest : Bool) (old new : RepoFields) (before after : VersionLists) (moment : ℤ) (all left : List (List ℕ)) (text told : List ℕ) (done : ℕ) (fault : Fault)
     → AreDone honest old before moment all (text ∷ left) told done new after
     → HasStopped honest old.config moment (depositing all) fault (state_of old before) (failed fault (Some done)) (state_of new after)
 line_failed honest old new before after moment all left text told done fault so_far =

@@ -3,11 +3,11 @@ use Rattle.std.proofs.Common.{◌≡◌, ◌∙◌, ℕ, zero, suc, true, false,
 use Rattle.std.specs.List.{list_all, list_any, slice_get}
 use Rattle.std.specs.Str.{bytes_eq}
 use Rattle.std.proofs.lemmas.Bool.{and_parts, false_from_ne_true, not-true, or_from, or_parts}
-use Rattle.oai_catalogue.specs.Store.{IsHonest, Lists}
+use Rattle.oai_catalogue.specs.Store.{IsHonest, VersionLists}
 use Rattle.oai_device.specs.Device.{CountsFailures}
 use Rattle.oai_item.specs.declared.faults.Fault.TheVariants.{Device}
 use Rattle.oai_item.specs.Rules.{has_repeat}
-use Rattle.oai_config.specs.Configs.{AreNamed, NamedConfig, names_of}
+use Rattle.oai_config.specs.Configs.{AreNamed, NamedConfig, repository_names}
 use Rattle.oai_host.specs.Answers.{failure_in}
 use Rattle.oai_host.specs.Hosts.{AreSteps, HostState, IsExchanged, Repository, begun, is_of_none, refused, store_of}
 use Rattle.oai_host.specs.Performed.{StoreState}
@@ -55,7 +55,7 @@ place_found repos target name place endpoint found path =
 -- ---- answers
 
 -- the exchange is a repository's
-owned : {P : Type 0} (repos : List NamedRepo) (i : ℕ) (one : NamedRepo) (lists : Lists) (call : Call) → slice_get repos i ≡ Some one → leads_to_repository one.name call.target ≡ true
+owned : {P : Type 0} (repos : List NamedRepo) (i : ℕ) (one : NamedRepo) (lists : VersionLists) (call : Call) → slice_get repos i ≡ Some one → leads_to_repository one.name call.target ≡ true
     → is_of_none (repositories_of repos lists) call ≡ true → P
 owned [] i one lists call there leads none = nothing_there one there
 owned (x ∷ repos) zero one lists call there leads none =
@@ -64,16 +64,16 @@ owned (x ∷ repos) zero one lists call there leads none =
 owned (x ∷ repos) (suc i) one lists call there leads none =
     owned repos i one lists call there leads (and_parts (not (leads_to_repository x.name call.target)) (is_of_none (repositories_of repos lists) call) none).1
 
-pub owned_there : {P : Type 0} (repos : List NamedRepo) (i : ℕ) (endpoint : Endpoint) (lists : Lists) (call : Call) → IsRepoPlace repos i endpoint call.target → is_of_none (repositories_of repos lists) call ≡ true → P
+pub owned_there : {P : Type 0} (repos : List NamedRepo) (i : ℕ) (endpoint : Endpoint) (lists : VersionLists) (call : Call) → IsRepoPlace repos i endpoint call.target → is_of_none (repositories_of repos lists) call ≡ true → P
 owned_there repos i endpoint lists call place none = owned repos i place.one lists call place.there (leads_there endpoint place.one.name call.target place.path) none
 
 -- the exchange is no repository's
-none_steps : (repos : List NamedRepo) (lists : Lists) (call : Call) (answer : Answer) (m n : StoreState) → LeadsNowhere repos call.target → AreSteps call answer m n (repositories_of repos lists) (repositories_of repos lists)
+none_steps : (repos : List NamedRepo) (lists : VersionLists) (call : Call) (answer : Answer) (m n : StoreState) → LeadsNowhere repos call.target → AreSteps call answer m n (repositories_of repos lists) (repositories_of repos lists)
 none_steps [] lists call answer m n nowhere = tt
 none_steps (x ∷ repos) lists call answer m n nowhere =
     (record { name = refl; config = refl; own = λ leads. clash (leads_to_repository x.name call.target) leads nowhere.0; other = λ _. refl }, none_steps repos lists call answer m n nowhere.1)
 
-pub exchanged_nowhere : (repos : List NamedRepo) (lists : Lists) (host : HostState) (call : Call) (answer : Answer) → host.repositories ≡ repositories_of repos lists → LeadsNowhere repos call.target → answer ≡ refused call
+pub exchanged_nowhere : (repos : List NamedRepo) (lists : VersionLists) (host : HostState) (call : Call) (answer : Answer) → host.repositories ≡ repositories_of repos lists → LeadsNowhere repos call.target → answer ≡ refused call
     → IsExchanged call answer host host
 exchanged_nowhere repos lists host call answer here nowhere is = record {
   each = subst (λ (rs : List Repository). AreSteps call answer (store_of host) (store_of host) rs rs) (sym here) (none_steps repos lists call answer (store_of host) (store_of host) nowhere);
@@ -84,41 +84,41 @@ exchanged_nowhere repos lists host call answer here nowhere is = record {
 
 -- ---- those that begin
 
-begun_names : (repos : List NamedRepo) (lists : Lists) → map (λ (r : Repository). r.name) (repositories_of repos lists) ≡ repo_names repos
+begun_names : (repos : List NamedRepo) (lists : VersionLists) → map (λ (r : Repository). r.name) (repositories_of repos lists) ≡ repo_names repos
 begun_names [] lists = refl
 begun_names (x ∷ repos) lists = ap (λ (names : List (List ℕ)). x.name ∷ names) (begun_names repos lists)
 
-configured_names : (front : List NamedConfig) → map (λ (r : Repository). r.name) (map begun front) ≡ names_of front
+configured_names : (front : List NamedConfig) → map (λ (r : Repository). r.name) (map begun front) ≡ repository_names front
 configured_names [] = refl
 configured_names (x ∷ front) = ap (λ (names : List (List ℕ)). x.name ∷ names) (configured_names front)
 
-same_names : (repos : List NamedRepo) (lists : Lists) (front : List NamedConfig) → repositories_of repos lists ≡ map begun front → repo_names repos ≡ names_of front
+same_names : (repos : List NamedRepo) (lists : VersionLists) (front : List NamedConfig) → repositories_of repos lists ≡ map begun front → repo_names repos ≡ repository_names front
 same_names repos lists front same = sym (begun_names repos lists) ∙ ap (map (λ (r : Repository). r.name)) same ∙ configured_names front
 
-none_apart : (name : List ℕ) (front rest : List NamedConfig) (one : NamedConfig) → list_any (bytes_eq name) (names_of (front ++ one ∷ rest)) ≡ false → bytes_eq name one.name ≡ false
-none_apart name [] rest one none = (or_parts (bytes_eq name one.name) (list_any (bytes_eq name) (names_of rest)) none).0
-none_apart name (x ∷ front) rest one none = none_apart name front rest one (or_parts (bytes_eq name x.name) (list_any (bytes_eq name) (names_of (front ++ one ∷ rest))) none).1
+none_apart : (name : List ℕ) (front rest : List NamedConfig) (one : NamedConfig) → list_any (bytes_eq name) (repository_names (front ++ one ∷ rest)) ≡ false → bytes_eq name one.name ≡ false
+none_apart name [] rest one none = (or_parts (bytes_eq name one.name) (list_any (bytes_eq name) (repository_names rest)) none).0
+none_apart name (x ∷ front) rest one none = none_apart name front rest one (or_parts (bytes_eq name x.name) (list_any (bytes_eq name) (repository_names (front ++ one ∷ rest))) none).1
 
-unused_name : (front rest : List NamedConfig) (one : NamedConfig) → has_repeat (names_of (front ++ one ∷ rest)) ≡ false → list_any (bytes_eq one.name) (names_of front) ≡ false
+unused_name : (front rest : List NamedConfig) (one : NamedConfig) → has_repeat (repository_names (front ++ one ∷ rest)) ≡ false → list_any (bytes_eq one.name) (repository_names front) ≡ false
 unused_name [] rest one distinct = refl
 unused_name (x ∷ front) rest one distinct =
-    let parts = or_parts (list_any (bytes_eq x.name) (names_of (front ++ one ∷ rest))) (has_repeat (names_of (front ++ one ∷ rest))) distinct in
-    or_from (bytes_eq one.name x.name) (list_any (bytes_eq one.name) (names_of front))
+    let parts = or_parts (list_any (bytes_eq x.name) (repository_names (front ++ one ∷ rest))) (has_repeat (repository_names (front ++ one ∷ rest))) distinct in
+    or_from (bytes_eq one.name x.name) (list_any (bytes_eq one.name) (repository_names front))
     (bytes_turned x.name one.name (none_apart x.name front rest one parts.0))
     (unused_name front rest one parts.1)
 
-named_one : (front rest : List NamedConfig) (one : NamedConfig) → list_all is_repository_name (names_of (front ++ one ∷ rest)) ≡ true → is_repository_name one.name ≡ true
-named_one [] rest one all = (and_parts (is_repository_name one.name) (list_all is_repository_name (names_of rest)) all).0
-named_one (x ∷ front) rest one all = named_one front rest one (and_parts (is_repository_name x.name) (list_all is_repository_name (names_of (front ++ one ∷ rest))) all).1
+named_one : (front rest : List NamedConfig) (one : NamedConfig) → list_all is_repository_name (repository_names (front ++ one ∷ rest)) ≡ true → is_repository_name one.name ≡ true
+named_one [] rest one all = (and_parts (is_repository_name one.name) (list_all is_repository_name (repository_names rest)) all).0
+named_one (x ∷ front) rest one all = named_one front rest one (and_parts (is_repository_name x.name) (list_all is_repository_name (repository_names (front ++ one ∷ rest))) all).1
 
 -- the next of the repositories that are to begin has a name of its own
-pub next_named : (all front rest : List NamedConfig) (one : NamedConfig) → AreNamed (names_of all) → all ≡ front ++ one ∷ rest → is_repository_name one.name ≡ true
-next_named all front rest one named is = named_one front rest one (subst (λ (hs : List NamedConfig). list_all is_repository_name (names_of hs) ≡ true) is named.named)
+pub next_named : (all front rest : List NamedConfig) (one : NamedConfig) → AreNamed (repository_names all) → all ≡ front ++ one ∷ rest → is_repository_name one.name ≡ true
+next_named all front rest one named is = named_one front rest one (subst (λ (hs : List NamedConfig). list_all is_repository_name (repository_names hs) ≡ true) is named.named)
 
-pub next_unused : (all front rest : List NamedConfig) (one : NamedConfig) (repos : List NamedRepo) (lists : Lists) → AreNamed (names_of all) → all ≡ front ++ one ∷ rest → repositories_of repos lists ≡ map begun front
+pub next_unused : (all front rest : List NamedConfig) (one : NamedConfig) (repos : List NamedRepo) (lists : VersionLists) → AreNamed (repository_names all) → all ≡ front ++ one ∷ rest → repositories_of repos lists ≡ map begun front
     → list_any (bytes_eq one.name) (repo_names repos) ≡ false
 next_unused all front rest one repos lists named is same =
-    ap (list_any (bytes_eq one.name)) (same_names repos lists front same) ∙ unused_name front rest one (subst (λ (hs : List NamedConfig). has_repeat (names_of hs) ≡ false) is named.distinct)
+    ap (list_any (bytes_eq one.name)) (same_names repos lists front same) ∙ unused_name front rest one (subst (λ (hs : List NamedConfig). has_repeat (repository_names hs) ≡ false) is named.distinct)
 
 join_entry : (front rest : List NamedConfig) (one : NamedConfig) → front ++ one ∷ rest ≡ (front ++ one ∷ []) ++ rest
 join_entry [] rest one = refl

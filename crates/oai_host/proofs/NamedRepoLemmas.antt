@@ -4,9 +4,10 @@ use Rattle.std.specs.List.{list_any, slice_get}
 use Rattle.std.specs.Str.{bytes_eq}
 use Rattle.std.proofs.lemmas.Bool.{cond-false, eqb-true, false_from_ne_true, or_from, or_left, or_parts, or_right}
 use Rattle.oai_item.specs.Item.{ItemState}
-use Rattle.oai_catalogue.specs.Store.{Lists}
-use Rattle.oai_settings.specs.Config.{Config}
-use Rattle.oai_repo.specs.Fields.{IsNew, IsStored, Keeps, KeepsOthers, RepoFields, StandsIn, has, numbers_of, open_lists_of, state_of, stored_items, versions_in}
+use Rattle.oai_catalogue.specs.Store.{VersionLists}
+use Rattle.oai_settings.specs.Config.{RepositoryConfig}
+use Rattle.oai_holdings.specs.Index.{stored_items}
+use Rattle.oai_repo.specs.Fields.{HasNumbersIn, IsNew, IsStored, Keeps, KeepsOthers, RepoFields, has, numbers_of, open_lists_of, state_of, versions_in}
 use Rattle.oai_repo.specs.State.{OpenLists, RepoState}
 use Rattle.oai_repo.proofs.OpenListLemmas.{open_lists_same}
 use Rattle.oai_repo.proofs.NeighbourLemmas.{apart_turned, held_where, stands_where, still_apart, still_held, still_stands}
@@ -28,7 +29,7 @@ use Rattle.oai_host.proofs.PlaceLemmas.{named_last, names_last, names_set, nothi
 
 -- ---- another one stands for what it stood for
 
-state_same : (other : RepoFields) (before after : Lists) → ((n : ℕ) → has (numbers_of other) n ≡ true → after n ≡ before n) → state_of other after ≡ state_of other before
+state_same : (other : RepoFields) (before after : VersionLists) → ((n : ℕ) → has (numbers_of other) n ≡ true → after n ≡ before n) → state_of other after ≡ state_of other before
 state_same other before after same =
     let v : ℕ = other.index.version in
     let items : stored_items other.index after ≡ stored_items other.index before =
@@ -40,8 +41,8 @@ state_same other before after same =
     let with : List ItemState → OpenLists → RepoState = λ xs b. record { clock = other.clock; holdings = record { items = xs; sets = other.sets }; open_lists = b } in
     ap (λ (xs : List ItemState). with xs (open_lists_of other.clock other.table after)) items ∙ ap (with (stored_items other.index before)) open_ones
 
-module _ (old new : RepoFields) (before after : Lists) (kept : KeepsOthers (numbers_of old) before (numbers_of new) after) where
-  same_lists : (other : RepoFields) → StandsIn other before → AreApart other old → (n : ℕ) → has (numbers_of other) n ≡ true → after n ≡ before n
+module _ (old new : RepoFields) (before after : VersionLists) (kept : KeepsOthers (numbers_of old) before (numbers_of new) after) where
+  same_lists : (other : RepoFields) → HasNumbersIn other before → AreApart other old → (n : ℕ) → has (numbers_of other) n ≡ true → after n ≡ before n
   same_lists other stands apart n there = kept.others n (apart n there) (still_apart old new other before after kept stands apart n there)
 
   -- ---- those behind it
@@ -60,7 +61,7 @@ module _ (old new : RepoFields) (before after : Lists) (kept : KeepsOthers (numb
   rest_apart (x ∷ others) stand apart =
       (apart_turned x.repo new (still_apart old new x.repo before after kept stand.0 (apart_turned old x.repo apart.0)), rest_apart others stand.1 apart.1)
 
-  other_step : (call : Call) (answer : Answer) (m n : StoreState) (x : NamedRepo) → StandsIn x.repo before → AreApart x.repo old → leads_to_repository x.name call.target ≡ false
+  other_step : (call : Call) (answer : Answer) (m n : StoreState) (x : NamedRepo) → HasNumbersIn x.repo before → AreApart x.repo old → leads_to_repository x.name call.target ≡ false
       → IsStep call answer m n (repository_of before x) (repository_of after x)
   other_step call answer m n x stands apart elsewhere = record {
     name = refl;
@@ -97,12 +98,12 @@ apart_set a [] i other apart new = tt
 apart_set a (x ∷ repos) zero other apart new = (new, apart.1)
 apart_set a (x ∷ repos) (suc i) other apart new = (apart.0, apart_set a repos i other apart.1 new)
 
-pub stands_at : (repos : List NamedRepo) (i : ℕ) (one : NamedRepo) (lists : Lists) → slice_get repos i ≡ Some one → AllStand repos lists → StandsIn one.repo lists
+pub stands_at : (repos : List NamedRepo) (i : ℕ) (one : NamedRepo) (lists : VersionLists) → slice_get repos i ≡ Some one → AllStand repos lists → HasNumbersIn one.repo lists
 stands_at [] i one lists there stand = nothing_there one there
-stands_at (x ∷ repos) zero one lists there stand = subst (λ (y : NamedRepo). StandsIn y.repo lists) (same_one x one there) stand.0
+stands_at (x ∷ repos) zero one lists there stand = subst (λ (y : NamedRepo). HasNumbersIn y.repo lists) (same_one x one there) stand.0
 stands_at (x ∷ repos) (suc i) one lists there stand = stands_at repos i one lists there stand.1
 
-pub held_at : (repos : List NamedRepo) (i : ℕ) (one : NamedRepo) (lists : Lists) → slice_get repos i ≡ Some one → AllHeld repos lists → IsStored one.repo lists
+pub held_at : (repos : List NamedRepo) (i : ℕ) (one : NamedRepo) (lists : VersionLists) → slice_get repos i ≡ Some one → AllHeld repos lists → IsStored one.repo lists
 held_at [] i one lists there held = nothing_there one there
 held_at (x ∷ repos) zero one lists there held = subst (λ (y : NamedRepo). IsStored y.repo lists) (same_one x one there) held.0
 held_at (x ∷ repos) (suc i) one lists there held = held_at repos i one lists there held.1
@@ -113,11 +114,11 @@ unused_at name (x ∷ repos) zero one there unused =
     subst (λ (y : NamedRepo). bytes_eq name y.name ≡ false) (same_one x one there) (or_parts (bytes_eq name x.name) (list_any (bytes_eq name) (repo_names repos)) unused).0
 unused_at name (x ∷ repos) (suc i) one there unused = unused_at name repos i one there (or_parts (bytes_eq name x.name) (list_any (bytes_eq name) (repo_names repos)) unused).1
 
-module _ (one : NamedRepo) (new : RepoFields) (before after : Lists) (kept : KeepsOthers (numbers_of one.repo) before (numbers_of new) after) where
+module _ (one : NamedRepo) (new : RepoFields) (before after : VersionLists) (kept : KeepsOthers (numbers_of one.repo) before (numbers_of new) after) where
   abbrev changed : NamedRepo
   changed = record { name = one.name; repo = new }
 
-  set_stand : (repos : List NamedRepo) (i : ℕ) → slice_get repos i ≡ Some one → AllStand repos before → AllApart repos → StandsIn new after → AllStand (slice_set repos i changed) after
+  set_stand : (repos : List NamedRepo) (i : ℕ) → slice_get repos i ≡ Some one → AllStand repos before → AllApart repos → HasNumbersIn new after → AllStand (slice_set repos i changed) after
   set_stand [] i there stand apart stands = tt
   set_stand (x ∷ repos) zero there stand apart stands =
       (stands, rest_stand one.repo new before after kept repos stand.1 (subst (λ (y : NamedRepo). IsApart y.repo repos) (same_one x one there) apart.0))
@@ -168,7 +169,7 @@ module _ (one : NamedRepo) (new : RepoFields) (before after : Lists) (kept : Kee
       (state_same x.repo before after (same_lists one.repo new before after kept x.repo stand.0 (apart_at x.repo repos i one there apart.0))) (set_repositories repos i there stand.1 apart.1)
 
 -- all of it
-pub repos_set : (was is : Bool) (repos : List NamedRepo) (i : ℕ) (one : NamedRepo) (new : RepoFields) (before after : Lists) → is ≡ was → slice_get repos i ≡ Some one → AreNamedRepos was repos before
+pub repos_set : (was is : Bool) (repos : List NamedRepo) (i : ℕ) (one : NamedRepo) (new : RepoFields) (before after : VersionLists) → is ≡ was → slice_get repos i ≡ Some one → AreNamedRepos was repos before
     → Keeps was one.repo before new after → AreNamedRepos is (slice_set repos i (record { name = one.name; repo = new })) after
 repos_set was is repos i one new before after same there old kept = record {
   named = subst (λ (names : List (List ℕ)). AreNamed names) (sym (names_set repos i one new there)) old.named;
@@ -177,11 +178,11 @@ repos_set was is repos i one new before after same there old kept = record {
   apart = set_apart one new before after kept.others repos i there old.stand old.apart;
 }
 
-pub repositories_set : (was : Bool) (repos : List NamedRepo) (i : ℕ) (one : NamedRepo) (new : RepoFields) (before after : Lists) → slice_get repos i ≡ Some one → AreNamedRepos was repos before → Keeps was one.repo before new after
+pub repositories_set : (was : Bool) (repos : List NamedRepo) (i : ℕ) (one : NamedRepo) (new : RepoFields) (before after : VersionLists) → slice_get repos i ≡ Some one → AreNamedRepos was repos before → Keeps was one.repo before new after
     → repositories_of (slice_set repos i (record { name = one.name; repo = new })) after ≡ slice_set (repositories_of repos before) i (repository_of after (record { name = one.name; repo = new }))
 repositories_set was repos i one new before after there old kept = set_repositories one new before after kept.others repos i there old.stand old.apart
 
-pub steps_set : (was : Bool) (call : Call) (answer : Answer) (m n : StoreState) (endpoint : Endpoint) (repos : List NamedRepo) (i : ℕ) (one : NamedRepo) (new : RepoFields) (before after : Lists) → slice_get repos i ≡ Some one → AreNamedRepos was repos before
+pub steps_set : (was : Bool) (call : Call) (answer : Answer) (m n : StoreState) (endpoint : Endpoint) (repos : List NamedRepo) (i : ℕ) (one : NamedRepo) (new : RepoFields) (before after : VersionLists) → slice_get repos i ≡ Some one → AreNamedRepos was repos before
     → Keeps was one.repo before new after → has_repeat (repo_names repos) ≡ false → path_of call.target ≡ front_of endpoint ++ one.name
     → IsPerformed one.repo.config call.moment (task_in endpoint call) answer (state_of one.repo before) m (state_of new after) n
     → AreSteps call answer m n (repositories_of repos before) (repositories_of (slice_set repos i (record { name = one.name; repo = new })) after)
@@ -196,8 +197,8 @@ steps_set was call answer m n endpoint repos i one new before after there old ke
 -- ---- one more
 
 -- each of those that were there stays as it was, where a new number is taken
-module _ (w : ℕ) (before after : Lists) (free : before w ≡ None) (listed : (n : ℕ) → eqb n w ≡ false → after n ≡ before n) where
-  untouched : (other : RepoFields) → StandsIn other before → (n : ℕ) → has (numbers_of other) n ≡ true → after n ≡ before n
+module _ (w : ℕ) (before after : VersionLists) (free : before w ≡ None) (listed : (n : ℕ) → eqb n w ≡ false → after n ≡ before n) where
+  untouched : (other : RepoFields) → HasNumbersIn other before → (n : ℕ) → has (numbers_of other) n ≡ true → after n ≡ before n
   untouched other stands n there =
       listed n (false_from_ne_true (eqb n w) (λ same. clash (has (numbers_of other) n) there (ap (has (numbers_of other)) (eqb-true n w same) ∙ unused_lacks (numbers_of other) before w stands.used free)))
 
@@ -215,7 +216,7 @@ module _ (w : ℕ) (before after : Lists) (free : before w ≡ None) (listed : (
       ap (λ (s : RepoState). record { name = x.name; config = x.repo.config; state = s } ∷ repositories_of repos after) (state_same x.repo before after (untouched x.repo stand.0))
       ∙ ap (λ (rs : List Repository). repository_of before x ∷ rs) (fresh_same repos stand.1)
 
-  fresh_apart : (x : RepoFields) (new : RepoFields) → numbers_of new ≡ w ∷ [] → StandsIn x before → AreApart x new
+  fresh_apart : (x : RepoFields) (new : RepoFields) → numbers_of new ≡ w ∷ [] → HasNumbersIn x before → AreApart x new
   fresh_apart x new alone stands n there =
       ap (λ (numbers : List ℕ). has numbers n) alone
       ∙ or_from (eqb w n) false (turned n w (false_from_ne_true (eqb n w) (λ same. clash (has (numbers_of x) n) there (ap (has (numbers_of x)) (eqb-true n w same) ∙ unused_lacks (numbers_of x) before w stands.used free)))) refl
@@ -228,22 +229,22 @@ module _ (w : ℕ) (before after : Lists) (free : before w ≡ None) (listed : (
       apart_last a [] one others_apart new = (new, tt)
       apart_last a (y ∷ others) one others_apart new = (others_apart.0, apart_last a others one others_apart.1 new)
 
-stand_last : (repos : List NamedRepo) (one : NamedRepo) (lists : Lists) → AllStand repos lists → StandsIn one.repo lists → AllStand (repos ++ one ∷ []) lists
+stand_last : (repos : List NamedRepo) (one : NamedRepo) (lists : VersionLists) → AllStand repos lists → HasNumbersIn one.repo lists → AllStand (repos ++ one ∷ []) lists
 stand_last [] one lists stand stands = (stands, tt)
 stand_last (x ∷ repos) one lists stand stands = (stand.0, stand_last repos one lists stand.1 stands)
 
-held_last : (repos : List NamedRepo) (one : NamedRepo) (lists : Lists) → AllHeld repos lists → IsStored one.repo lists → AllHeld (repos ++ one ∷ []) lists
+held_last : (repos : List NamedRepo) (one : NamedRepo) (lists : VersionLists) → AllHeld repos lists → IsStored one.repo lists → AllHeld (repos ++ one ∷ []) lists
 held_last [] one lists held holds = (holds, tt)
 held_last (x ∷ repos) one lists held holds = (held.0, held_last repos one lists held.1 holds)
 
-repositories_last : (repos : List NamedRepo) (one : NamedRepo) (lists : Lists) → repositories_of (repos ++ one ∷ []) lists ≡ repositories_of repos lists ++ repository_of lists one ∷ []
+repositories_last : (repos : List NamedRepo) (one : NamedRepo) (lists : VersionLists) → repositories_of (repos ++ one ∷ []) lists ≡ repositories_of repos lists ++ repository_of lists one ∷ []
 repositories_last [] one lists = refl
 repositories_last (x ∷ repos) one lists = ap (λ (rs : List Repository). repository_of lists x ∷ rs) (repositories_last repos one lists)
 
-elsewhere : (config : Config) (before after : Lists) (new : RepoFields) → IsNew config before new after → (n : ℕ) → eqb n new.index.version ≡ false → after n ≡ before n
-elsewhere config before after new is_new n other = ap (λ (lists : Lists). lists n) is_new.listed ∙ cond-false (eqb n new.index.version) (Some []) (before n) other
+elsewhere : (config : RepositoryConfig) (before after : VersionLists) (new : RepoFields) → IsNew config before new after → (n : ℕ) → eqb n new.index.version ≡ false → after n ≡ before n
+elsewhere config before after new is_new n other = ap (λ (lists : VersionLists). lists n) is_new.listed ∙ cond-false (eqb n new.index.version) (Some []) (before n) other
 
-pub repos_last : (was is : Bool) (repos : List NamedRepo) (name : List ℕ) (config : Config) (new : RepoFields) (before after : Lists) → is ≡ was → AreNamedRepos was repos before → is_repository_name name ≡ true → list_any (bytes_eq name) (repo_names repos) ≡ false
+pub repos_last : (was is : Bool) (repos : List NamedRepo) (name : List ℕ) (config : RepositoryConfig) (new : RepoFields) (before after : VersionLists) → is ≡ was → AreNamedRepos was repos before → is_repository_name name ≡ true → list_any (bytes_eq name) (repo_names repos) ≡ false
     → IsNew config before new after → AreNamedRepos is (repos ++ record { name = name; repo = new } ∷ []) after
 repos_last was is repos name config new before after same old named unused is_new =
     let one : NamedRepo = record { name = name; repo = new } in
@@ -256,11 +257,11 @@ repos_last was is repos name config new before after same old named unused is_ne
       apart = fresh_all_apart w before after is_new.unused listed repos one (ap (λ (numbers : List ℕ). w ∷ numbers) is_new.alone) old.stand old.apart;
     }
 
-pub begun_last : (was : Bool) (repos : List NamedRepo) (entry : NamedConfig) (new : RepoFields) (before after : Lists) → AreNamedRepos was repos before → IsNew entry.config before new after
+pub begun_last : (was : Bool) (repos : List NamedRepo) (entry : NamedConfig) (new : RepoFields) (before after : VersionLists) → AreNamedRepos was repos before → IsNew entry.config before new after
     → repositories_of (repos ++ record { name = entry.name; repo = new } ∷ []) after ≡ repositories_of repos before ++ begun entry ∷ []
 begun_last was repos entry new before after old is_new =
     let one : NamedRepo = record { name = entry.name; repo = new } in
     repositories_last repos one after
     ∙ ap (λ (rs : List Repository). rs ++ repository_of after one ∷ []) (fresh_same new.index.version before after is_new.unused (elsewhere entry.config before after new is_new) repos old.stand)
-    ∙ ap (λ (c : Config). repositories_of repos before ++ record { name = entry.name; config = c; state = state_of new after } ∷ []) is_new.configured
+    ∙ ap (λ (c : RepositoryConfig). repositories_of repos before ++ record { name = entry.name; config = c; state = state_of new after } ∷ []) is_new.configured
     ∙ ap (λ (s : RepoState). repositories_of repos before ++ record { name = entry.name; config = entry.config; state = s } ∷ []) is_new.empty

@@ -15,8 +15,9 @@ use Rattle.oai_item.specs.Items.{is_at, items_after}
 use Rattle.oai_item.specs.Order.{are_in_order, place_cmp}
 use Rattle.oai_item.proofs.Around.{found_place, items_after-found}
 use Rattle.oai_item.proofs.OrderLemmas.{is_at-Equal, is_equal}
-use Rattle.oai_repo.specs.Saved.{Part, has_item, items_behind}
-use Rattle.oai_http.specs.Parts.{PartState}
+use Rattle.oai_holdings.specs.Saved.{items_behind}
+use Rattle.oai_repo.specs.Saved.{SavedPartState, has_item}
+use Rattle.oai_replay.specs.Parts.{PartState}
 use Rattle.oai_http.proofs.TargetLemmas.{bytes_same}
 use Rattle.oai_host.specs.Saving.{TakesParts}
 use Rattle.oai_host.proofs.SavedLemmas.{parts_then}
@@ -24,11 +25,11 @@ use Rattle.oai_host.proofs.SavedLemmas.{parts_then}
 -- ---- one more
 
 -- the part of one element more behind those before it
-pub parts_more : {S A : Type 0} (has : S → List PartState → Type 0) (f : A → Part) (name : List ℕ) (clock : ℤ) (xs : List A) (i : ℕ) (x : A) (a b c : S) → i < length xs → x ≡ get_or xs i x
+pub parts_more : {S A : Type 0} (has : S → List PartState → Type 0) (f : A → SavedPartState) (name : List ℕ) (clock : ℤ) (xs : List A) (i : ℕ) (x : A) (a b c : S) → i < length xs → x ≡ get_or xs i x
     → TakesParts has name clock (map f (take i xs)) a b → TakesParts has name clock (f x ∷ []) b c → TakesParts has name clock (map f (take (i + 1) xs)) a c
 parts_more has f name clock xs i x a b c within is front last =
     let more : map f (take i xs) ++ f x ∷ [] ≡ map f (take (i + 1) xs) = ap (λ y. map f (take i xs) ++ f y ∷ []) is ∙ sym (map_more f xs i x within) in
-    subst (λ (ps : List Part). TakesParts has name clock ps a c) more (parts_then has name clock (map f (take i xs)) (f x ∷ []) a b c front last)
+    subst (λ (ps : List SavedPartState). TakesParts has name clock ps a c) more (parts_then has name clock (map f (take i xs)) (f x ∷ []) a b c front last)
 
 -- ---- a piece
 
@@ -62,7 +63,7 @@ piece_taken has name clock all piece start some most next a b c is within next_i
     let upto : map has_item (take start all) ++ map has_item piece ≡ map has_item (take next all) =
     sym (map-append has_item (take start all) piece)
     ∙ ap (map has_item) (piece_read all piece start some most is within ∙ ap (λ (n : ℕ). take n all) (sym next_is)) in
-    subst (λ (ps : List Part). TakesParts has name clock ps a c) upto (parts_then has name clock (map has_item (take start all)) (map has_item piece) a b c front more)
+    subst (λ (ps : List SavedPartState). TakesParts has name clock ps a c) upto (parts_then has name clock (map has_item (take start all)) (map has_item piece) a b c front more)
 
 -- ---- what stands behind its last item
 

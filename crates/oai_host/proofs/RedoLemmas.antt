@@ -4,28 +4,29 @@ use Rattle.std.specs.Prelude.{OnOk}
 use Rattle.std.proofs.lemmas.Bool.{cases_Bool, cond-true, cond-false}
 use Rattle.oai_item.specs.declared.faults.Fault.{Fault}
 use Rattle.oai_item.specs.declared.faults.Fault.TheVariants.{Damaged, Device, NoMemory, TooManyPages}
-use Rattle.oai_settings.specs.Config.{Config}
+use Rattle.oai_settings.specs.Config.{RepositoryConfig}
 use Rattle.oai_repo.specs.Machine.{Output, bytes, query, step, wait}
 use Rattle.oai_repo.specs.Replays.{IsReplay}
 use Rattle.oai_repo.specs.State.{RepoState, moved}
 use Rattle.oai_repo.specs.declared.responses.Replay.{Replay}
 use Rattle.oai_repo.specs.declared.responses.Replay.TheVariants.{Nothing, Tick, Request}
 use Rattle.oai_repo.specs.Calls.{IsClockAt, IsLeftByStep, room_to_ask}
-use Rattle.oai_repo.specs.Fields.{Keeps, RepoFields, holdings_of, state_of}
+use Rattle.oai_holdings.specs.Index.{holdings_of}
+use Rattle.oai_repo.specs.Fields.{Keeps, RepoFields, state_of}
 use Rattle.oai_repo.proofs.PassLemmas.{bare_ticks, ticks}
 use Rattle.oai_args.specs.Pairs.{decoded_pairs}
 use Rattle.oai_args.specs.Requests.{request_of}
-use Rattle.oai_catalogue.specs.Store.{Lists, Spends}
+use Rattle.oai_catalogue.specs.Store.{Spends, VersionLists}
 use Rattle.oai_catalogue.specs.declared.versions.Versions.{Ghosts}
 use Rattle.oai_http.specs.declared.targets.Endpoint.{Endpoint}
 use Rattle.oai_http.specs.declared.targets.Endpoint.TheVariants.{Deposits, Requests}
 use Rattle.oai_host.specs.Exchanged.{RedoesIn}
 use Rattle.oai_http.specs.Answers.{failed}
-use Rattle.oai_http.specs.Redone.{call_again}
+use Rattle.oai_replay.specs.Redone.{call_again}
 use Rattle.oai_http.specs.Targets.{leads_to_repository}
 use Rattle.oai_http.specs.declared.exchanges.Answer.{Answer}
 use Rattle.oai_http.specs.declared.exchanges.Call.{Call}
-use Rattle.oai_http.specs.declared.handlers.Performed.{Performed}
+use Rattle.oai_replay.specs.declared.replays.Performed.{Performed}
 use Rattle.oai_http.specs.declared.statuses.Status.{Status}
 use Rattle.oai_host.specs.Alone.{done_alone, exchanged_alone}
 use Rattle.oai_host.specs.Answers.{IsReply, answer_of, failure, failure_in}
@@ -33,7 +34,7 @@ use Rattle.oai_host.specs.Bodies.{lines_in}
 use Rattle.oai_host.specs.DepositLines.{AreTaken}
 use Rattle.oai_host.specs.Hosts.{AreSteps, HostState, IsExchanged, Repository, is_of_none, refused, store_of}
 use Rattle.oai_host.specs.Performed.{HasStopped, IsDone, IsPerformed, StoreState}
-use Rattle.oai_host.specs.Redone.{AreNoLonger, IsLeftBy, IsRedone, LeavesLines, arguments_to_replay, redone_all, redone_at, reply_all}
+use Rattle.oai_host.specs.Redone.{AreNoLonger, IsLeftBy, IsRedone, LeavesLines, arguments_to_replay, redone_at, redone_repositories, reply_all}
 use Rattle.oai_host.specs.Tasks.{Task, asking, depositing, refusing, task_of}
 use Rattle.oai_host.proofs.DepositLemmas.{lines_exact}
 use Rattle.oai_host.proofs.RoomLemmas.{fault_told}
@@ -50,7 +51,7 @@ pub output_told : (output : Output) → failure_in (answer_of output) ≡ Ok tt
 output_told output = ap failure (output_whole output)
 
 -- the answers of the machine have none
-pub alone_whole : (config : Config) (state : RepoState) (moment : ℤ) (task : Task) → (done_alone config state moment task).0.fault ≡ None
+pub alone_whole : (config : RepositoryConfig) (state : RepoState) (moment : ℤ) (task : Task) → (done_alone config state moment task).0.fault ≡ None
 alone_whole config state moment (refusing status) = refl
 alone_whole config state moment (asking arguments) = output_whole (step config state moment (query arguments)).0
 alone_whole config state moment (depositing lines) = refl
@@ -70,7 +71,7 @@ failed_done Damaged lines = refl
 pub never : {P : Type 0} {A : Type 0} (x : A) → None ≡ Some x → P
 never x is = cc
 
-stopped_fault : (honest : Bool) (config : Config) (moment : ℤ) (task : Task) (fault : Fault) (before : RepoState) (answer : Answer) (after : RepoState) → HasStopped honest config moment task fault before answer after
+stopped_fault : (honest : Bool) (config : RepositoryConfig) (moment : ℤ) (task : Task) (fault : Fault) (before : RepoState) (answer : Answer) (after : RepoState) → HasStopped honest config moment task fault before answer after
     → answer.fault ≡ Some fault
 stopped_fault honest config moment (refusing status) fault before answer after stopped = absurd stopped
 stopped_fault honest config moment (asking arguments) fault before answer after stopped = ap (λ (a : Answer). a.fault) stopped.0 ∙ failed_fault fault None
@@ -78,7 +79,7 @@ stopped_fault honest config moment (depositing lines) fault before answer after 
 
 -- ---- a repository
 
-module _ (config : Config) (moment : ℤ) (task : Task) (answer : Answer) (before : RepoState) (old : StoreState) (after : RepoState) (new : StoreState) (honest : IsTrue old.honest)
+module _ (config : RepositoryConfig) (moment : ℤ) (task : Task) (answer : Answer) (before : RepoState) (old : StoreState) (after : RepoState) (new : StoreState) (honest : IsTrue old.honest)
     (performed : IsPerformed config moment task answer before old after new) where
   pub done_whole : IsDone old.honest config moment task before answer after → answer.fault ≡ None
   done_whole done =
@@ -111,7 +112,7 @@ module _ (config : Config) (moment : ℤ) (task : Task) (answer : Answer) (befor
       of_task (depositing lines) f stopped = never stopped.0 (sym none ∙ ap (λ (a : Answer). a.done) stopped.2 ∙ failed_done f (Some stopped.0))
 
 -- a deposit that failed has done its first lines
-pub lines_left : (config : Config) (moment : ℤ) (body : List ℕ) (answer : Answer) (before : RepoState) (old : StoreState) (after : RepoState) (new : StoreState) → IsTrue old.honest
+pub lines_left : (config : RepositoryConfig) (moment : ℤ) (body : List ℕ) (answer : Answer) (before : RepoState) (old : StoreState) (after : RepoState) (new : StoreState) → IsTrue old.honest
     → IsPerformed config moment (depositing (lines_in body)) answer before old after new → (fault : Fault) (n size : ℕ) → answer.fault ≡ Some fault → answer.done ≡ Some n → AreTaken body size n
     → after ≡ (done_alone config before moment (depositing (lines_in (take size body)))).1
 lines_left config moment body answer before old after new honest performed fault n size is count taken = elim performed.ended [
@@ -133,10 +134,10 @@ no_lines_left body answer (b ∷ lines) none left = absurd (omega (arith, none))
 -- ---- what of a request is to be replayed
 
 -- a request without arguments is a tick
-bare_tick : (config : Config) (moment : ℤ) (before : RepoState) → (done_alone config before moment (asking [])).1 ≡ moved moment before
+bare_tick : (config : RepositoryConfig) (moment : ℤ) (before : RepoState) → (done_alone config before moment (asking [])).1 ≡ moved moment before
 bare_tick config moment before = ticks config before moment (request_of config.granularity (decoded_pairs [])) (bare_ticks config.granularity)
 
-pub replay_left : (config : Config) (moment : ℤ) (arguments : List ℕ) (replay : Replay) (before after : RepoState) → IsReplay config before moment (request_of config.granularity (decoded_pairs arguments)) replay after
+pub replay_left : (config : RepositoryConfig) (moment : ℤ) (arguments : List ℕ) (replay : Replay) (before after : RepoState) → IsReplay config before moment (request_of config.granularity (decoded_pairs arguments)) replay after
     → after ≡ (done_alone config before moment (asking arguments)).1 → IsLeftBy config moment Requests (arguments_to_replay replay arguments) before after
 replay_left config moment arguments Nothing before after is done = is.replayed
 replay_left config moment arguments Tick before after is done = is.replayed ∙ sym (bare_tick config moment before)
@@ -200,12 +201,12 @@ passed_in g moment arguments (Err fault) old before new after passed clock kept 
 same_repository : (x y : Repository) → y.name ≡ x.name → y.config ≡ x.config → (s : RepoState) → y.state ≡ s → y ≡ record x { state = s }
 same_repository x y a b s c =
     ap (λ (n : List ℕ). record { name = n; config = y.config; state = y.state }) a
-    ∙ ap (λ (n : Config). record { name = x.name; config = n; state = y.state }) b
+    ∙ ap (λ (n : RepositoryConfig). record { name = x.name; config = n; state = y.state }) b
     ∙ ap (λ (n : RepoState). record { name = x.name; config = x.config; state = n }) c
 
 -- what an exchange without a fault leaves, and what it is answered
 module _ (call : Call) (answer : Answer) (old new : StoreState) (honest : IsTrue old.honest) (none : answer.fault ≡ None) where
-  each_redone : (before after : List Repository) → AreSteps call answer old new before after → after ≡ redone_all before call
+  each_redone : (before after : List Repository) → AreSteps call answer old new before after → after ≡ redone_repositories before call
   each_redone [] [] steps = refl
   each_redone [] (y ∷ after) steps = absurd steps
   each_redone (x ∷ before) [] steps = absurd steps
@@ -236,7 +237,7 @@ module _ (call : Call) (answer : Answer) (old new : StoreState) (honest : IsTrue
   ]
 
 module _ (call : Call) (answer : Answer) (before after : HostState) (honest : IsTrue before.honest) (exchanged : IsExchanged call answer before after) (none : answer.fault ≡ None) where
-  pub redone_whole : after.repositories ≡ redone_all before.repositories call
+  pub redone_whole : after.repositories ≡ redone_repositories before.repositories call
   redone_whole = each_redone call answer (store_of before) (store_of after) honest none before.repositories after.repositories exchanged.each
 
   pub replied_whole : answer ≡ reply_all before.repositories call
@@ -249,7 +250,7 @@ no_fault done None same = refl
 no_fault done (Some fault) same = cc
 
 pub redo_left : (moment : ℤ) (performed : Performed) (result : Result (Unit {0}) Fault) (before after : HostState) → IsRedone moment performed result before after
-    → OnOk result (IsTrue before.honest → after.repositories ≡ redone_all before.repositories (call_again moment performed))
+    → OnOk result (IsTrue before.honest → after.repositories ≡ redone_repositories before.repositories (call_again moment performed))
 redo_left moment performed (Err fault) before after redone = tt
 redo_left moment performed (Ok done) before after redone = λ honest. elim redone [
   | inl again ↦ redone_whole (call_again moment performed) again.0 before after honest again.2 (no_fault done again.0.fault again.1)

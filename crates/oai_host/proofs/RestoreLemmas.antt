@@ -5,13 +5,13 @@ use Rattle.std.specs.Str.{bytes_eq}
 use Rattle.std.proofs.lemmas.Bool.{cond-false, cond-true, or_parts}
 use Rattle.oai_item.specs.Rules.{has_repeat}
 use Rattle.oai_item.specs.declared.faults.Fault.{Fault}
-use Rattle.oai_catalogue.specs.Store.{Lists}
+use Rattle.oai_catalogue.specs.Store.{VersionLists}
 use Rattle.oai_catalogue.specs.declared.versions.Versions.{Ghosts}
-use Rattle.oai_settings.specs.Config.{Config}
+use Rattle.oai_settings.specs.Config.{RepositoryConfig}
 use Rattle.oai_repo.specs.Fields.{Keeps, RepoFields, state_of}
-use Rattle.oai_repo.specs.Saved.{Part, with_part}
+use Rattle.oai_repo.specs.Saved.{SavedPartState, with_part}
 use Rattle.oai_repo.specs.State.{RepoState}
-use Rattle.oai_http.specs.Parts.{PartState}
+use Rattle.oai_replay.specs.Parts.{PartState}
 use Rattle.oai_http.proofs.TargetLemmas.{bytes_same, bytes_turned}
 use Rattle.oai_host.specs.Hosts.{Repository}
 use Rattle.oai_host.specs.NamedRepos.{AreNamedRepos, repo_names, repositories_of, repository_of}
@@ -28,7 +28,7 @@ pub on_ok : {A E : Type 0} (P Q : Type 0) (result : Result A E) → (P → Q) �
 on_ok P Q (Ok a) leads h = leads h
 on_ok P Q (Err e) leads h = h
 
-pub restores_part : {V : Type 0} (g : Ghosts V) (spelled : PartState) (part : Part) (result : Result (Unit {0}) Fault) (old : RepoFields) (before : V) (new : RepoFields) (after : V) → part_in spelled ≡ Some part
+pub restores_part : {V : Type 0} (g : Ghosts V) (spelled : PartState) (part : SavedPartState) (result : Result (Unit {0}) Fault) (old : RepoFields) (before : V) (new : RepoFields) (after : V) → part_in spelled ≡ Some part
     → OnOk result (IsTrue (g.honest before) → state_of new (g.lists after) ≡ with_part (state_of old (g.lists before)) part)
     → OnErr result ((new ≡ old) × (g.lists after ≡ g.lists before))
     → Keeps (g.honest before) old (g.lists before) new (g.lists after)
@@ -55,11 +55,11 @@ not_restored part (x ∷ rs) name is apart =
     (cond-false (bytes_eq x.name part.name) (record x { state = with_read x.state (part_in part) }) x other)
     (not_restored part rs name is both.1)
 
-names_are : (repos : List NamedRepo) (lists : Lists) → map (λ (r : Repository). r.name) (repositories_of repos lists) ≡ repo_names repos
+names_are : (repos : List NamedRepo) (lists : VersionLists) → map (λ (r : Repository). r.name) (repositories_of repos lists) ≡ repo_names repos
 names_are [] lists = refl
 names_are (x ∷ repos) lists = ap (λ (ns : List (List ℕ)). x.name ∷ ns) (names_are repos lists)
 
-set_restored : (part : PartState) (repos : List NamedRepo) (lists : Lists) (i : ℕ) (one : NamedRepo) → slice_get repos i ≡ Some one → one.name ≡ part.name → has_repeat (repo_names repos) ≡ false
+set_restored : (part : PartState) (repos : List NamedRepo) (lists : VersionLists) (i : ℕ) (one : NamedRepo) → slice_get repos i ≡ Some one → one.name ≡ part.name → has_repeat (repo_names repos) ≡ false
     → slice_set (repositories_of repos lists) i (restored_at part (repository_of lists one)) ≡ restored_in (repositories_of repos lists) part
 set_restored part [] lists i one there is apart = nothing_there one there
 set_restored part (x ∷ repos) lists zero one there is apart =
@@ -76,19 +76,19 @@ set_restored part (x ∷ repos) lists (suc i) one there is apart =
     (sym (cond-false (bytes_eq x.name part.name) (record { name = x.name; config = x.repo.config; state = with_read (state_of x.repo lists) (part_in part) }) (repository_of lists x) differ))
     (set_restored part repos lists i one there is both.1)
 
-set_same : (rs : List NamedRepo) (lists : Lists) (i : ℕ) (one : NamedRepo) → slice_get rs i ≡ Some one → slice_set (repositories_of rs lists) i (repository_of lists one) ≡ repositories_of rs lists
+set_same : (rs : List NamedRepo) (lists : VersionLists) (i : ℕ) (one : NamedRepo) → slice_get rs i ≡ Some one → slice_set (repositories_of rs lists) i (repository_of lists one) ≡ repositories_of rs lists
 set_same [] lists i one there = nothing_there one there
 set_same (x ∷ rs) lists zero one there = ap (λ (y : NamedRepo). repository_of lists y ∷ repositories_of rs lists) (sym (same_one x one there))
 set_same (x ∷ rs) lists (suc i) one there = ap (λ (others : List Repository). repository_of lists x ∷ others) (set_same rs lists i one there)
 
 -- ---- of a host
 
-pub restored_set : (was : Bool) (part : PartState) (repos : List NamedRepo) (i : ℕ) (one : NamedRepo) (new : RepoFields) (before after : Lists) → slice_get repos i ≡ Some one → one.name ≡ part.name → AreNamedRepos was repos before
+pub restored_set : (was : Bool) (part : PartState) (repos : List NamedRepo) (i : ℕ) (one : NamedRepo) (new : RepoFields) (before after : VersionLists) → slice_get repos i ≡ Some one → one.name ≡ part.name → AreNamedRepos was repos before
     → Keeps was one.repo before new after → state_of new after ≡ with_read (state_of one.repo before) (part_in part)
     → repositories_of (slice_set repos i (record { name = one.name; repo = new })) after ≡ restored_in (repositories_of repos before) part
 restored_set was part repos i one new before after there is old kept state =
     let made : repository_of after (record { name = one.name; repo = new }) ≡ restored_at part (repository_of before one) =
-    ap₂ (λ (c : Config) (s : RepoState). record { name = one.name; config = c; state = s }) kept.config state
+    ap₂ (λ (c : RepositoryConfig) (s : RepoState). record { name = one.name; config = c; state = s }) kept.config state
     ∙ sym (cond-true (bytes_eq one.name part.name) (record { name = one.name; config = one.repo.config; state = with_read (state_of one.repo before) (part_in part) }) (repository_of before one)
     (subst (λ (n : List ℕ). bytes_eq one.name n ≡ true) is (bytes_same one.name)))
     in
@@ -96,22 +96,22 @@ restored_set was part repos i one new before after there is old kept state =
     ∙ ap (slice_set (repositories_of repos before) i) made
     ∙ set_restored part repos before i one there is old.named.distinct
 
-pub unchanged_set : (was : Bool) (repos : List NamedRepo) (i : ℕ) (one : NamedRepo) (new : RepoFields) (before after : Lists) → slice_get repos i ≡ Some one → AreNamedRepos was repos before → Keeps was one.repo before new after
+pub unchanged_set : (was : Bool) (repos : List NamedRepo) (i : ℕ) (one : NamedRepo) (new : RepoFields) (before after : VersionLists) → slice_get repos i ≡ Some one → AreNamedRepos was repos before → Keeps was one.repo before new after
     → (new ≡ one.repo) × (after ≡ before) → repositories_of (slice_set repos i (record { name = one.name; repo = new })) after ≡ repositories_of repos before
 unchanged_set was repos i one new before after there old kept same =
     repositories_set was repos i one new before after there old kept
-    ∙ ap₂ (λ (r : RepoFields) (l : Lists). slice_set (repositories_of repos before) i (repository_of l (record { name = one.name; repo = r }))) same.0 same.1
+    ∙ ap₂ (λ (r : RepoFields) (l : VersionLists). slice_set (repositories_of repos before) i (repository_of l (record { name = one.name; repo = r }))) same.0 same.1
     ∙ set_same repos before i one there
 
 -- so it is of a call, whether it was Ok or not
-pub restored_ok : (honest : Bool) (part : PartState) (result : Result (Unit {0}) Fault) (repos : List NamedRepo) (i : ℕ) (one : NamedRepo) (new : RepoFields) (before after : Lists) → slice_get repos i ≡ Some one → one.name ≡ part.name
+pub restored_ok : (honest : Bool) (part : PartState) (result : Result (Unit {0}) Fault) (repos : List NamedRepo) (i : ℕ) (one : NamedRepo) (new : RepoFields) (before after : VersionLists) → slice_get repos i ≡ Some one → one.name ≡ part.name
     → AreNamedRepos honest repos before → Keeps honest one.repo before new after
     → OnOk result (IsTrue honest → state_of new after ≡ with_read (state_of one.repo before) (part_in part))
     → OnOk result (IsTrue honest → repositories_of (slice_set repos i (record { name = one.name; repo = new })) after ≡ restored_in (repositories_of repos before) part)
 restored_ok honest part (Ok _) repos i one new before after there is old kept state = λ sure. restored_set honest part repos i one new before after there is old kept (state sure)
 restored_ok honest part (Err fault) repos i one new before after there is old kept state = tt
 
-pub restored_err : (honest : Bool) (result : Result (Unit {0}) Fault) (repos : List NamedRepo) (i : ℕ) (one : NamedRepo) (new : RepoFields) (before after : Lists) → slice_get repos i ≡ Some one → AreNamedRepos honest repos before
+pub restored_err : (honest : Bool) (result : Result (Unit {0}) Fault) (repos : List NamedRepo) (i : ℕ) (one : NamedRepo) (new : RepoFields) (before after : VersionLists) → slice_get repos i ≡ Some one → AreNamedRepos honest repos before
     → Keeps honest one.repo before new after → OnErr result ((new ≡ one.repo) × (after ≡ before))
     → OnErr result (repositories_of (slice_set repos i (record { name = one.name; repo = new })) after ≡ repositories_of repos before)
 restored_err honest (Ok _) repos i one new before after there old kept same = tt

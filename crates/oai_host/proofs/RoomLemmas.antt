@@ -7,8 +7,8 @@ use Rattle.oai_item.specs.declared.faults.Fault.TheVariants.{Damaged, Device, No
 use Rattle.oai_catalogue.specs.Store.{NeedsRoom, Spares, Spends}
 use Rattle.oai_catalogue.specs.declared.versions.Versions.{Ghosts}
 use Rattle.oai_deposit.specs.Lines.{line_of}
-use Rattle.oai_settings.specs.Config.{Config}
-use Rattle.oai_repo.specs.Calls.{room_to_change}
+use Rattle.oai_settings.specs.Config.{RepositoryConfig}
+use Rattle.oai_holdings.specs.Calls.{room_to_change}
 use Rattle.oai_repo.specs.Fields.{RepoFields}
 use Rattle.oai_http.specs.Answers.{failed}
 use Rattle.oai_host.specs.Answers.{failure_in}
@@ -48,12 +48,12 @@ one_on : (was this rest mid all is : ℕ) → was + (this + rest) ≤ mid + all 
 one_on was this rest mid all is so_far used = omega (arith, so_far, used)
 
 -- a line more was done
-pub room_on : (config : Config) (text : List ℕ) (left all : List (List ℕ)) (was mid is : ℕ) → was + room_for_lines config (text ∷ left) ≤ mid + room_for_lines config all
+pub room_on : (config : RepositoryConfig) (text : List ℕ) (left all : List (List ℕ)) (was mid is : ℕ) → was + room_for_lines config (text ∷ left) ≤ mid + room_for_lines config all
     → mid ≤ is + room_for_line config (line_of text) → was + room_for_lines config left ≤ is + room_for_lines config all
 room_on config text left all was mid is so_far used = one_on was (room_for_line config (line_of text)) (room_for_lines config left) mid (room_for_lines config all) is so_far used
 
 -- all lines were done
-pub room_done : (config : Config) (all left : List (List ℕ)) (was is : ℕ) → left ≡ [] → was + room_for_lines config left ≤ is + room_for_lines config all
+pub room_done : (config : RepositoryConfig) (all left : List (List ℕ)) (was is : ℕ) → left ≡ [] → was + room_for_lines config left ≤ is + room_for_lines config all
     → NeedsRoom {A = Unit {0}} (room_for_lines config all) (Ok tt) was is
 room_done config all [] was is none so_far = record { enough = tt; used = omega (arith, so_far) }
 room_done config all (text ∷ left) was is none so_far = cc
@@ -72,7 +72,7 @@ one_failed this rest all was mid is fault so_far need =
     }
 
 -- a line failed
-pub room_failed : (config : Config) (text : List ℕ) (left all : List (List ℕ)) (was mid is done : ℕ) (fault : Fault) → was + room_for_lines config (text ∷ left) ≤ mid + room_for_lines config all
+pub room_failed : (config : RepositoryConfig) (text : List ℕ) (left all : List (List ℕ)) (was mid is done : ℕ) (fault : Fault) → was + room_for_lines config (text ∷ left) ≤ mid + room_for_lines config all
     → NeedsRoom {A = Unit {0}} (room_for_line config (line_of text)) (Err fault) mid is → NeedsRoom (room_for_lines config all) (failure_in (failed fault (Some done))) was is
 room_failed config text left all was mid is done fault so_far need =
     subst (λ (result : Result (Unit {0}) Fault). NeedsRoom (room_for_lines config all) result was is) (sym (fault_told fault (Some done)))

@@ -5,7 +5,7 @@ use Rattle.std.proofs.lemmas.List.{take_all}
 use Rattle.std.proofs.lemmas.Bool.{and_parts, cases_Bool, cond-true, cond-false}
 use Rattle.oai_item.specs.declared.faults.Fault.{Fault}
 use Rattle.oai_item.specs.declared.faults.Fault.TheVariants.{Damaged, Device, NoMemory, TooManyPages}
-use Rattle.oai_settings.specs.Config.{Config}
+use Rattle.oai_settings.specs.Config.{RepositoryConfig}
 use Rattle.oai_repo.specs.State.{RepoState}
 use Rattle.oai_http.specs.Answers.{answered_with, failed}
 use Rattle.oai_http.specs.Targets.{leads_to_repository}
@@ -32,7 +32,7 @@ passed_by : (call : Call) (answer : Answer) (before after : HostState) → IsExc
 passed_by call answer before after exchanged = record { honesty = exchanged.honesty.same; count = exchanged.device.count }
 
 -- exchanges of others came before
-run_before : (config : Config) (calls : List Call) (answers : List Answer) (before : RepoState) (old mid : StoreState) (after : RepoState) (new : StoreState) → IsLater old mid
+run_before : (config : RepositoryConfig) (calls : List Call) (answers : List Answer) (before : RepoState) (old mid : StoreState) (after : RepoState) (new : StoreState) → IsLater old mid
     → IsRun config calls answers before mid after new → IsRun config calls answers before old after new
 run_before config [] [] before old mid after new passed run = (run.0, passed_twice old mid new passed run.1)
 run_before config [] (a ∷ answers) before old mid after new passed run = absurd run
@@ -62,7 +62,7 @@ other_answer name call calls answer answers other =
 -- ---- one exchange and others
 
 -- a run, written otherwise
-same_run : (config : Config) (calls more : List Call) (answers others : List Answer) (before : RepoState) (old : StoreState) (after : RepoState) (new : StoreState) → more ≡ calls → others ≡ answers
+same_run : (config : RepositoryConfig) (calls more : List Call) (answers others : List Answer) (before : RepoState) (old : StoreState) (after : RepoState) (new : StoreState) → more ≡ calls → others ≡ answers
     → IsRun config calls answers before old after new → IsRun config more others before old after new
 same_run config calls more answers others before old after new e f run =
     subst (λ (cs : List Call). IsRun config cs others before old after new) (sym e) (subst (λ (xs : List Answer). IsRun config calls xs before old after new) (sym f) run)
@@ -74,7 +74,7 @@ module _ (call : Call) (answer : Answer) (calls : List Call) (answers : List Ans
     config = others.config ∙ step.config;
     run =
         let named = subst (λ (name : List ℕ). IsRun between.config (own_calls name calls) (own_answers name calls answers) between.state mid after.state new) step.name others.run in
-        let rest = subst (λ (config : Config). IsRun config (own_calls before.name calls) (own_answers before.name calls answers) between.state mid after.state new) step.config named in
+        let rest = subst (λ (config : RepositoryConfig). IsRun config (own_calls before.name calls) (own_answers before.name calls answers) between.state mid after.state new) step.config named in
         elim (cases_Bool (leads_to_repository before.name call.target)) [
           | inl own ↦
               same_run before.config (call ∷ own_calls before.name calls) (own_calls before.name (call ∷ calls)) (answer ∷ own_answers before.name calls answers) (own_answers before.name (call ∷ calls) (answer ∷ answers))
@@ -182,14 +182,14 @@ failed_fault TooManyPages lines = refl
 failed_fault Device lines = refl
 failed_fault Damaged lines = refl
 
-stopped_told : (honest : Bool) (config : Config) (moment : ℤ) (task : Task) (fault : Fault) (before : RepoState) (answer : Answer) (after : RepoState) → HasStopped honest config moment task fault before answer after
+stopped_told : (honest : Bool) (config : RepositoryConfig) (moment : ℤ) (task : Task) (fault : Fault) (before : RepoState) (answer : Answer) (after : RepoState) → HasStopped honest config moment task fault before answer after
     → is_none answer.fault ≡ false
 stopped_told honest config moment (refusing status) fault before answer after stopped = absurd stopped
 stopped_told honest config moment (asking arguments) fault before answer after stopped = ap (λ (a : Answer). is_none a.fault) stopped.0 ∙ failed_fault fault None
 stopped_told honest config moment (depositing lines) fault before answer after stopped = ap (λ (a : Answer). is_none a.fault) stopped.2 ∙ failed_fault fault (Some stopped.0)
 
 -- what was done over an honest store is what the machine does
-pub done_exact : (honest : Bool) (config : Config) (moment : ℤ) (task : Task) (before : RepoState) (answer : Answer) (after : RepoState) → IsTrue honest → IsDone honest config moment task before answer after
+pub done_exact : (honest : Bool) (config : RepositoryConfig) (moment : ℤ) (task : Task) (before : RepoState) (answer : Answer) (after : RepoState) → IsTrue honest → IsDone honest config moment task before answer after
     → done_alone config before moment task ≡ (answer, after)
 done_exact honest config moment (refusing status) before answer after so done = ap (λ (a : Answer). (a, before)) (sym done.0) ∙ ap (λ (s : RepoState). (answer, s)) (sym done.1)
 done_exact honest config moment (asking arguments) before answer after so done = done.exact so
@@ -197,7 +197,7 @@ done_exact honest config moment (depositing lines) before answer after so done =
     ap (λ (p : List ℕ × RepoState). (answered_with p.0, p.1)) (lines_exact honest config moment lines before answer.body after so done.1) ∙ ap (λ (a : Answer). (a, after)) (sym done.0)
 
 -- a run without failures over an honest store is what the repository alone answers
-pub alone_from : (config : Config) (calls : List Call) (answers : List Answer) (before : RepoState) (old : StoreState) (after : RepoState) (new : StoreState) → IsTrue old.honest
+pub alone_from : (config : RepositoryConfig) (calls : List Call) (answers : List Answer) (before : RepoState) (old : StoreState) (after : RepoState) (new : StoreState) → IsTrue old.honest
     → IsRun config calls answers before old after new → none_failed answers ≡ true → answers ≡ answers_alone config before calls
 alone_from config [] [] before old after new honest run none = refl
 alone_from config [] (answer ∷ answers) before old after new honest run none = absurd run

@@ -17,30 +17,30 @@ use Rattle.oai_item.specs.Decoding.{first_item}
 use Rattle.oai_item.specs.Encoding.{encoded}
 use Rattle.oai_item.specs.Rules.{has_repeat}
 use Rattle.oai_item.proofs.ReadBack.{item_back}
-use Rattle.oai_catalogue.specs.Store.{Lists}
+use Rattle.oai_catalogue.specs.Store.{VersionLists}
 use Rattle.oai_repo.specs.Fields.{state_of}
-use Rattle.oai_repo.specs.Saved.{Part, begins, ended, has_item, has_named_set, parts_of, with_part, with_parts}
+use Rattle.oai_repo.specs.Saved.{SavedPartState, ended, has_clock, has_item, has_named_set, parts_of, with_part, with_parts}
 use Rattle.oai_repo.specs.State.{RepoState, empty_state}
 use Rattle.oai_repo.proofs.SavedLemmas.{restored}
-use Rattle.oai_http.specs.Parts.{PartState, restored_all}
-use Rattle.oai_http.specs.declared.parts.PartKind.{PartKind}
+use Rattle.oai_replay.specs.Parts.{PartState, restored_all}
+use Rattle.oai_replay.specs.declared.parts.PartKind.{PartKind}
 use Rattle.oai_http.proofs.TargetLemmas.{bytes_same, bytes_turned}
 use Rattle.oai_host.specs.Hosts.{Repository}
 use Rattle.oai_host.specs.NamedRepos.{AllHeld, repo_names, repositories_of, repository_of}
-use Rattle.oai_host.specs.Saved.{bytes_of, emptied_at, emptied_in, ended_at, ended_in, has_spelling, if_spelled, is_space, kind_of, moment_of, part_in, parts_at, parts_in, restored_at, restored_in, spelled_part, with_read}
+use Rattle.oai_host.specs.Saved.{emptied_at, emptied_in, ended_at, ended_in, has_spelling, if_spelled, is_space_character, part_bytes_of, part_in, part_kind_of, part_moment_of, parts_at, parts_in, restored_at, restored_in, spelled_part, with_read}
 use Rattle.oai_host.specs.Saving.{CanBeRead, Takes, TakesAll, TakesParts}
 use Rattle.oai_host.specs.declared.repositories.NamedRepo.{NamedRepo}
 
 -- ---- no space stands in a setSpec
 
 abbrev is_other : ℕ → Bool
-is_other b = not (is_space b)
+is_other b = not (is_space_character b)
 
 colon_is_other : (b : ℕ) → is_colon b ≡ true → is_other b ≡ true
 colon_is_other b h = subst (λ (n : ℕ). is_other n ≡ true) (sym (eqb-true b 58 h)) refl
 
 prefix_is_other : (b : ℕ) → is_prefix_byte b ≡ true → is_other b ≡ true
-prefix_is_other b h = elim (cases_Bool (is_space b)) [
+prefix_is_other b h = elim (cases_Bool (is_space_character b)) [
   | inl space ↦ let clash : is_prefix_byte 32 ≡ true = subst (λ (n : ℕ). is_prefix_byte n ≡ true) (eqb-true b 32 space) h in cc
   | inr other ↦ ap not other
 ]
@@ -85,11 +85,11 @@ no_space spec h = others_by_parts spec (parts_have_them (slice_split is_colon sp
 
 -- ---- so it ends at the first one
 
-space_at : (spec name : List ℕ) → list_all is_other spec ≡ true → position_or_len is_space (spec ++ 32 ∷ name) ≡ length spec
+space_at : (spec name : List ℕ) → list_all is_other spec ≡ true → position_or_len is_space_character (spec ++ 32 ∷ name) ≡ length spec
 space_at [] name h = refl
 space_at (b ∷ spec) name h =
     let both = and_parts (is_other b) (list_all is_other spec) h in
-    let n : ℕ = position_or_len is_space (spec ++ 32 ∷ name) in
+    let n : ℕ = position_or_len is_space_character (spec ++ 32 ∷ name) in
     cond-true (is_other b) (1 + n) 0 both.0 ∙ ap (λ (m : ℕ). 1 + m) (space_at spec name both.1) ∙ omega arith
 
 front_there : (spec name : List ℕ) → take (length spec) (spec ++ 32 ∷ name) ≡ spec
@@ -100,41 +100,41 @@ back_there : (spec name : List ℕ) → drop (suc (length spec)) (spec ++ 32 ∷
 back_there [] name = refl
 back_there (b ∷ spec) name = back_there spec name
 
-set_back : (spec name : List ℕ) → may_be_set_spec spec ≡ true → has_named_set (before_first is_space (spec ++ 32 ∷ name), after_first is_space (spec ++ 32 ∷ name)) ≡ has_named_set (spec, name)
+set_back : (spec name : List ℕ) → may_be_set_spec spec ≡ true → has_named_set (before_first is_space_character (spec ++ 32 ∷ name), after_first is_space_character (spec ++ 32 ∷ name)) ≡ has_named_set (spec, name)
 set_back spec name h =
     let text : List ℕ = spec ++ 32 ∷ name in
     let at = space_at spec name (no_space spec h) in
-    let front : before_first is_space text ≡ spec = ap (λ (k : ℕ). take k text) at ∙ front_there spec name in
-    let back : after_first is_space text ≡ name = ap (λ (k : ℕ). drop (k + 1) text) at ∙ ap (λ (k : ℕ). drop k text) (add-one (length spec)) ∙ back_there spec name in
+    let front : before_first is_space_character text ≡ spec = ap (λ (k : ℕ). take k text) at ∙ front_there spec name in
+    let back : after_first is_space_character text ≡ name = ap (λ (k : ℕ). drop (k + 1) text) at ∙ ap (λ (k : ℕ). drop k text) (add-one (length spec)) ∙ back_there spec name in
     ap₂ (λ (s n : List ℕ). has_named_set (s, n)) front back
 
 -- ---- a part is read back
 
-same_moment : (clock : ℤ) (part : Part) → int_eq (moment_of (moment_of clock part) part) (moment_of clock part) ≡ true
-same_moment clock (begins at next) = (Decides-int_eq at at).1 refl
+same_moment : (clock : ℤ) (part : SavedPartState) → int_eq (part_moment_of (part_moment_of clock part) part) (part_moment_of clock part) ≡ true
+same_moment clock (has_clock at next) = (Decides-int_eq at at).1 refl
 same_moment clock (has_named_set set) = (Decides-int_eq clock clock).1 refl
 same_moment clock (has_item item) = (Decides-int_eq item.stamp item.stamp).1 refl
 
-spelled_is : (clock : ℤ) (part from : Part) → from ≡ part → if_spelled (moment_of clock part) (bytes_of part) from ≡ Some part
+spelled_is : (clock : ℤ) (part from : SavedPartState) → from ≡ part → if_spelled (part_moment_of clock part) (part_bytes_of part) from ≡ Some part
 spelled_is clock part from same =
-    ap (if_spelled (moment_of clock part) (bytes_of part)) same
-    ∙ cond-true (has_spelling (moment_of clock part) (bytes_of part) part) (Some part) None
-    (and_from (bytes_eq (bytes_of part) (bytes_of part)) (int_eq (moment_of (moment_of clock part) part) (moment_of clock part)) (bytes_same (bytes_of part)) (same_moment clock part))
+    ap (if_spelled (part_moment_of clock part) (part_bytes_of part)) same
+    ∙ cond-true (has_spelling (part_moment_of clock part) (part_bytes_of part) part) (Some part) None
+    (and_from (bytes_eq (part_bytes_of part) (part_bytes_of part)) (int_eq (part_moment_of (part_moment_of clock part) part) (part_moment_of clock part)) (bytes_same (part_bytes_of part)) (same_moment clock part))
 
-pub read_back : (name : List ℕ) (clock : ℤ) (part : Part) → CanBeRead part → part_in (spelled_part name clock part) ≡ Some part
-read_back name clock (begins at next) small =
-    spelled_is clock (begins at next) (begins at (digits_value 10 (decimal next))) (ap (begins at) (decimal_is_IsNumeral next small).1)
+pub read_back : (name : List ℕ) (clock : ℤ) (part : SavedPartState) → CanBeRead part → part_in (spelled_part name clock part) ≡ Some part
+read_back name clock (has_clock at next) small =
+    spelled_is clock (has_clock at next) (has_clock at (digits_value 10 (decimal next))) (ap (has_clock at) (decimal_is_IsNumeral next small).1)
 read_back name clock (has_named_set set) spec =
-    spelled_is clock (has_named_set set) (has_named_set (before_first is_space (set.0 ++ 32 ∷ set.1), after_first is_space (set.0 ++ 32 ∷ set.1))) (set_back set.0 set.1 spec)
+    spelled_is clock (has_named_set set) (has_named_set (before_first is_space_character (set.0 ++ 32 ∷ set.1), after_first is_space_character (set.0 ++ 32 ∷ set.1))) (set_back set.0 set.1 spec)
 read_back name clock (has_item item) spells = spelled_is clock (has_item item) (has_item (first_item (encoded item))) (ap has_item (item_back (encoded item) item spells))
 
 -- the parts of something that is spelled so
-pub read_as : (kind : PartKind) (moment : ℤ) (name bytes : List ℕ) (part : Part) → kind ≡ kind_of part → moment ≡ moment_of moment part → bytes ≡ bytes_of part → CanBeRead part
+pub read_as : (kind : PartKind) (moment : ℤ) (name bytes : List ℕ) (part : SavedPartState) → kind ≡ part_kind_of part → moment ≡ part_moment_of moment part → bytes ≡ part_bytes_of part → CanBeRead part
     → part_in (record { kind = kind; moment = moment; name = name; bytes = bytes }) ≡ Some part
 read_as kind moment name bytes part of_kind at spelled readable =
     ap (λ (k : PartKind). part_in (record { kind = k; moment = moment; name = name; bytes = bytes })) of_kind
-    ∙ ap (λ (m : ℤ). part_in (record { kind = kind_of part; moment = m; name = name; bytes = bytes })) at
-    ∙ ap (λ (b : List ℕ). part_in (record { kind = kind_of part; moment = moment_of moment part; name = name; bytes = b })) spelled
+    ∙ ap (λ (m : ℤ). part_in (record { kind = part_kind_of part; moment = m; name = name; bytes = bytes })) at
+    ∙ ap (λ (b : List ℕ). part_in (record { kind = part_kind_of part; moment = part_moment_of moment part; name = name; bytes = b })) spelled
     ∙ read_back name moment part readable
 
 -- ---- what a sink takes
@@ -149,18 +149,18 @@ all_append : {A : Type 0} (P : A → Type 0) (xs ys : List A) → AllByRecursion
 all_append P [] ys one other = other
 all_append P (x ∷ xs) ys one other = (one.0, all_append P xs ys one.1 other)
 
-spelled_append : (name : List ℕ) (clock : ℤ) (ps qs : List Part) → map (spelled_part name clock) (ps ++ qs) ≡ map (spelled_part name clock) ps ++ map (spelled_part name clock) qs
+spelled_append : (name : List ℕ) (clock : ℤ) (ps qs : List SavedPartState) → map (spelled_part name clock) (ps ++ qs) ≡ map (spelled_part name clock) ps ++ map (spelled_part name clock) qs
 spelled_append name clock [] qs = refl
 spelled_append name clock (p ∷ ps) qs = ap (λ (rs : List PartState). spelled_part name clock p ∷ rs) (spelled_append name clock ps qs)
 
 pub parts_none : {S : Type 0} (has : S → List PartState → Type 0) (name : List ℕ) (clock : ℤ) (s : S) → TakesParts has name clock [] s s
 parts_none has name clock s = record { taken = takes_none has s; readable = tt }
 
-pub parts_one : {S : Type 0} (has : S → List PartState → Type 0) (name : List ℕ) (clock : ℤ) (p : Part) (part : PartState) (a b : S) → part ≡ spelled_part name clock p → CanBeRead p → Takes has (part ∷ []) a b
+pub parts_one : {S : Type 0} (has : S → List PartState → Type 0) (name : List ℕ) (clock : ℤ) (p : SavedPartState) (part : PartState) (a b : S) → part ≡ spelled_part name clock p → CanBeRead p → Takes has (part ∷ []) a b
     → TakesParts has name clock (p ∷ []) a b
 parts_one has name clock p part a b is readable taken = record { taken = subst (λ (q : PartState). Takes has (q ∷ []) a b) is taken; readable = (readable, tt) }
 
-pub parts_then : {S : Type 0} (has : S → List PartState → Type 0) (name : List ℕ) (clock : ℤ) (ps qs : List Part) (a b c : S) → TakesParts has name clock ps a b → TakesParts has name clock qs b c
+pub parts_then : {S : Type 0} (has : S → List PartState → Type 0) (name : List ℕ) (clock : ℤ) (ps qs : List SavedPartState) (a b c : S) → TakesParts has name clock ps a b → TakesParts has name clock qs b c
     → TakesParts has name clock (ps ++ qs) a c
 parts_then has name clock ps qs a b c one other = record {
   taken = subst (λ (rs : List PartState). Takes has rs a c) (sym (spelled_append name clock ps qs)) (takes_then has (map (spelled_part name clock) ps) (map (spelled_part name clock) qs) a b c one.taken other.taken);
@@ -168,7 +168,7 @@ parts_then has name clock ps qs a b c one other = record {
 }
 
 -- all parts of a repository, where those of its items could be read
-pub parts_all : {S E : Type 0} (has : S → List PartState → Type 0) (name : List ℕ) (clock : ℤ) (p : Part) (ps qs : List Part) (Honest : Type 0) (result : Result (Unit {0}) E) (a b c d : S) → TakesParts has name clock (p ∷ []) a b
+pub parts_all : {S E : Type 0} (has : S → List PartState → Type 0) (name : List ℕ) (clock : ℤ) (p : SavedPartState) (ps qs : List SavedPartState) (Honest : Type 0) (result : Result (Unit {0}) E) (a b c d : S) → TakesParts has name clock (p ∷ []) a b
     → TakesParts has name clock ps b c → OnOk result (Honest → TakesParts has name clock qs c d) → OnOk result (Honest → TakesParts has name clock (p ∷ (ps ++ qs)) a d)
 parts_all has name clock p ps qs Honest (Ok done) a b c d one sets items =
     λ honest. parts_then has name clock (p ∷ []) (ps ++ qs) a b d one (parts_then has name clock ps qs b c d sets (items honest))
@@ -191,13 +191,13 @@ all_then has raise front last a b c one other = record {
 }
 
 -- of one repository more
-pub all_more : {S : Type 0} (has : S → List PartState → Type 0) (raise : ℕ) (repos : List NamedRepo) (lists same : Lists) (i : ℕ) (one : NamedRepo) (a b c : S) → i < length repos → one ≡ get_or repos i one → same ≡ lists
+pub all_more : {S : Type 0} (has : S → List PartState → Type 0) (raise : ℕ) (repos : List NamedRepo) (lists same : VersionLists) (i : ℕ) (one : NamedRepo) (a b c : S) → i < length repos → one ≡ get_or repos i one → same ≡ lists
     → TakesAll has raise (repositories_of (take i repos) lists) a b → TakesParts has one.name one.repo.clock (parts_of (ended raise (state_of one.repo same))) b c
     → TakesAll has raise (repositories_of (take (i + 1) repos) lists) a c
 all_more has raise repos lists same i one a b c within is as_before front last =
     let f : NamedRepo → Repository = repository_of lists in
     let more : map f (take i repos) ++ f one ∷ [] ≡ map f (take (i + 1) repos) = ap (λ (y : NamedRepo). map f (take i repos) ++ f y ∷ []) is ∙ sym (map_more f repos i one within) in
-    let parts = subst (λ (l : Lists). TakesParts has one.name one.repo.clock (parts_of (ended raise (state_of one.repo l))) b c) as_before last in
+    let parts = subst (λ (l : VersionLists). TakesParts has one.name one.repo.clock (parts_of (ended raise (state_of one.repo l))) b c) as_before last in
     subst (λ (rs : List Repository). TakesAll has raise rs a c) more (all_then has raise (map f (take i repos)) (f one) a b c front parts)
 
 -- ---- what parts make of one repository
@@ -226,7 +226,7 @@ each_alone rs (p ∷ ps) = each_alone (restored_in rs p) ps ∙ map_both p ps rs
 abbrev with_state : Repository → RepoState → Repository
 with_state r state = record r { state = state }
 
-own_parts : (r : Repository) (state : RepoState) (clock : ℤ) (ps : List Part) → AllByRecursion CanBeRead ps
+own_parts : (r : Repository) (state : RepoState) (clock : ℤ) (ps : List SavedPartState) → AllByRecursion CanBeRead ps
     → restored_one (record r { state = state }) (map (spelled_part r.name clock) ps) ≡ record r { state = with_parts state ps }
 own_parts r state clock [] readable = refl
 own_parts r state clock (p ∷ ps) readable =
@@ -234,11 +234,11 @@ own_parts r state clock (p ∷ ps) readable =
     let part : PartState = spelled_part r.name clock p in
     let step : restored_at part now ≡ record r { state = with_part state p } =
     cond-true (bytes_eq r.name r.name) (record r { state = with_read state (part_in part) }) now (bytes_same r.name)
-    ∙ ap (λ (read : Option Part). record r { state = with_read state read }) (read_back r.name clock p readable.0) in
+    ∙ ap (λ (read : Option SavedPartState). record r { state = with_read state read }) (read_back r.name clock p readable.0) in
     ap (λ (x : Repository). restored_one x (map (spelled_part r.name clock) ps)) step ∙ own_parts r (with_part state p) clock ps readable.1
 
 -- those of another one
-other_parts : (r : Repository) (name : List ℕ) (clock : ℤ) (ps : List Part) → bytes_eq r.name name ≡ false → restored_one r (map (spelled_part name clock) ps) ≡ r
+other_parts : (r : Repository) (name : List ℕ) (clock : ℤ) (ps : List SavedPartState) → bytes_eq r.name name ≡ false → restored_one r (map (spelled_part name clock) ps) ≡ r
 other_parts r name clock [] apart = refl
 other_parts r name clock (p ∷ ps) apart =
     let part : PartState = spelled_part name clock p in
@@ -286,7 +286,7 @@ all_back raise (x ∷ rs) apart back =
 
 -- ---- repositories whose holdings are kept
 
-each_back : (raise : ℕ) (repos : List NamedRepo) (lists : Lists) → AllHeld repos lists
+each_back : (raise : ℕ) (repos : List NamedRepo) (lists : VersionLists) → AllHeld repos lists
     → AllByRecursion (λ (r : Repository). AllByRecursion CanBeRead (parts_of (ended raise r.state))) (repositories_of repos lists) → AllByRecursion (ComesBack raise) (repositories_of repos lists)
 each_back raise [] lists held readable = tt
 each_back raise (x ∷ repos) lists held readable =
@@ -295,7 +295,7 @@ each_back raise (x ∷ repos) lists held readable =
       each_back raise repos lists held.1 readable.1,
     )
 
-names_are : (repos : List NamedRepo) (lists : Lists) → names (repositories_of repos lists) ≡ repo_names repos
+names_are : (repos : List NamedRepo) (lists : VersionLists) → names (repositories_of repos lists) ≡ repo_names repos
 names_are [] lists = refl
 names_are (x ∷ repos) lists = ap (λ (ns : List (List ℕ)). x.name ∷ ns) (names_are repos lists)
 
@@ -303,7 +303,7 @@ map_emptied : (rs : List Repository) (ps : List PartState) → map (λ (r : Repo
 map_emptied [] ps = refl
 map_emptied (r ∷ rs) ps = ap (λ (others : List Repository). restored_one (emptied_at r) ps ∷ others) (map_emptied rs ps)
 
-pub whole_back : (raise : ℕ) (repos : List NamedRepo) (lists : Lists) → has_repeat (repo_names repos) ≡ false → AllHeld repos lists
+pub whole_back : (raise : ℕ) (repos : List NamedRepo) (lists : VersionLists) → has_repeat (repo_names repos) ≡ false → AllHeld repos lists
     → AllByRecursion (λ (r : Repository). AllByRecursion CanBeRead (parts_of (ended raise r.state))) (repositories_of repos lists)
     → restored_all restored_in (emptied_in (repositories_of repos lists)) (parts_in (ended_in raise (repositories_of repos lists))) ≡ ended_in raise (repositories_of repos lists)
 whole_back raise repos lists apart held readable =

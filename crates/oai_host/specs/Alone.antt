@@ -5,7 +5,7 @@ use Rattle.std.specs.List.{zip}
 use Rattle.oai_deposit.specs.Lines.{line_of}
 use Rattle.oai_item.specs.declared.changes.Change.{Change}
 use Rattle.oai_item.specs.declared.refusals.LineRefusal.{LineRefusal}
-use Rattle.oai_settings.specs.Config.{Config}
+use Rattle.oai_settings.specs.Config.{RepositoryConfig}
 use Rattle.oai_repo.specs.Machine.{Output, bytes, line, query, step, wait}
 use Rattle.oai_repo.specs.State.{RepoState}
 use Rattle.oai_host.specs.Answers.{answer_of}
@@ -23,14 +23,14 @@ with_end (bytes text) = text ++ 10 ∷ []
 with_end (wait seconds) = []
 
 -- one line, as it was parsed, at that moment: its answer, and the state afterwards
-abbrev pub after_read : Config → ℤ → RepoState → Result Change LineRefusal → List ℕ × RepoState
+abbrev pub after_read : RepositoryConfig → ℤ → RepoState → Result Change LineRefusal → List ℕ × RepoState
 after_read config moment state read = let done = step config state moment (line read) in (with_end done.0, done.1)
 
-abbrev pub after_line : Config → ℤ → RepoState → List ℕ → List ℕ × RepoState
+abbrev pub after_line : RepositoryConfig → ℤ → RepoState → List ℕ → List ℕ × RepoState
 after_line config moment state text = after_read config moment state (line_of text)
 
 -- lines, one after the other, at one moment
-abbrev pub after_lines : Config → ℤ → RepoState → List (List ℕ) → List ℕ × RepoState
+abbrev pub after_lines : RepositoryConfig → ℤ → RepoState → List (List ℕ) → List ℕ × RepoState
 after_lines config moment state [] = ([], state)
 after_lines config moment state (text ∷ lines) =
     let first = after_line config moment state text in
@@ -38,17 +38,17 @@ after_lines config moment state (text ∷ lines) =
     (first.0 ++ others.0, others.1)
 
 -- what is asked of the repository is performed: a request is one step, a deposit is its lines
-abbrev pub done_alone : Config → RepoState → ℤ → Task → Answer × RepoState
+abbrev pub done_alone : RepositoryConfig → RepoState → ℤ → Task → Answer × RepoState
 done_alone config state moment (refusing status) = (answered status, state)
 done_alone config state moment (asking arguments) = let done = step config state moment (query arguments) in (answer_of done.0, done.1)
 done_alone config state moment (depositing lines) = let done = after_lines config moment state lines in (answered_with done.0, done.1)
 
 -- an exchange: its answer, and the state afterwards
-abbrev pub exchanged_alone : Config → RepoState → Call → Answer × RepoState
+abbrev pub exchanged_alone : RepositoryConfig → RepoState → Call → Answer × RepoState
 exchanged_alone config state call = done_alone config state call.moment (task_of call)
 
 -- the answers to exchanges, one after the other
-abbrev pub answers_alone : Config → RepoState → List Call → List Answer
+abbrev pub answers_alone : RepositoryConfig → RepoState → List Call → List Answer
 answers_alone config state [] = []
 answers_alone config state (call ∷ calls) = let done = exchanged_alone config state call in done.0 ∷ answers_alone config done.1 calls
 

@@ -4,7 +4,7 @@ use Rattle.std.specs.List.{AllByRecursion, AllZip, list_all}
 use Rattle.oai_catalogue.specs.Store.{IsHonest}
 use Rattle.oai_device.specs.Device.{CountsFailures}
 use Rattle.oai_item.specs.declared.faults.Fault.TheVariants.{Device}
-use Rattle.oai_settings.specs.Config.{Config}
+use Rattle.oai_settings.specs.Config.{RepositoryConfig}
 use Rattle.oai_repo.specs.State.{RepoState, empty_state}
 use Rattle.oai_http.specs.Answers.{answered}
 use Rattle.oai_config.specs.Configs.{NamedConfig}
@@ -20,7 +20,7 @@ use Rattle.oai_host.specs.Tasks.{task_of}
 -- a repository of a host: its name, its configuration and its state
 pub record Repository : Type 0 where
   pub name : List ℕ
-  pub config : Config
+  pub config : RepositoryConfig
   pub state : RepoState
 
 -- in its initial state
@@ -87,7 +87,7 @@ pub record IsLater (old new : StoreState) : Type 0 where
   pub count : old.failures ≤ new.failures
 
 -- exchanges of one repository, each performed
-abbrev pub IsRun : Config → List Call → List Answer → RepoState → StoreState → RepoState → StoreState → Type 0
+abbrev pub IsRun : RepositoryConfig → List Call → List Answer → RepoState → StoreState → RepoState → StoreState → Type 0
 IsRun config [] [] before old after new = (after ≡ before) × IsLater old new
 IsRun config [] (answer ∷ answers) before old after new = ⊥
 IsRun config (call ∷ calls) [] before old after new = ⊥

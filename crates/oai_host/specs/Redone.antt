@@ -6,17 +6,17 @@ use Rattle.oai_item.specs.declared.faults.Fault.{Fault}
 use Rattle.oai_item.specs.declared.faults.Fault.TheVariants.{Damaged, Device}
 use Rattle.oai_catalogue.specs.Store.{IsHonest}
 use Rattle.oai_device.specs.Device.{CountsFailures}
-use Rattle.oai_settings.specs.Config.{Config}
+use Rattle.oai_settings.specs.Config.{RepositoryConfig}
 use Rattle.oai_repo.specs.State.{RepoState}
 use Rattle.oai_repo.specs.declared.responses.Replay.{Replay}
 use Rattle.oai_repo.specs.declared.responses.Replay.TheVariants.{Nothing, Tick, Request}
 use Rattle.oai_http.specs.Exchanges.{call_of}
-use Rattle.oai_http.specs.Redone.{call_again, is_short_name, left_again, own_call}
+use Rattle.oai_replay.specs.Redone.{call_again, is_short_name, left_again, own_call}
 use Rattle.oai_http.specs.Targets.{leads_to_repository}
 use Rattle.oai_http.specs.declared.exchanges.Answer.{Answer}
 use Rattle.oai_http.specs.declared.exchanges.Call.{Call}
 use Rattle.oai_http.specs.declared.exchanges.Exchange.{Exchange}
-use Rattle.oai_http.specs.declared.handlers.Performed.{Performed}
+use Rattle.oai_replay.specs.declared.replays.Performed.{Performed}
 use Rattle.oai_http.specs.declared.targets.Endpoint.{Endpoint}
 use Rattle.oai_http.specs.declared.targets.Endpoint.TheVariants.{Deposits, Requests}
 use Rattle.oai_host.specs.Alone.{done_alone, exchanged_alone}
@@ -34,8 +34,8 @@ redone_at call repository =
     if leads_to_repository repository.name call.target then record repository { state = (exchanged_alone repository.config repository.state call).1 }
     else repository
 
-abbrev pub redone_all : List Repository → Call → List Repository
-redone_all repositories call = map (redone_at call) repositories
+abbrev pub redone_repositories : List Repository → Call → List Repository
+redone_repositories repositories call = map (redone_at call) repositories
 
 -- its own repository answers what it alone would answer; a call that is none's is refused
 abbrev pub reply_all : List Repository → Call → Answer
@@ -53,7 +53,7 @@ task_again Deposits lines = depositing (lines_in lines)
 
 -- the state after is what the replay makes of the state before; or nothing has to be replayed, since it is the state
 -- before
-abbrev pub IsLeftBy : Config → ℤ → Endpoint → Option (List ℕ) → RepoState → RepoState → Type 0
+abbrev pub IsLeftBy : RepositoryConfig → ℤ → Endpoint → Option (List ℕ) → RepoState → RepoState → Type 0
 IsLeftBy config moment endpoint None before after = after ≡ before
 IsLeftBy config moment endpoint (Some bytes) before after = after ≡ (done_alone config before moment (task_again endpoint bytes)).1
 
@@ -70,7 +70,7 @@ AreNoLonger bytes others = IfSome others (λ (its : List ℕ). length its ≤ le
 -- of a deposit with that answer, these lines were performed and no other; or none was
 abbrev pub LeavesLines : List ℕ → Answer → Option (List ℕ) → Type 0
 LeavesLines body answer lines =
-    (config : Config) (moment : ℤ) (before after : RepoState) (old new : StoreState)
+    (config : RepositoryConfig) (moment : ℤ) (before after : RepoState) (old new : StoreState)
     → IsTrue old.honest
     → IsPerformed config moment (depositing (lines_in body)) answer before old after new
     → IsLeftBy config moment Deposits lines before after
@@ -84,7 +84,7 @@ IsNoLonger exchange bytes = IfSome bytes (λ (its : List ℕ). length its ≤ ma
 -- the repository with that name was left so, and the others unchanged
 abbrev pub AreLeftBy : ℤ → Endpoint → List ℕ → Option (List ℕ) → List Repository → List Repository → Type 0
 AreLeftBy moment endpoint name None before after = after ≡ before
-AreLeftBy moment endpoint name (Some bytes) before after = after ≡ redone_all before (own_call moment endpoint name bytes)
+AreLeftBy moment endpoint name (Some bytes) before after = after ≡ redone_repositories before (own_call moment endpoint name bytes)
 
 -- these bytes were performed at the repository with that name; or nothing was
 abbrev pub IsPerformedAt : Endpoint → List ℕ → Option (List ℕ) → Option Performed → Type 0
@@ -94,7 +94,7 @@ IsPerformedAt endpoint name bytes performed =
 -- an exchange has that answer, and this is what of it has to be replayed
 pub record IsRecorded (moment : ℤ) (exchange : Exchange) (answer : Answer) (performed : Option Performed) (before after : HostState) : Type 0 where
   pub exchanged : IsExchanged (call_of moment exchange) answer before after
-  pub left : IsTrue before.honest → after.repositories ≡ left_again redone_all before.repositories moment performed
+  pub left : IsTrue before.honest → after.repositories ≡ left_again redone_repositories before.repositories moment performed
   pub name : IfSome performed (λ (p : Performed). IsTrue (is_short_name p.name.now))
   pub size : IfSome performed (λ (p : Performed). length p.bytes.now ≤ max (length exchange.target.now) (length exchange.body.now))
 

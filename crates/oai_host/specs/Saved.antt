@@ -7,60 +7,60 @@ use Rattle.std.specs.Str.{bytes_eq}
 use Rattle.std.specs.Str.Parse.{digits_value}
 use Rattle.oai_item.specs.Decoding.{first_item}
 use Rattle.oai_item.specs.Encoding.{encoded}
-use Rattle.oai_repo.specs.Saved.{Part, begins, ended, has_item, has_named_set, parts_of, with_part}
+use Rattle.oai_repo.specs.Saved.{SavedPartState, ended, has_clock, has_item, has_named_set, parts_of, with_part}
 use Rattle.oai_repo.specs.State.{RepoState, empty_state}
-use Rattle.oai_http.specs.Parts.{PartState}
-use Rattle.oai_http.specs.declared.parts.PartKind.{PartKind}
-use Rattle.oai_http.specs.declared.parts.PartKind.TheVariants.{Begin, Item, Set}
+use Rattle.oai_replay.specs.Parts.{PartState}
+use Rattle.oai_replay.specs.declared.parts.PartKind.{PartKind}
+use Rattle.oai_replay.specs.declared.parts.PartKind.TheVariants.{Begin, Item, Set}
 use Rattle.oai_host.specs.Hosts.{Repository}
 
 -- ---- a part
 
-abbrev pub kind_of : Part → PartKind
-kind_of (begins clock next) = Begin
-kind_of (has_named_set set) = Set
-kind_of (has_item item) = Item
+abbrev pub part_kind_of : SavedPartState → PartKind
+part_kind_of (has_clock clock next) = Begin
+part_kind_of (has_named_set set) = Set
+part_kind_of (has_item item) = Item
 
 -- the datestamp of an item, or else the clock of the repository
-abbrev pub moment_of : ℤ → Part → ℤ
-moment_of clock (begins at next) = at
-moment_of clock (has_named_set set) = clock
-moment_of clock (has_item item) = item.stamp
+abbrev pub part_moment_of : ℤ → SavedPartState → ℤ
+part_moment_of clock (has_clock at next) = at
+part_moment_of clock (has_named_set set) = clock
+part_moment_of clock (has_item item) = item.stamp
 
 -- the number of the next list in decimal digits; a setSpec, a space and its setName; or an item as it is stored
-abbrev pub bytes_of : Part → List ℕ
-bytes_of (begins clock next) = decimal next
-bytes_of (has_named_set set) = set.0 ++ 32 ∷ set.1
-bytes_of (has_item item) = encoded item
+abbrev pub part_bytes_of : SavedPartState → List ℕ
+part_bytes_of (has_clock clock next) = decimal next
+part_bytes_of (has_named_set set) = set.0 ++ 32 ∷ set.1
+part_bytes_of (has_item item) = encoded item
 
 -- a part of a repository of that name and clock
-abbrev pub spelled_part : List ℕ → ℤ → Part → PartState
-spelled_part name clock part = record { kind = kind_of part; moment = moment_of clock part; name = name; bytes = bytes_of part }
+abbrev pub spelled_part : List ℕ → ℤ → SavedPartState → PartState
+spelled_part name clock part = record { kind = part_kind_of part; moment = part_moment_of clock part; name = name; bytes = part_bytes_of part }
 
-abbrev pub is_space : ℕ → Bool
-is_space b = b == 32
+abbrev pub is_space_character : ℕ → Bool
+is_space_character b = b == 32
 
 -- the part with that kind, moment and bytes
-abbrev pub part_from : PartKind → ℤ → List ℕ → Part
-part_from Begin moment bytes = begins moment (digits_value 10 bytes)
-part_from Set moment bytes = has_named_set (before_first is_space bytes, after_first is_space bytes)
-part_from Item moment bytes = has_item (first_item bytes)
+abbrev pub saved_part_from : PartKind → ℤ → List ℕ → SavedPartState
+saved_part_from Begin moment bytes = has_clock moment (digits_value 10 bytes)
+saved_part_from Set moment bytes = has_named_set (before_first is_space_character bytes, after_first is_space_character bytes)
+saved_part_from Item moment bytes = has_item (first_item bytes)
 
 -- whether that part has them
-abbrev pub has_spelling : ℤ → List ℕ → Part → Bool
-has_spelling moment bytes part = bytes_eq (bytes_of part) bytes && int_eq (moment_of moment part) moment
+abbrev pub has_spelling : ℤ → List ℕ → SavedPartState → Bool
+has_spelling moment bytes part = bytes_eq (part_bytes_of part) bytes && int_eq (part_moment_of moment part) moment
 
-abbrev pub if_spelled : ℤ → List ℕ → Part → Option Part
+abbrev pub if_spelled : ℤ → List ℕ → SavedPartState → Option SavedPartState
 if_spelled moment bytes part = if has_spelling moment bytes part then Some part else None
 
 -- the part that is encoded so, if there is one
-abbrev pub part_in : PartState → Option Part
-part_in part = if_spelled part.moment part.bytes (part_from part.kind part.moment part.bytes)
+abbrev pub part_in : PartState → Option SavedPartState
+part_in part = if_spelled part.moment part.bytes (saved_part_from part.kind part.moment part.bytes)
 
 -- ---- repositories
 
 -- a part that was decoded is restored; nothing if none was
-abbrev pub with_read : RepoState → Option Part → RepoState
+abbrev pub with_read : RepoState → Option SavedPartState → RepoState
 with_read state None = state
 with_read state (Some part) = with_part state part
 

@@ -7,8 +7,8 @@ use Rattle.oai_item.specs.Encoding.{Spells, encoded}
 use Rattle.oai_item.specs.declared.faults.Fault.{Fault}
 use Rattle.oai_catalogue.specs.declared.versions.Versions.{Ghosts}
 use Rattle.oai_repo.specs.Fields.{Keeps, RepoFields, state_of}
-use Rattle.oai_repo.specs.Saved.{Part, begins, ended, has_item, has_named_set, parts_of}
-use Rattle.oai_http.specs.Parts.{PartState}
+use Rattle.oai_repo.specs.Saved.{SavedPartState, ended, has_clock, has_item, has_named_set, parts_of}
+use Rattle.oai_replay.specs.Parts.{PartState}
 use Rattle.oai_host.specs.Hosts.{Repository}
 use Rattle.oai_host.specs.Saved.{ended_in, part_in, parts_in, spelled_part, with_read}
 
@@ -21,8 +21,8 @@ pub record RestoresIn {V : Type 0} (g : Ghosts V) (part : PartState) (result : R
   pub honesty : g.honest after ≡ g.honest before
 
 -- the part can be decoded again
-abbrev pub CanBeRead : Part → Type 0
-CanBeRead (begins clock next) = next < 2 ^ 64
+abbrev pub CanBeRead : SavedPartState → Type 0
+CanBeRead (has_clock clock next) = next < 2 ^ 64
 CanBeRead (has_named_set set) = may_be_set_spec set.0 ≡ true
 CanBeRead (has_item item) = Spells (encoded item) item
 
@@ -31,7 +31,7 @@ abbrev pub Takes : {S : Type 0} → (S → List PartState → Type 0) → List P
 Takes has parts old new = (before : List PartState) → has old before → has new (before ++ parts)
 
 -- a sink took parts of a repository with that name and clock, and these can be decoded again
-pub record TakesParts {S : Type 0} (has : S → List PartState → Type 0) (name : List ℕ) (clock : ℤ) (parts : List Part) (old new : S) : Type 0 where
+pub record TakesParts {S : Type 0} (has : S → List PartState → Type 0) (name : List ℕ) (clock : ℤ) (parts : List SavedPartState) (old new : S) : Type 0 where
   pub taken : Takes has (map (spelled_part name clock) parts) old new
   pub readable : AllByRecursion CanBeRead parts
 

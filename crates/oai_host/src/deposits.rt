@@ -39,7 +39,7 @@ pub(crate) fn perform_lines<V: Versions>(
     ensures { PerformsIn V.Versions moment (depositing (lines_in body.now)) result repo.old store.old
         repo.new store.new }
 {
-    let mut lines = Lines::new(body);
+    let mut lines = DepositLines::new(body);
     let mut told = Vec::new(alloc);
     let mut done = 0;
     while let Some(text) = lines.next() {
@@ -139,11 +139,11 @@ fn put_line(text: &str, out: &mut Vec<u8>)
 /// Iterates over the lines of a deposit: its body is split at each line end, and a line of nothing but spaces, tabs and
 /// CR is skipped.
 #[derive(Drop)]
-pub(crate) struct Lines<'a> {
+pub(crate) struct DepositLines<'a> {
     rest: Option<&'a [u8]>,
 }
 
-impl<'a> Model for Lines<'a> {
+impl<'a> Model for DepositLines<'a> {
     ghost use Rattle.std.specs.Prelude.{ℕ, List};
     ghost use Rattle.std.specs.Option.{option_copied};
     ghost use Rattle.oai_host.specs.DepositLines.{lines_left};
@@ -153,13 +153,13 @@ impl<'a> Model for Lines<'a> {
     ghost view = { λ l. lines_left (option_copied l.rest) };
 }
 
-impl<'a> Lines<'a> {
+impl<'a> DepositLines<'a> {
     /// All lines of the body.
-    pub(crate) fn new(body: &'a [u8]) -> Lines<'a>
+    pub(crate) fn new(body: &'a [u8]) -> DepositLines<'a>
         ensures lines { result ≡ lines_in body.now }
         ensures few { length result ≤ length body.now + 1 }
     {
-        Lines { rest: Some(body) }
+        DepositLines { rest: Some(body) }
     }
 
     /// Takes the next line, if there is one.

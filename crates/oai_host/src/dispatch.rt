@@ -22,7 +22,7 @@ use std::alloc::Global;
 
 /// Performs what the exchange asks of the repository, by the endpoint of its path, and returns with the answer what of
 /// it has to be replayed.
-pub(crate) fn perform<'a, V: Versions>(
+pub(crate) fn perform_exchange<'a, V: Versions>(
     alloc: Global,
     repo: &mut Repo,
     store: &mut V,

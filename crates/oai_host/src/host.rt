@@ -8,7 +8,7 @@ ghost use Rattle.oai_host.specs.Redone.{IsPerformedAt, IsRecorded, IsRedone};
 ghost use Rattle.oai_host.specs.Saved.{emptied_in, ended_in, parts_in, restored_in};
 ghost use Rattle.oai_host.specs.Saving.{Takes};
 ghost use Rattle.oai_http.specs.Exchanges.{call_of};
-ghost use Rattle.oai_http.specs.Parts.{as_part, restored_all};
+ghost use Rattle.oai_replay.specs.Parts.{as_part, restored_all};
 ghost use Rattle.oai_http.specs.Targets as spec;
 ghost use Rattle.oai_http.specs.declared.statuses.Status.TheVariants as status;
 ghost use Rattle.oai_item.specs.declared.faults.Fault.TheVariants.{TooManyPages};
@@ -22,12 +22,10 @@ use crate::repositories::Repositories;
 use crate::routes::Routes;
 use oai_catalogue::Versions;
 use oai_config::Config;
-use oai_http::{
-    Answer, Call, Done, Endpoint, Exchange, Handler, Part, Performed, Replayed, SaveFault, Sink,
-    Status, is_rooted, path_of,
-};
+use oai_http::{Answer, Call, Endpoint, Exchange, Handler, Status, is_rooted, path_of};
 use oai_item::Fault;
 use oai_names::Sequence;
+use oai_replay::{Done, Part, Performed, Replayed, SaveFault, Sink};
 use std::alloc::{AllocError, Global};
 use std::marker::Model;
 
@@ -100,7 +98,7 @@ impl<V: Versions + Drop> Host<V> {
         let Done {
             answer,
             performed: _,
-        } = self.perform(moment, exchange);
+        } = self.exchange_recorded(moment, exchange);
         answer
     }
 
@@ -119,14 +117,14 @@ impl<V: Versions + Drop> Host<V> {
     }
 
     /// Performs an exchange as `exchange` does, and returns with the answer what of it has to be replayed.
-    fn perform<'a>(&mut self, moment: i64, exchange: &Exchange<'a>) -> Done<'a>
+    fn exchange_recorded<'a>(&mut self, moment: i64, exchange: &Exchange<'a>) -> Done<'a>
         ensures { IsRecorded moment exchange.now result.answer result.performed self.old self.new }
     {
         match find(&self.routes, &self.repositories, exchange.target) {
             Some((endpoint, place, name)) => {
                 let Recorded { answer, bytes } = self
                     .repositories
-                    .perform(&mut self.store, place, endpoint, moment, exchange);
+                    .exchange_at(&mut self.store, place, endpoint, moment, exchange);
                 let performed = performed_at(endpoint, name, bytes);
                 Done { answer, performed }
             }
@@ -267,7 +265,7 @@ impl<V: Versions + Drop> Replayed for Host<V> {
     ghost use Rattle.std.specs.Prelude.{List};
     ghost use Rattle.oai_host.specs.Hosts.{HostState, Repository};
     ghost use Rattle.oai_host.specs.Emptied.{emptied_redone, emptied_restored};
-    ghost use Rattle.oai_host.specs.Redone.{redone_all, reply_all};
+    ghost use Rattle.oai_host.specs.Redone.{redone_repositories, reply_all};
     ghost use Rattle.oai_host.specs.Saved.{emptied_in, ended_in, parts_in, restored_in};
 
     ghost Kept = { List Repository };
@@ -276,7 +274,7 @@ impl<V: Versions + Drop> Replayed for Host<V> {
 
     ghost is_honest = { λ host. host.honest };
 
-    ghost redone = { redone_all };
+    ghost redone = { redone_repositories };
 
     ghost reply = { reply_all };
 
@@ -292,8 +290,8 @@ impl<V: Versions + Drop> Replayed for Host<V> {
 
     ghost same_restored = { emptied_restored };
 
-    fn perform<'a>(&mut self, moment: i64, exchange: &Exchange<'a>) -> Done<'a> {
-        self.perform(moment, exchange)
+    fn exchange_recorded<'a>(&mut self, moment: i64, exchange: &Exchange<'a>) -> Done<'a> {
+        self.exchange_recorded(moment, exchange)
     }
 
     fn redo(&mut self, moment: i64, performed: &Performed<'_>) -> Result<(), Fault> {

@@ -7,7 +7,7 @@ ghost use Rattle.oai_http.specs.declared.exchanges.Answer.{Answer};
 ghost use Rattle.oai_http.specs.declared.exchanges.Call.{Call};
 ghost use Rattle.oai_http.specs.declared.statuses.Status.TheVariants.{InternalServerError};
 ghost use Rattle.oai_repo.specs.State.{RepoState};
-ghost use Rattle.oai_settings.specs.Config.{Config};
+ghost use Rattle.oai_settings.specs.Config.{RepositoryConfig};
 ghost use Rattle.std.specs.List.{AllByRecursion};
 ghost use Rattle.std.specs.Prelude.{IsTrue, List, filter, length, true, ◌+◌, ◌<◌, ◌≡◌, ◌≤◌};
 
@@ -19,7 +19,7 @@ pub fn failures_law()
     ensures exchanged { (calls : List Call) (answers : List Answer) (before after : HostState)
         → AreExchanged calls answers before after → after.failures < MAX_FAILURES
         → length (filter tells_of_device answers) + before.failures ≤ after.failures }
-    ensures run { (config : Config) (calls : List Call) (answers : List Answer) (before : RepoState)
+    ensures run { (config : RepositoryConfig) (calls : List Call) (answers : List Answer) (before : RepoState)
         (old : StoreState) (after : RepoState) (new : StoreState)
         → IsRun config calls answers before old after new → new.failures < MAX_FAILURES
         → length (filter tells_of_device answers) + old.failures ≤ new.failures }

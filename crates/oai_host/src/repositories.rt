@@ -11,8 +11,8 @@ ghost use Rattle.oai_host.specs.Redone.{AreLeftBy, AreRedone, IsNoLonger};
 ghost use Rattle.oai_host.specs.Saved.{restored_in};
 ghost use Rattle.oai_host.specs.Saving.{TakesAll};
 ghost use Rattle.oai_http.specs.Exchanges.{call_of};
-ghost use Rattle.oai_http.specs.Parts.{as_part};
-ghost use Rattle.oai_http.specs.Redone.{call_again};
+ghost use Rattle.oai_replay.specs.Parts.{as_part};
+ghost use Rattle.oai_replay.specs.Redone.{call_again};
 ghost use Rattle.oai_http.specs.Targets.{front_of, path_of};
 ghost use Rattle.oai_settings.specs.Config.{is_repository_name};
 ghost use Rattle.std.specs.BTreeMap.{IsUnchanged, get_by_text};
@@ -21,15 +21,16 @@ ghost use Rattle.std.specs.Option.{option_copied};
 ghost use Rattle.std.specs.Prelude.{IsTrue, List, OnErr, OnOk, Some, [], false, if◌then◌else◌, true, ℕ, ◌++◌, ◌∷◌, ◌≡◌};
 ghost use Rattle.std.specs.Str.{bytes_eq};
 
-use crate::dispatch::perform;
+use crate::dispatch::perform_exchange;
 use crate::records::{Recorded, redo};
 use crate::restores::restore;
 use crate::saves::save;
 use oai_catalogue::Versions;
 use oai_config::NamedConfig;
-use oai_http::{Endpoint, Exchange, Part, Performed, SaveFault, Sink};
+use oai_http::{Endpoint, Exchange};
 use oai_item::Fault;
 use oai_names::Text;
+use oai_replay::{Part, Performed, SaveFault, Sink};
 use oai_repo::Repo;
 use std::alloc::{AllocError, Global};
 use std::collections::BTreeMap;
@@ -131,7 +132,7 @@ impl Repositories {
 
     /// Performs an exchange of the repository at the position, at the moment, in seconds from 1970 on, and returns with
     /// the answer what of it has to be replayed.
-    pub(crate) fn perform<'a, V: Versions>(
+    pub(crate) fn exchange_at<'a, V: Versions>(
         &mut self,
         store: &mut V,
         place: usize,
@@ -155,7 +156,7 @@ impl Repositories {
         ensures honesty { IsHonest (failure_in result.answer) (V.honest store.old) (V.honest store.new) }
     {
         let repo = &mut self.repos[place].repo;
-        perform(self.alloc, repo, store, moment, endpoint, exchange)
+        perform_exchange(self.alloc, repo, store, moment, endpoint, exchange)
     }
 
     /// Replays, at the repository at the position and at the moment, in seconds from 1970 on, what was performed. The

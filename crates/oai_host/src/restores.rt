@@ -1,7 +1,7 @@
 //! A repository of a host, restored part by part.
 ghost use Rattle.oai_host.specs.Saving.{RestoresIn};
-ghost use Rattle.oai_http.specs.Parts.{as_part};
-ghost use Rattle.oai_http.specs.declared.parts.PartKind.TheVariants as kind;
+ghost use Rattle.oai_replay.specs.Parts.{as_part};
+ghost use Rattle.oai_replay.specs.declared.parts.PartKind.TheVariants as kind;
 ghost use Rattle.oai_item.specs.Encoding.{Spells};
 ghost use Rattle.oai_names.specs.Sets.{may_be_set_spec};
 ghost use Rattle.oai_repo.specs.Fields.{Owns};
@@ -9,9 +9,9 @@ ghost use Rattle.std.specs.Prelude.{IfOk, IfSome, decimal, true, ◌++◌, ◌�
 
 use itoa::Buffer;
 use oai_catalogue::Versions;
-use oai_http::{Part, PartKind};
 use oai_item::{DecodeFault, Fault, Item};
 use oai_names::{NameFault, SetSpec};
+use oai_replay::{Part, PartKind};
 use oai_repo::{Repo, SavedPart};
 use std::alloc::Global;
 

@@ -1,21 +1,22 @@
 //! A repository of a host, saved part by part.
 ghost use Rattle.oai_catalogue.specs.Calls.{OnlyReads};
 ghost use Rattle.oai_host.specs.Saving.{Takes, TakesParts};
-ghost use Rattle.oai_http.specs.Parts.{as_part};
+ghost use Rattle.oai_replay.specs.Parts.{as_part};
 ghost use Rattle.oai_item.specs.Encoding.{Spells, encoded};
 ghost use Rattle.oai_item.specs.Item.{ItemState};
 ghost use Rattle.oai_names.specs.Sets.{may_be_set_spec};
-ghost use Rattle.oai_repo.specs.Fields.{Owns, state_of, stored_items};
-ghost use Rattle.oai_repo.specs.Saved.{begins, ended, has_item, has_named_set, parts_of};
+ghost use Rattle.oai_holdings.specs.Index.{stored_items};
+ghost use Rattle.oai_repo.specs.Fields.{Owns, state_of};
+ghost use Rattle.oai_repo.specs.Saved.{ended, has_clock, has_item, has_named_set, parts_of};
 ghost use Rattle.std.specs.Option.{option_copied};
 ghost use Rattle.std.specs.Prelude.{IfOk, IsTrue, OnOk, Some, [], get_or, if◌then◌else◌, length, map, nat_lt, true, ℤ, ◌+◌, ◌++◌, ◌-◌, ◌<◌, ◌∷◌, ◌≡◌, ◌≤◌};
 
 use crate::repositories::NamedRepo;
 use itoa::Buffer;
 use oai_catalogue::Versions;
-use oai_http::{Part, PartKind, SaveFault, Sink};
 use oai_item::{Fault, Item};
 use oai_names::{Sequence, SetSpec, Text};
+use oai_replay::{Part, PartKind, SaveFault, Sink};
 use oai_repo::Repo;
 use std::alloc::{AllocError, Global};
 
@@ -50,7 +51,7 @@ fn save_beginning<S: Sink>(
     sink: &mut S,
 ) -> Result<(), SaveFault>
     ensures { OnOk result (TakesParts S.has name.now repo.now.clock
-        (begins repo.now.clock (repo.now.table.next + raise) ∷ []) sink.old sink.new) }
+        (has_clock repo.now.clock (repo.now.table.next + raise) ∷ []) sink.old sink.new) }
 {
     let Some(next) = repo.next_list().checked_add(u64::from(raise)) else {
         return Err(SaveFault::Numbers);

@@ -3,5 +3,3 @@ pub mod Exchanges
 pub mod Answers
 pub mod Bodies
 pub mod Targets
-pub mod Redone
-pub mod Parts

@@ -6,7 +6,6 @@ mod bodies;
 mod bytes;
 mod exchanges;
 mod handlers;
-mod parts;
 mod statuses;
 mod targets;
 mod texts;
@@ -14,8 +13,7 @@ mod texts;
 pub use bodies::{FORM, is_form};
 pub use bytes::{len_before, put};
 pub use exchanges::{Answer, Call, Exchange};
-pub use handlers::{Done, Handler, Performed, Replayed, SettleFault, Settled};
-pub use parts::{Part, PartKind, SaveFault, Sink, SinkFault};
+pub use handlers::{Handler, SettleFault, Settled};
 pub use statuses::Status;
 pub use targets::{
     DEPOSITS_FRONT, Endpoint, REQUESTS_FRONT, endpoint_of, is_rooted, named, path_law, path_of,

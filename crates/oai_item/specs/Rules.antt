@@ -9,8 +9,8 @@ use Rattle.oai_item.specs.declared.formats.Format.{Format}
 
 -- a character of an element's name after its first (XML 1.0, section 2.3, NameChar): of those in ASCII, all but the
 -- colon (Namespaces in XML 1.0, section 3, NCName), so a letter, a digit, `-`, `_` or `.`
-abbrev pub is_name_byte : ℕ → Bool
-is_name_byte b = is_ascii_alphanumeric b || is_one_of (codes "-_.") b
+abbrev pub is_element_name_byte : ℕ → Bool
+is_element_name_byte b = is_ascii_alphanumeric b || is_one_of (codes "-_.") b
 
 -- the first character (XML 1.0, section 2.3, NameStartChar): of those in ASCII, all but the colon (Namespaces in XML
 -- 1.0, section 3, NCName), so a letter or `_`
@@ -20,7 +20,7 @@ is_first_byte b = is_ascii_alphabetic b || b == 95
 -- an element's name (XML 1.0, section 2.3, Name): a first character, then any number of the others
 unfoldable pub is_element_name : List ℕ → Bool
 is_element_name [] = false
-is_element_name (b ∷ bytes) = is_first_byte b && list_all is_name_byte bytes
+is_element_name (b ∷ bytes) = is_first_byte b && list_all is_element_name_byte bytes
 
 -- an element's name of at most 64 bytes
 abbrev pub is_name : List ℕ → Bool
@@ -32,7 +32,7 @@ are_names format = is_name format.root && list_all is_name format.fields
 
 -- white space (XML 1.0, section 2.3, S): space, tab, LF or CR
 abbrev pub is_space : ℕ → Bool
-is_space b = b == 32 || b == 9 || b == 10 || b == 13
+is_space b = b == 32 || b == 9 || b == 13 || b == 10
 
 -- a text that may be used as a URI in a document: 1 to 512 bytes, of characters that a document may hold, without white
 -- space

@@ -3,12 +3,12 @@ use Rattle.std.proofs.Common.{◌≡◌, ◌⊎◌, ◌∙◌, inl, inr, ⊎_eli
 use Rattle.std.proofs.lemmas.Bool.{false≢true}
 use Rattle.std.proofs.lemmas.List.{drop-drop, drop_at}
 use Rattle.oai_journal.specs.Changes.{BeginsWithFrame, GoesOn, IsSearchTurn}
-use Rattle.oai_journal.specs.Files.{spelled}
+use Rattle.oai_journal.specs.Files.{spelled_frames}
 use Rattle.oai_journal.specs.Frames.{frame, next_digest}
 use Rattle.oai_journal.specs.Groups.{AreGrouped, digest_of_all, further, inside}
 use Rattle.oai_journal.specs.Records.{Entry, IsFit, is_first_kind}
 use Rattle.oai_journal.specs.Recoveries.{HasFrame, HasNoFrame, IsGateAt}
-use Rattle.oai_journal.specs.declared.changes.Turn.TheVariants.{Further, Done}
+use Rattle.oai_journal.specs.declared.changes.ChainProgress.TheVariants.{Further, Done}
 use Rattle.oai_journal.proofs.FileLemmas.{heads_same, tails_same}
 use Rattle.oai_journal.proofs.FrameLemmas.{frame_same}
 
@@ -17,7 +17,7 @@ abbrev Behind : ℕ → List ℕ → Type 0
 Behind next after = ((r : List ℕ) × (after ≡ 43 ∷ r) × BeginsWithFrame next r) ⊎ ((r : List ℕ) × (after ≡ 38 ∷ r) × GoesOn next r)
 
 -- the bytes behind the first frame of a group
-behind_first : (n : ℕ) (xs : List Entry) (behind after : List ℕ) → AreGrouped xs → after ≡ spelled n (further xs) ++ 43 ∷ behind → BeginsWithFrame (digest_of_all n xs) behind → Behind n after
+behind_first : (n : ℕ) (xs : List Entry) (behind after : List ℕ) → AreGrouped xs → after ≡ spelled_frames n (further xs) ++ 43 ∷ behind → BeginsWithFrame (digest_of_all n xs) behind → Behind n after
 behind_first n [] behind after are is next = inl (behind, is, next)
 behind_first n (y ∷ ys) behind after are is next =
     inr (inside n (y ∷ ys) ++ 43 ∷ behind, is, record { group = y ∷ ys; some = λ none. cc; are = are; behind = behind; is = refl; next = next })
@@ -28,8 +28,8 @@ none_goes before bytes none g = first g.group g.some g.are g.is
     first : (es : List Entry) → (es ≡ [] → ⊥) → AreGrouped es → bytes ≡ inside before es ++ 43 ∷ g.behind → ⊥
     first [] some are is = some refl
     first (e ∷ es) some are is =
-        none e (spelled (next_digest before e) (further es) ++ 43 ∷ g.behind) are.0.0 are.0.1
-        (is ∙ append_assoc (frame before e) (spelled (next_digest before e) (further es)) (43 ∷ g.behind))
+        none e (spelled_frames (next_digest before e) (further es) ++ 43 ∷ g.behind) are.0.0 are.0.1
+        (is ∙ append_assoc (frame before e) (spelled_frames (next_digest before e) (further es)) (43 ∷ g.behind))
 
 module _ (before : ℕ) (e : Entry) (after : List ℕ) (fit : IsFit e) (kind : is_first_kind e.kind ≡ false) where
   abbrev n : ℕ
@@ -41,8 +41,8 @@ module _ (before : ℕ) (e : Entry) (after : List ℕ) (fit : IsFit e) (kind : i
       go : (es : List Entry) → (es ≡ [] → ⊥) → AreGrouped es → frame before e ++ after ≡ inside before es ++ 43 ∷ g.behind → BeginsWithFrame (digest_of_all before es) g.behind → Behind n after
       go [] some are is next = absurd (some refl)
       go (x ∷ xs) some are is next =
-          let both = is ∙ append_assoc (frame before x) (spelled (next_digest before x) (further xs)) (43 ∷ g.behind) in
-          let same = frame_same before e x after (spelled (next_digest before x) (further xs) ++ 43 ∷ g.behind) fit are.0.0 both in
+          let both = is ∙ append_assoc (frame before x) (spelled_frames (next_digest before x) (further xs)) (43 ∷ g.behind) in
+          let same = frame_same before e x after (spelled_frames (next_digest before x) (further xs) ++ 43 ∷ g.behind) fit are.0.0 both in
           subst (λ (y : Entry). Behind (next_digest before y) after) (sym same.entry) (behind_first (next_digest before x) xs g.behind after are.1 same.behind next)
 
   back_open : (r : List ℕ) → after ≡ 43 ∷ r → BeginsWithFrame n r → GoesOn before (frame before e ++ after)

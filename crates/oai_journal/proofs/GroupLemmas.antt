@@ -4,7 +4,7 @@ use Rattle.std.proofs.Math.Seq.{get_or-append_seam}
 use Rattle.std.proofs.lemmas.Bool.{cases_Bool}
 use Rattle.std.proofs.lemmas.List.{length-append, map-append}
 use Rattle.sqlite_disk.specs.Disk.{Holds, Only, Torn}
-use Rattle.oai_journal.specs.Files.{AreGated, IsJournalFile, Gated, digest_after, front, is_open, spelled}
+use Rattle.oai_journal.specs.Files.{AreGated, IsJournalFile, Gated, digest_after, front, is_commit_set, spelled_frames}
 use Rattle.oai_journal.specs.Frames.{next_digest}
 use Rattle.oai_journal.specs.Groups.{AreGrouped, EndsBeforeOrAfter, IsGroup, IsOnDisk, IsMadeDurable, digest_of_all, further, inside}
 use Rattle.oai_journal.specs.Records.{Entry}
@@ -30,7 +30,7 @@ gated_further : (es : List Entry) → AreGrouped es → AreGated (further es)
 gated_further [] are = tt
 gated_further (e ∷ es) are = (record { opened = refl; fit = are.0.0; kind = are.0.1 }, gated_further es are.1)
 
-gated_opened : (gate : ℕ) (es : List Entry) → is_open gate ≡ true → AreGrouped es → AreGated (opened gate es)
+gated_opened : (gate : ℕ) (es : List Entry) → is_commit_set gate ≡ true → AreGrouped es → AreGated (opened gate es)
 gated_opened gate [] open_is are = tt
 gated_opened gate (e ∷ es) open_is are = (record { opened = open_is; fit = are.0.0; kind = are.0.1 }, gated_further es are.1)
 
@@ -42,7 +42,7 @@ digest_opened : (gate before : ℕ) (es : List Entry) → digest_after before (o
 digest_opened gate before [] = refl
 digest_opened gate before (e ∷ es) = digest_further (next_digest before e) es
 
-spelled_opened : (gate before : ℕ) (es : List Entry) → (es ≡ [] → ⊥) → spelled before (opened gate es) ≡ gate ∷ inside before es
+spelled_opened : (gate before : ℕ) (es : List Entry) → (es ≡ [] → ⊥) → spelled_frames before (opened gate es) ≡ gate ∷ inside before es
 spelled_opened gate before [] some = absurd (some refl)
 spelled_opened gate before (e ∷ es) some = refl
 
@@ -55,7 +55,7 @@ file_opened first frames gate later group rest is =
     let pieces : group ++ rest ≡ inside d later ++ 45 ∷ rest = ap (λ (l : List ℕ). l ++ rest) is.is ∙ append_assoc (inside d later) (45 ∷ []) rest in
     ap (λ (l : List ℕ). f ++ gate ∷ l) pieces
     ∙ ap (λ (l : List ℕ). f ++ (l ++ 45 ∷ rest)) (sym (spelled_opened gate d later is.some))
-    ∙ sym (append_assoc f (spelled d (opened gate later)) (45 ∷ rest))
+    ∙ sym (append_assoc f (spelled_frames d (opened gate later)) (45 ∷ rest))
     ∙ ap (λ (l : List ℕ). l ++ 45 ∷ rest) (sym (front_append first frames (opened gate later)))
 
 -- ---- the two writes
@@ -74,7 +74,7 @@ module _ {D : Type 0} (seen : D → List ℕ) (may_leave : D → List ℕ → Ty
   group_is : IsGroup group (digest_after (next_digest 0 first) settled.frames) later
   group_is = subst (λ d. IsGroup group d later) settled.last grouped
 
-  ends_shut : (file : List ℕ) (gate : ℕ) (rest : List ℕ) → is_open gate ≡ false → file ≡ before ++ gate ∷ rest → IsJournalFile file first entries
+  ends_shut : (file : List ℕ) (gate : ℕ) (rest : List ℕ) → is_commit_set gate ≡ false → file ≡ before ++ gate ∷ rest → IsJournalFile file first entries
   ends_shut file gate rest closed file_is =
       record { frames = settled.frames; gate = gate; behind = rest; is = file_is; closed = closed; begins = settled.begins; are = settled.are; says = settled.says }
 
@@ -122,7 +122,7 @@ module _ {D : Type 0} (seen : D → List ℕ) (may_leave : D → List ℕ → Ty
     pub ends_opened : (file : List ℕ) → Torn end 1 (seen mid) file → EndsBeforeOrAfter file first entries later
     ends_opened file torn =
         let cut = gate_torn file torn in
-        elim (cases_Bool (is_open cut.0)) [
+        elim (cases_Bool (is_commit_set cut.0)) [
           | inl counts ↦ inr (record {
             frames = settled.frames ++ opened cut.0 later;
             gate = 45;

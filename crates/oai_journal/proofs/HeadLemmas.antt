@@ -9,7 +9,7 @@ use Rattle.std.proofs.lemmas.Fmt.{length-decimal-le, length_signed_le}
 use Rattle.std.proofs.lemmas.List.{get_or_append_left, length-append}
 use Rattle.std.proofs.lemmas.List.Elements.{All-cons, All-nil}
 use Rattle.std.proofs.lemmas.List.Sums.{position_or_len_is}
-use Rattle.oai_journal.specs.Heads.{HeadFields, CanBeSpelled, head_front, head_in, kind_in, plain}
+use Rattle.oai_journal.specs.Heads.{RecordHeadFields, CanBeSpelled, head_front, head_in, kind_in, plain}
 use Rattle.oai_bytes.specs.Parts.{is_separator, part, rest}
 use Rattle.oai_bytes.specs.Numbers.{moment_of, number_in}
 use Rattle.oai_journal.specs.Records.{is_visible_ascii, word_of}
@@ -69,7 +69,7 @@ kind_written Item = refl
 -- ---- a head
 
 -- a head, as one field before a space and then the next
-front_is : (h : HeadFields) (tail : List ℕ)
+front_is : (h : RecordHeadFields) (tail : List ℕ)
     → head_front h ++ tail ≡ signed_decimal h.moment ++ 32 ∷ (word_of h.kind ++ 32 ∷ (h.name ++ 32 ∷ (decimal h.size ++ 32 ∷ tail)))
 unfolding head_front plain
 front_is h tail =
@@ -92,7 +92,7 @@ read_all : (bytes : List ℕ) (moment : ℤ) (kind : Kind) (size : ℕ) → mome
 unfolding head_in
 read_all bytes moment kind size a b c = rw (a, b, c) refl
 
-pub head_written : (h : HeadFields) (tail : List ℕ) → CanBeSpelled h → head_in (head_front h ++ tail) ≡ Some h
+pub head_written : (h : RecordHeadFields) (tail : List ℕ) → CanBeSpelled h → head_in (head_front h ++ tail) ≡ Some h
 head_written h tail is =
     let first : List ℕ = signed_decimal h.moment in
     let fourth : List ℕ = decimal h.size ++ 32 ∷ tail in
@@ -130,7 +130,7 @@ length_moment (negsuc n) fits =
     let size : length (decimal (suc n)) ≤ 19 = length-decimal-le 19 (suc n) (lit< tt) (omega (arith, below)) (omega (arith, below)) in
     omega (arith, size)
 
-pub length_front : (h : HeadFields) → CanBeSpelled h → length (head_front h) ≤ MAX_HEAD
+pub length_front : (h : RecordHeadFields) → CanBeSpelled h → length (head_front h) ≤ MAX_HEAD
 unfolding head_front plain
 length_front h is =
     let a : List ℕ = signed_decimal h.moment in

@@ -4,7 +4,7 @@ use Rattle.std.proofs.lemmas.Bool.{false≢true}
 use Rattle.std.proofs.lemmas.List.{append-nil, drop_at, length-append, map-append}
 use Rattle.sqlite_disk.specs.Disk.{Only}
 use Rattle.oai_journal.specs.Changes.{GoesOn, IsChangedAt, IsUndamaged}
-use Rattle.oai_journal.specs.Files.{Gated, digest_after, front, is_open}
+use Rattle.oai_journal.specs.Files.{Gated, digest_after, front, is_commit_set}
 use Rattle.oai_journal.specs.Frames.{entry_in, frame, next_digest}
 use Rattle.oai_journal.specs.Kept.{HoldsRecords, IsAtEnd}
 use Rattle.oai_journal.specs.Records.{Entry}
@@ -22,7 +22,7 @@ rest_at : (file : List ℕ) (at digest : ℕ) (first : Entry) (entries : List En
 rest_at file at digest first entries reads = ap (drop at) reads.is ∙ drop_at (front first reads.frames) reads.rest at (sym reads.place)
 
 -- a closed gate, by whether what stands behind it goes on
-pub closed_step : (rest read : List ℕ) (before gate : ℕ) (behind : List ℕ) (on : Bool) → rest ≡ gate ∷ behind → is_open gate ≡ false → (IsTrue on ↔ GoesOn before behind)
+pub closed_step : (rest read : List ℕ) (before gate : ℕ) (behind : List ℕ) (on : Bool) → rest ≡ gate ∷ behind → is_commit_set gate ≡ false → (IsTrue on ↔ GoesOn before behind)
     → IsReadStep rest before read (step_of on)
 closed_step rest read before gate behind true is closed iff = record { gate = gate; behind = behind; is = is; closed = closed; goes = iff.0 refl }
 closed_step rest read before gate behind false is closed iff =

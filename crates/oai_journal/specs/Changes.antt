@@ -1,11 +1,11 @@
 -- A set commit byte that was changed: what follows it still continues the chain of digests. This repository's own.
 use Rattle.std.specs.Prelude.{◌≡◌, ℕ, ◌<◌, ◌≤◌, ◌↔◌, false, List, [], ◌∷◌, ◌++◌, length, drop, IsTrue}
-use Rattle.oai_journal.specs.Files.{AreGated, IsJournalFile, Gated, IsFirstRecord, digest_after, front, is_open}
+use Rattle.oai_journal.specs.Files.{AreGated, IsJournalFile, Gated, IsFirstRecord, digest_after, front, is_commit_set}
 use Rattle.oai_journal.specs.Frames.{frame, next_digest}
 use Rattle.oai_journal.specs.Groups.{AreGrouped, digest_of_all, inside}
 use Rattle.oai_journal.specs.Records.{Entry, IsFit, is_first_kind}
-use Rattle.oai_journal.specs.declared.changes.Turn.{Turn}
-use Rattle.oai_journal.specs.declared.changes.Turn.TheVariants.{Further, Done}
+use Rattle.oai_journal.specs.declared.changes.ChainProgress.{ChainProgress}
+use Rattle.oai_journal.specs.declared.changes.ChainProgress.TheVariants.{Further, Done}
 
 -- the bytes begin with a frame that continues the chain after the digest `before`
 pub record BeginsWithFrame (before : ℕ) (bytes : List ℕ) : Type 0 where
@@ -35,7 +35,7 @@ pub record IsChangedAt (file : List ℕ) (at : ℕ) : Type 0 where
   pub begins : IsFirstRecord first
   pub are : AreGated frames
   pub place : at ≡ length (front first frames)
-  pub closed : is_open gate ≡ false
+  pub closed : is_commit_set gate ≡ false
   pub goes : GoesOn (digest_after (next_digest 0 first) frames) behind
 
 -- the file is a journal, and no commit byte of it was changed
@@ -44,11 +44,11 @@ pub record IsUndamaged (file : List ℕ) (first : Entry) (entries : List Entry) 
   pub unchanged : (at : ℕ) → IsChangedAt file at → ⊥
 
 -- whether the bytes from a position on continue the chain is whether those from a further one do, or the result
-abbrev pub IsSearchTurn : List ℕ → ℕ → ℕ → Turn → Type 0
+abbrev pub IsSearchTurn : List ℕ → ℕ → ℕ → ChainProgress → Type 0
 IsSearchTurn file at digest (Further next last) = GoesOn digest (drop at file) ↔ GoesOn last (drop next file)
 IsSearchTurn file at digest (Done on) = IsTrue on ↔ GoesOn digest (drop at file)
 
 -- a further position is within the file
-abbrev pub TurnsOn : ℕ → ℕ → Turn → Type 0
+abbrev pub TurnsOn : ℕ → ℕ → ChainProgress → Type 0
 TurnsOn at len (Further next last) = (at < next) × (next ≤ len)
 TurnsOn at len (Done on) = Unit {0}

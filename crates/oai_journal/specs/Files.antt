@@ -5,8 +5,8 @@ use Rattle.oai_journal.specs.Frames.{frame, next_digest}
 use Rattle.oai_journal.specs.Records.{Entry, IsFit, is_first_kind}
 
 -- the commit byte is set: `+` begins a committed group, and `&` a further frame of its group
-abbrev pub is_open : ℕ → Bool
-is_open gate = gate == 43 || gate == 38
+abbrev pub is_commit_set : ℕ → Bool
+is_commit_set gate = gate == 43 || gate == 38
 
 -- a commit byte, and the record in the frame after it
 pub record Gated : Type 0 where
@@ -14,9 +14,9 @@ pub record Gated : Type 0 where
   pub entry : Entry
 
 -- frames one after the other, the first of them after the digest `before`
-abbrev pub spelled : ℕ → List Gated → List ℕ
-spelled before [] = []
-spelled before (f ∷ fs) = f.gate ∷ (frame before f.entry ++ spelled (next_digest before f.entry) fs)
+abbrev pub spelled_frames : ℕ → List Gated → List ℕ
+spelled_frames before [] = []
+spelled_frames before (f ∷ fs) = f.gate ∷ (frame before f.entry ++ spelled_frames (next_digest before f.entry) fs)
 
 -- the digest of the last of them
 abbrev pub digest_after : ℕ → List Gated → ℕ
@@ -25,7 +25,7 @@ digest_after before (f ∷ fs) = digest_after (next_digest before f.entry) fs
 
 -- a committed frame
 pub record IsGated (f : Gated) : Type 0 where
-  pub opened : is_open f.gate ≡ true
+  pub opened : is_commit_set f.gate ≡ true
   pub fit : IsFit f.entry
   pub kind : is_first_kind f.entry.kind ≡ false
 
@@ -40,7 +40,7 @@ pub record IsFirstRecord (e : Entry) : Type 0 where
 
 -- the first record, and then frames: what precedes the commit byte that ends the journal
 abbrev pub front : Entry → List Gated → List ℕ
-front first frames = 43 ∷ (frame 0 first ++ spelled (next_digest 0 first) frames)
+front first frames = 43 ∷ (frame 0 first ++ spelled_frames (next_digest 0 first) frames)
 
 -- the file is a journal that begins with the first record, and these are the others
 pub record IsJournalFile (file : List ℕ) (first : Entry) (entries : List Entry) : Type 0 where
@@ -48,7 +48,7 @@ pub record IsJournalFile (file : List ℕ) (first : Entry) (entries : List Entry
   pub gate : ℕ
   pub behind : List ℕ
   pub is : file ≡ front first frames ++ gate ∷ behind
-  pub closed : is_open gate ≡ false
+  pub closed : is_commit_set gate ≡ false
   pub begins : IsFirstRecord first
   pub are : AreGated frames
   pub says : map (λ f. f.entry) frames ≡ entries

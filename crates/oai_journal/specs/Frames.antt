@@ -4,9 +4,9 @@ use Rattle.std.specs.Int.{w64, to_be_bytes}
 use Rattle.hex.specs.Hex.{encode_lower}
 use Rattle.sqlite_disk.specs.Digest.{digest}
 use Rattle.oai_journal.specs.Records.{Entry, is_within}
-use Rattle.oai_journal.specs.Heads.{HeadFields, head_front, plain, head_in, ◌>>=◌, tested}
+use Rattle.oai_journal.specs.Heads.{RecordHeadFields, head_front, plain, head_in, ◌>>=◌, tested}
 
-abbrev pub head_of : Entry → HeadFields
+abbrev pub head_of : Entry → RecordHeadFields
 head_of e = record { moment = e.moment; kind = e.kind; name = e.name; size = length e.body }
 
 -- the digest of a frame: over the digest before it, its head and its bytes
@@ -18,16 +18,16 @@ unfoldable pub digest_text : ℕ → List ℕ
 digest_text d = encode_lower (to_be_bytes w64 d)
 
 -- a line end
-abbrev pub line_end : List ℕ
-line_end = plain (10 ∷ [])
+abbrev pub plain_line_end : List ℕ
+plain_line_end = plain (10 ∷ [])
 
 -- what precedes the bytes of a record: its head with the digest, and a line end
 unfoldable pub frame_front : ℕ → Entry → List ℕ
-frame_front before e = head_front (head_of e) ++ digest_text (next_digest before e) ++ line_end
+frame_front before e = head_front (head_of e) ++ digest_text (next_digest before e) ++ plain_line_end
 
 -- a frame, without its commit byte: that, the bytes of the record, and a line end
 unfoldable pub frame : ℕ → Entry → List ℕ
-frame before e = frame_front before e ++ (e.body ++ line_end)
+frame before e = frame_front before e ++ (e.body ++ plain_line_end)
 
 -- ---- how one is read
 

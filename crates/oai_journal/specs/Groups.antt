@@ -2,7 +2,7 @@
 -- repository's own.
 use Rattle.std.specs.Prelude.{◌≡◌, ◌⊎◌, ℕ, false, List, [], ◌∷◌, ◌++◌, length, map}
 use Rattle.sqlite_disk.specs.Disk.{Holds, Only, Torn}
-use Rattle.oai_journal.specs.Files.{AreGated, IsJournalFile, Gated, IsFirstRecord, digest_after, front, is_open, spelled}
+use Rattle.oai_journal.specs.Files.{AreGated, IsJournalFile, Gated, IsFirstRecord, digest_after, front, is_commit_set, spelled_frames}
 use Rattle.oai_journal.specs.Frames.{frame, next_digest}
 use Rattle.oai_journal.specs.Records.{Entry, IsFit, is_first_kind}
 
@@ -28,7 +28,7 @@ further es = map (λ e. record { gate = 38; entry = e }) es
 -- the frames of a group, without the commit byte of the first one
 abbrev pub inside : ℕ → List Entry → List ℕ
 inside before [] = []
-inside before (e ∷ es) = frame before e ++ spelled (next_digest before e) (further es)
+inside before (e ∷ es) = frame before e ++ spelled_frames (next_digest before e) (further es)
 
 -- the disk holds a journal that ends at `end`: the first record, and these, the last of them with that digest
 pub record IsOnDisk {D : Type 0} (seen : D → List ℕ) (may_leave : D → List ℕ → Type 0) (disk : D) (end digest : ℕ) (first : Entry) (entries : List Entry) : Type 0 where
@@ -36,7 +36,7 @@ pub record IsOnDisk {D : Type 0} (seen : D → List ℕ) (may_leave : D → List
   pub gate : ℕ
   pub behind : List ℕ
   pub is : seen disk ≡ front first frames ++ gate ∷ behind
-  pub closed : is_open gate ≡ false
+  pub closed : is_commit_set gate ≡ false
   pub begins : IsFirstRecord first
   pub are : AreGated frames
   pub says : map (λ f. f.entry) frames ≡ entries

@@ -7,7 +7,7 @@ use Rattle.std.specs.Str.{bytes_eq}
 use Rattle.oai_bytes.specs.Numbers.{moment_of, number_in}
 use Rattle.oai_bytes.specs.Parts.{part, rest}
 use Rattle.oai_journal.specs.Records.{word_of, is_visible_ascii}
-use Rattle.oai_journal.specs.declared.heads.Head.{Head}
+use Rattle.oai_journal.specs.declared.heads.RecordHead.{RecordHead}
 use Rattle.oai_journal.specs.declared.records.Kind.{Kind}
 use Rattle.oai_journal.specs.declared.records.Kind.TheVariants.{Journal, Oai, Deposit, Tick, Begin, Set, Item}
 use Rattle.oai_journal.specs.declared.records.TheConstants.{MAX_NAME}
@@ -17,23 +17,23 @@ unfoldable pub plain : List ℕ → List ℕ
 plain bytes = bytes
 
 -- what a head says
-pub record HeadFields : Type 0 where
+pub record RecordHeadFields : Type 0 where
   pub moment : ℤ
   pub kind : Kind
   pub name : List ℕ
   pub size : ℕ
 
-abbrev pub fields_of_head : Head → HeadFields
+abbrev pub fields_of_head : RecordHead → RecordHeadFields
 fields_of_head h = record { moment = h.moment; kind = h.kind; name = h.name.now; size = h.size }
 
 -- a head: its four fields, each followed by a space
-unfoldable pub head_front : HeadFields → List ℕ
+unfoldable pub head_front : RecordHeadFields → List ℕ
 head_front h =
     signed_decimal h.moment ++ plain (codes " ") ++ plain (word_of h.kind) ++ plain (codes " ") ++ h.name ++ plain (codes " ")
     ++ decimal h.size ++ plain (codes " ")
 
 -- fields that a head can encode
-pub record CanBeSpelled (h : HeadFields) : Type 0 where
+pub record CanBeSpelled (h : RecordHeadFields) : Type 0 where
   pub moment : FitsSigned w64 h.moment
   pub name : list_all is_visible_ascii h.name ≡ true
   pub short : length h.name ≤ MAX_NAME
@@ -62,7 +62,7 @@ abbrev pub tested : {A : Type 0} → (A → Bool) → A → Option A
 tested passes x = if passes x then Some x else None
 
 -- the fields with which bytes begin; whether the bytes are their encoding is not tested
-unfoldable pub head_in : List ℕ → Option HeadFields
+unfoldable pub head_in : List ℕ → Option RecordHeadFields
 head_in bytes = do
   moment ← moment_of (part bytes)
   kind ← kind_in (part (rest bytes))

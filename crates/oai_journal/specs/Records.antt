@@ -4,7 +4,7 @@ use Rattle.std.specs.Int.{w64}
 use Rattle.std.specs.List.{list_all}
 use Rattle.oai_journal.specs.declared.records.Kind.{Kind}
 use Rattle.oai_journal.specs.declared.records.Kind.TheVariants.{Journal, Oai, Deposit, Tick, Begin, Set, Item}
-use Rattle.oai_journal.specs.declared.records.Record.{Record}
+use Rattle.oai_journal.specs.declared.records.LogRecord.{LogRecord}
 use Rattle.oai_journal.specs.declared.records.TheConstants.{MAX_BODY, MAX_FIRST_BODY, MAX_NAME}
 
 -- a record: a moment in seconds from 1970 on, a kind, the name of a repository, and bytes
@@ -14,7 +14,7 @@ pub record Entry : Type 0 where
   pub name : List ℕ
   pub body : List ℕ
 
-abbrev pub as_entry : Record → Entry
+abbrev pub as_entry : LogRecord → Entry
 as_entry record' = record { moment = record'.moment; kind = record'.kind; name = record'.name.now; body = record'.body.now }
 
 -- the word of each kind

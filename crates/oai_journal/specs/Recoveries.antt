@@ -1,7 +1,7 @@
 -- A journal's file as it is read from its first byte on. This repository's own.
 use Rattle.std.specs.Prelude.{◌≡◌, ◌⊎◌, ℕ, ◌+◌, ◌≤◌, Bool, true, false, if◌then◌else◌, List, [], ◌∷◌, ◌++◌, length, map, drop, Option, Some, MatchOption}
 use Rattle.oai_journal.specs.Changes.{GoesOn}
-use Rattle.oai_journal.specs.Files.{AreGated, Gated, IsFirstRecord, digest_after, front, is_open}
+use Rattle.oai_journal.specs.Files.{AreGated, Gated, IsFirstRecord, digest_after, front, is_commit_set}
 use Rattle.oai_journal.specs.Frames.{entry_in, frame, next_digest}
 use Rattle.oai_journal.specs.Records.{Entry, IsFit, is_first_kind}
 use Rattle.oai_journal.specs.declared.recovery.Step.{Step}
@@ -51,7 +51,7 @@ pub record IsOpenWithNone (before : ℕ) (bytes : List ℕ) : Type 0 where
   pub gate : ℕ
   pub behind : List ℕ
   pub is : bytes ≡ gate ∷ behind
-  pub opened : is_open gate ≡ true
+  pub opened : is_commit_set gate ≡ true
   pub none : HasNoFrame false before behind
 
 -- a journal up to that byte, where there is no commit byte or a set one without a frame after it
@@ -109,7 +109,7 @@ pub record EndsHere (before : ℕ) (rest : List ℕ) : Type 0 where
   pub gate : ℕ
   pub behind : List ℕ
   pub is : rest ≡ gate ∷ behind
-  pub closed : is_open gate ≡ false
+  pub closed : is_commit_set gate ≡ false
   pub stops : GoesOn before behind → ⊥
 
 -- an unset commit byte, which was set, since what follows it continues the chain
@@ -117,7 +117,7 @@ pub record WasOpen (before : ℕ) (rest : List ℕ) : Type 0 where
   pub gate : ℕ
   pub behind : List ℕ
   pub is : rest ≡ gate ∷ behind
-  pub closed : is_open gate ≡ false
+  pub closed : is_commit_set gate ≡ false
   pub goes : GoesOn before behind
 
 -- a set commit byte and a frame, which was read
@@ -126,7 +126,7 @@ pub record Continues (rest : List ℕ) (before : ℕ) (read : List ℕ) (digest 
   pub entry : Entry
   pub after : List ℕ
   pub is : rest ≡ gate ∷ (frame before entry ++ after)
-  pub opened : is_open gate ≡ true
+  pub opened : is_commit_set gate ≡ true
   pub fit : IsFit entry
   pub kind : is_first_kind entry.kind ≡ false
   pub read_is : read ≡ frame before entry

@@ -9,7 +9,7 @@ use crate::readings::{read_frame, read_gate};
 use sqlite_disk::Disk;
 
 /// How much is known about whether bytes continue the chain.
-pub(crate) enum Turn {
+pub(crate) enum ChainProgress {
     /// They do if those at that position do, after a frame with that digest.
     Further(usize, u64),
     /// They do, or they do not.
@@ -38,11 +38,11 @@ pub(crate) fn goes_on<D: Disk>(
     let mut last = digest;
     loop {
         match take_turn(disk, len, place, last, frame, out)? {
-            Turn::Further(next, further) => {
+            ChainProgress::Further(next, further) => {
                 place = next;
                 last = further;
             }
-            Turn::Done(on) => return Ok(on),
+            ChainProgress::Done(on) => return Ok(on),
         }
     }
 }
@@ -55,7 +55,7 @@ fn take_turn<D: Disk>(
     digest: u64,
     frame: &mut Vec<u8>,
     out: &mut Vec<u8>,
-) -> Result<Turn, JournalFault>
+) -> Result<ChainProgress, JournalFault>
     requires room { FRONT_ROOM ≤ vec_capacity out.old }
     ensures found { IfOk result (λ turn. IsTrue (D.Disk.is_clean disk.new) → len ≡ length (D.Disk.seen disk.old)
         → IsSearchTurn (D.Disk.seen disk.old) at digest turn) }
@@ -66,20 +66,20 @@ fn take_turn<D: Disk>(
     ensures clean { IsTrue (D.Disk.is_clean disk.new) → IsTrue (D.Disk.is_clean disk.old) }
 {
     let Some(last) = read_frame(disk, len, at, false, digest, frame, out)? else {
-        return Ok(Turn::Done(false));
+        return Ok(ChainProgress::Done(false));
     };
     let gate = at + frame.len();
     let Some(byte) = read_gate(disk, len, gate, frame)? else {
-        return Ok(Turn::Done(false));
+        return Ok(ChainProgress::Done(false));
     };
     if byte == FURTHER_GATE {
-        return Ok(Turn::Further(gate + 1, last));
+        return Ok(ChainProgress::Further(gate + 1, last));
     }
     if byte != OPEN_GATE {
-        return Ok(Turn::Done(false));
+        return Ok(ChainProgress::Done(false));
     }
     let on = begins_with_frame(disk, len, gate + 1, last, frame, out)?;
-    Ok(Turn::Done(on))
+    Ok(ChainProgress::Done(on))
 }
 
 /// Whether a frame begins at that position, after that digest.

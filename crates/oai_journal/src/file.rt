@@ -8,7 +8,7 @@ use crate::groups::{write_group, write_synced};
 use crate::heads::put;
 use crate::journals::{Journal, JournalFault};
 use crate::readings::open_len;
-use crate::records::Record;
+use crate::records::LogRecord;
 use sqlite_disk::Disk;
 use std::alloc::{AllocError, Global};
 
@@ -59,7 +59,7 @@ impl<D: Disk + Drop> Journal for FileJournal<D> {
         Ok(())
     }
 
-    fn append(&mut self, entry: &Record<'_>) {
+    fn append(&mut self, entry: &LogRecord<'_>) {
         let _moment = entry.moment;
         self.last = write_frame(self.last, entry, &mut self.pending);
         put(b"&", &mut self.pending);
@@ -104,7 +104,7 @@ impl<D: Disk + Drop> FileJournal<D> {
     pub fn create(
         alloc: Global,
         mut disk: D,
-        first: &Record<'_>,
+        first: &LogRecord<'_>,
     ) -> Result<FileJournal<D>, JournalFault>
         requires fit { IsTrue (is_fit (as_entry first.now)) }
         requires kind { is_first_kind first.now.kind ≡ true }
@@ -142,7 +142,7 @@ impl<D: Disk + Drop> FileJournal<D> {
 }
 
 /// The bytes of a journal of one record, and the digest of its frame.
-fn first_frame(alloc: Global, first: &Record<'_>) -> Result<(Vec<u8>, u64), JournalFault>
+fn first_frame(alloc: Global, first: &LogRecord<'_>) -> Result<(Vec<u8>, u64), JournalFault>
     requires { IsTrue (is_fit (as_entry first.now)) }
     ensures bytes { IfOk result (λ made. made.0.items ≡ 43 ∷ (frame 0 (as_entry first.now) ++ 45 ∷ [])) }
     ensures digest { IfOk result (λ made. made.1 ≡ next_digest 0 (as_entry first.now)) }

@@ -8,8 +8,8 @@ ghost use Rattle.oai_journal.specs.Heads.{fields_of_head, head_front};
 ghost use Rattle.oai_journal.specs.Records.{Entry, IsFit, as_entry, is_fit};
 ghost use Rattle.oai_journal.specs.declared.records.TheConstants.{MAX_FIRST_BODY};
 
-use crate::heads::{Head, MAX_HEAD, parse_head, put, write_head};
-use crate::records::{Record, is_within};
+use crate::heads::{MAX_HEAD, RecordHead, parse_head, put, write_head};
+use crate::records::{LogRecord, is_within};
 use std::hash::{DefaultHasher, Hasher};
 
 /// The length of a digest as text, in bytes.
@@ -24,7 +24,7 @@ pub(crate) const FRONT_ROOM: usize = 100;
 
 /// Writes a frame into reserved space; returns its digest.
 #[tactic(auto, unfolding(crate::specs::Frames::frame, crate::specs::Heads::plain))]
-pub(crate) fn write_frame(before: u64, entry: &Record<'_>, out: &mut Vec<u8>) -> u64
+pub(crate) fn write_frame(before: u64, entry: &LogRecord<'_>, out: &mut Vec<u8>) -> u64
     requires fit { IsTrue (is_fit (as_entry entry.now)) }
     requires room { vec_len out.old + length entry.now.body.now + FRAME_ROOM ≤ vec_capacity out.old }
     ensures items { out.new.items ≡ out.old.items ++ spec.frame before (as_entry entry.now) }
@@ -39,10 +39,10 @@ pub(crate) fn write_frame(before: u64, entry: &Record<'_>, out: &mut Vec<u8>) ->
 }
 
 /// The head of a record.
-fn head_of<'a>(entry: &Record<'a>) -> Head<'a>
+fn head_of<'a>(entry: &LogRecord<'a>) -> RecordHead<'a>
     ensures { fields_of_head result ≡ spec.head_of (as_entry entry.now) }
 {
-    Head {
+    RecordHead {
         moment: entry.moment,
         kind: entry.kind,
         name: entry.name,
@@ -91,12 +91,12 @@ pub(crate) fn frame_len(bytes: &[u8], out: &mut Vec<u8>) -> Option<usize>
 
 /// The log record in the bytes of a frame; whether the bytes encode it is not tested.
 #[tactic(auto, unfolding(crate::specs::Frames::entry_in))]
-pub(crate) fn record_in(bytes: &[u8]) -> Option<Record<'_>>
+pub(crate) fn record_in(bytes: &[u8]) -> Option<LogRecord<'_>>
     ensures { option_map as_entry result ≡ spec.entry_in bytes.now }
 {
     let head = parse_head(bytes)?;
     let body = body_in(head.size, bytes)?;
-    Some(Record {
+    Some(LogRecord {
         moment: head.moment,
         kind: head.kind,
         name: head.name,
@@ -120,7 +120,7 @@ fn body_in(size: usize, bytes: &[u8]) -> Option<&[u8]>
 /// cleared, and needs capacity for what precedes the record's bytes.
 pub(crate) fn frame_digest(
     before: u64,
-    entry: &Record<'_>,
+    entry: &LogRecord<'_>,
     bytes: &[u8],
     out: &mut Vec<u8>,
 ) -> Option<u64>
@@ -141,7 +141,7 @@ pub(crate) fn frame_digest(
 }
 
 /// Writes what precedes the bytes of a record; returns the digest of the frame.
-fn write_front(before: u64, entry: &Record<'_>, out: &mut Vec<u8>) -> u64
+fn write_front(before: u64, entry: &LogRecord<'_>, out: &mut Vec<u8>) -> u64
     requires fit { IsTrue (is_fit (as_entry entry.now)) }
     requires room { vec_len out.old + FRONT_ROOM ≤ vec_capacity out.old }
     ensures items { out.new.items ≡ out.old.items ++ spec.frame_front before (as_entry entry.now) }

@@ -17,7 +17,7 @@ pub(crate) const FURTHER_GATE: u8 = b'&';
 
 /// Whether the commit byte is set, so that the frame after it is committed.
 pub(crate) fn is_open(gate: u8) -> bool
-    ensures { result ≡ spec.is_open gate }
+    ensures { result ≡ spec.is_commit_set gate }
 {
     gate == OPEN_GATE || gate == FURTHER_GATE
 }

@@ -13,7 +13,7 @@ pub(crate) const MAX_HEAD: usize = 83;
 
 /// What a head says: the fields of a log record, with the length of its bytes in their place.
 #[derive(Clone, Copy)]
-pub(crate) struct Head<'a> {
+pub(crate) struct RecordHead<'a> {
     pub moment: i64,
     pub kind: Kind,
     pub name: &'a [u8],
@@ -22,7 +22,7 @@ pub(crate) struct Head<'a> {
 
 /// Writes a head into reserved space.
 #[tactic(auto, unfolding(crate::specs::Heads::head_front, crate::specs::Heads::plain))]
-pub(crate) fn write_head(head: &Head<'_>, out: &mut Vec<u8>)
+pub(crate) fn write_head(head: &RecordHead<'_>, out: &mut Vec<u8>)
     requires name { length head.now.name.now ≤ MAX_NAME }
     requires room { vec_len out.old + MAX_HEAD ≤ vec_capacity out.old }
     ensures items { out.new.items ≡ out.old.items ++ spec.head_front (spec.fields_of_head head.now) }
@@ -52,7 +52,7 @@ pub(crate) fn put(bytes: &[u8], out: &mut Vec<u8>)
 
 /// Reads the fields of the head with which bytes begin; whether the bytes are their encoding is not tested.
 #[tactic(auto, unfolding(crate::specs::Heads::head_in))]
-pub(crate) fn parse_head(bytes: &[u8]) -> Option<Head<'_>>
+pub(crate) fn parse_head(bytes: &[u8]) -> Option<RecordHead<'_>>
     ensures { option_map spec.fields_of_head result ≡ spec.head_in bytes.now }
 {
     let (moment, rest) = split_at_space(bytes);
@@ -62,7 +62,7 @@ pub(crate) fn parse_head(bytes: &[u8]) -> Option<Head<'_>>
     let moment = read_moment(moment)?;
     let kind = read_kind(kind)?;
     let size = read_number(size)?;
-    Some(Head {
+    Some(RecordHead {
         moment,
         kind,
         name,

@@ -3,7 +3,7 @@ ghost use Rattle.oai_journal.specs.Journals.{IsLeft};
 ghost use Rattle.oai_journal.specs.Records.{Entry, as_entry, is_first_kind, is_fit};
 ghost use Rattle.oai_journal.specs.declared.journals.JournalFault.TheVariants as fault;
 
-use crate::records::Record;
+use crate::records::LogRecord;
 use std::alloc::{AllocError, AllocFailed};
 use thiserror::Error;
 
@@ -54,7 +54,7 @@ pub trait Journal: Drop {
             → holds self.new entries durable };
 
     /// Appends a record, into reserved space. It allocates nothing and cannot fail.
-    fn append(&mut self, entry: &Record<'_>)
+    fn append(&mut self, entry: &LogRecord<'_>)
         requires fit { IsTrue (is_fit (as_entry entry.now)) }
         requires kind { is_first_kind entry.now.kind ≡ false }
         requires room { has_room self.old (length entry.now.body.now) }

@@ -16,5 +16,5 @@ mod recovery;
 pub use file::FileJournal;
 pub use journals::{Journal, JournalFault};
 pub use laws::{crash_law, damage_law, one_journal_law};
-pub use records::{Kind, MAX_BODY, MAX_FIRST_BODY, MAX_NAME, Record};
+pub use records::{Kind, LogRecord, MAX_BODY, MAX_FIRST_BODY, MAX_NAME};
 pub use recovery::{Recovery, RecoveryFault};

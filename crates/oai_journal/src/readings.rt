@@ -7,7 +7,7 @@ ghost use Rattle.oai_journal.specs.Recoveries.{Checks, FindsFrame, IsGateAt, IsL
 
 use crate::frames::{FRAME_ROOM, FRONT_ROOM, frame_digest, frame_len, record_in};
 use crate::journals::JournalFault;
-use crate::records::Record;
+use crate::records::LogRecord;
 use sqlite_disk::Disk;
 
 /// Reads the commit byte at that position; None if the file ends there.
@@ -134,7 +134,7 @@ fn check_frame(first: bool, before: u64, bytes: &[u8], out: &mut Vec<u8>) -> Opt
 fn check_record(
     first: bool,
     before: u64,
-    entry: &Record<'_>,
+    entry: &LogRecord<'_>,
     bytes: &[u8],
     out: &mut Vec<u8>,
 ) -> Option<u64>

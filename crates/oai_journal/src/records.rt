@@ -32,7 +32,7 @@ pub enum Kind {
 
 /// A log record.
 #[derive(Clone, Copy, Debug)]
-pub struct Record<'a> {
+pub struct LogRecord<'a> {
     /// The moment, in seconds from 1970 on.
     pub moment: i64,
     /// Its kind.
@@ -80,7 +80,7 @@ impl Kind {
     }
 }
 
-impl Record<'_> {
+impl LogRecord<'_> {
     /// Whether a frame can hold it: its name and its length are within bounds.
     pub fn is_fit(&self) -> bool
         ensures { result ≡ spec.is_fit (spec.as_entry self.now) }

@@ -13,7 +13,7 @@ use crate::frames::{FRONT_ROOM, record_in};
 use crate::groups::{OPEN_GATE, is_open};
 use crate::journals::JournalFault;
 use crate::readings::{open_len, read_frame, read_gate};
-use crate::records::Record;
+use crate::records::LogRecord;
 use sqlite_disk::{Crash, Disk};
 use std::alloc::Global;
 use thiserror::Error;
@@ -154,7 +154,7 @@ impl<D: Disk + Drop> Recovery<D> {
     }
 
     /// The record that was read last; None before the first.
-    pub fn record(&self) -> Option<Record<'_>>
+    pub fn record(&self) -> Option<LogRecord<'_>>
         ensures { option_map as_entry result ≡ current self.now }
     {
         record_in(&self.frame)

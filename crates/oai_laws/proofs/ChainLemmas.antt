@@ -21,18 +21,19 @@ use Rattle.oai_args.specs.declared.requests.Ask.TheVariants as ask
 use Rattle.oai_answers.specs.Answers.{Page, fails}
 use Rattle.oai_answers.specs.declared.errors.ErrorCode.TheVariants.{NoSetHierarchy}
 use Rattle.oai_repo.specs.Answers.{filter_of}
-use Rattle.oai_settings.specs.Config.{Config, IsConfig, are_limits, is_chunk, is_items, is_lifetime, is_lists}
+use Rattle.oai_settings.specs.Config.{IsConfig, RepositoryConfig, are_limits, is_chunk, is_items, is_lifetime, is_lists}
 use Rattle.oai_laws.specs.Effects.{IsSound}
 use Rattle.oai_args.specs.Verbs.{is_of_records}
-use Rattle.oai_laws.specs.Following.{AreNext, answer_in, IsChain, IsFollowedThrough, ListRequest, first_request, is_later, joined, selection_in}
-use Rattle.oai_repo.specs.Kept.{AreKept}
+use Rattle.oai_laws.specs.Following.{AreNext, answer_in, IsChain, IsFollowedThrough, ListQuery, first_request, is_later, joined, selection_in}
+use Rattle.oai_holdings.specs.Kept.{AreKept}
 use Rattle.oai_repo.specs.Listing.{answer_by_verb, request_response, opens_list, has_no_sets, new_list, part_from, with_answer, format_response, selection_response, complete_answer, wait_at}
 use Rattle.oai_repo.specs.Machine.{Command, act}
-use Rattle.oai_laws.specs.Runs.{Exchange, IsPart, Timed, performed, run}
-use Rattle.oai_repo.specs.State.{FrozenList, Holdings, NamedSet, OpenLists, RepoState, empty_state, moved}
+use Rattle.oai_laws.specs.Runs.{IsPart, Timed, Transition, performed, run}
+use Rattle.oai_holdings.specs.Holdings.{Holdings, NamedSet}
+use Rattle.oai_repo.specs.State.{FrozenList, OpenLists, RepoState, empty_state, moved}
 use Rattle.oai_laws.proofs.EffectLemmas.{named, sound_act, sound_empty, sound_moved}
 use Rattle.oai_laws.proofs.FollowLemmas.{Followed, IsGood, asked_page, first_given, follow, asked_later}
-use Rattle.oai_repo.proofs.KeptLemmas.{at_most}
+use Rattle.oai_holdings.proofs.KeptLemmas.{at_most}
 use Rattle.oai_repo.proofs.SelectionLemmas.{unknown_format, unknown_set}
 use Rattle.oai_laws.proofs.StandLemmas.{Stands, stands_opened}
 
@@ -43,7 +44,7 @@ empty_few : (items : List ItemState) (chunk : ℕ) → chunk < length items → 
 empty_few items chunk many none = absurd (omega (arith, many, ap length none))
 
 -- where records are selected in a set, there are sets
-pub sets_there : (config : Config) (holdings : Holdings) (prefix : List ℕ) (from until set : Option (List ℕ)) (sets : List NamedSet) → holdings.sets ≡ sets → AreKept config holdings
+pub sets_there : (config : RepositoryConfig) (holdings : Holdings) (prefix : List ℕ) (from until set : Option (List ℕ)) (sets : List NamedSet) → holdings.sets ≡ sets → AreKept config holdings
     → selected (filter_of prefix from until set) holdings.items ≢ [] → (is_some set && has_no_sets sets) ≡ false
 sets_there config holdings prefix from until None sets is kept some = refl
 sets_there config holdings prefix from until (Some set) (x ∷ sets) is kept some = refl
@@ -55,13 +56,13 @@ sets_there config holdings prefix from until (Some set) [] is kept some =
     above a spec there lies = absurd (false≢true (sym (ap (λ (sets : List NamedSet). has_set sets spec) is) ∙ there))
 
 -- where records are selected in a format, the repository has it
-pub format_there : (config : Config) (holdings : Holdings) (prefix : List ℕ) (from until set : Option (List ℕ)) (format : Option Format) → format_named prefix config.formats ≡ format → AreKept config holdings
+pub format_there : (config : RepositoryConfig) (holdings : Holdings) (prefix : List ℕ) (from until set : Option (List ℕ)) (format : Option Format) → format_named prefix config.formats ≡ format → AreKept config holdings
     → selected (filter_of prefix from until set) holdings.items ≢ [] → (f : Format) × (format_named prefix config.formats ≡ Some f)
 format_there config holdings prefix from until set (Some format) is kept some = (format, is)
 format_there config holdings prefix from until set None is kept some = absurd (some (unknown_format config holdings prefix from until set kept is))
 
 -- no more are selected than a repository may hold
-few_selected : (config : Config) (holdings : Holdings) (asked : Filter) → IsConfig config → AreKept config holdings → length (selected asked holdings.items) < 2 ^ 64
+few_selected : (config : RepositoryConfig) (holdings : Holdings) (asked : Filter) → IsConfig config → AreKept config holdings → length (selected asked holdings.items) < 2 ^ 64
 unfolding selected are_limits
 few_selected config holdings asked good kept =
     let limits = and_parts (is_chunk config.chunk && is_lifetime config.lifetime && is_lists config.lists) (is_items config.items) good.limited in
@@ -71,7 +72,7 @@ few_selected config holdings asked good kept =
     few some all most part within limit = grind (arith, nat_tests)
 
 -- a part may have some records
-pub some_in_part : (config : Config) → IsConfig config → 1 ≤ config.chunk
+pub some_in_part : (config : RepositoryConfig) → IsConfig config → 1 ≤ config.chunk
 unfolding are_limits
 some_in_part config good =
     let limits = and_parts (is_chunk config.chunk && is_lifetime config.lifetime && is_lists config.lists) (is_items config.items) good.limited in
@@ -84,7 +85,7 @@ some_in_part config good =
 -- ---- the first request
 
 -- the list that a first request opens
-record IsFirst (config : Config) (state : RepoState) (command : Command) (list_request : ListRequest) : Type 0 where
+record IsFirst (config : RepositoryConfig) (state : RepoState) (command : Command) (list_request : ListQuery) : Type 0 where
   pub list : FrozenList
   pub good : IsGood config list
   pub verb : list.verb ≡ list_request.verb
@@ -96,7 +97,7 @@ record IsFirst (config : Config) (state : RepoState) (command : Command) (list_r
   pub given : list.given ≡ config.chunk
 
 -- it is told to wait, or opens the list
-by_wait : (config : Config) (state : RepoState) (command : Command) (list_request : ListRequest) (format : Format) (wait : Option ℤ) → wait_at config state.clock state.open_lists ≡ wait
+by_wait : (config : RepositoryConfig) (state : RepoState) (command : Command) (list_request : ListQuery) (format : Format) (wait : Option ℤ) → wait_at config state.clock state.open_lists ≡ wait
     → IsConfig config → IsSound config state → is_of_records list_request.verb ≡ true → format_named list_request.prefix config.formats ≡ Some format → command ≡ first_request list_request → is_later (act config state command).0 ≡ false
     → request_response config state (asks (ask.List list_request.verb list_request.prefix list_request.from list_request.until list_request.set))
     ≡ opens_list config state.open_lists format (new_list config state.clock state.open_lists list_request.verb format.prefix (selection_in state list_request)) wait
@@ -125,14 +126,14 @@ by_wait config state command list_request format None wait good sound verb known
     }
 
 -- a list that is too long for one page begins, where it may
-told_long : (config : Config) (clock : ℤ) (open_lists : OpenLists) (verb : ListVerb) (format : Format) (items : List ItemState) → config.chunk < length items
+told_long : (config : RepositoryConfig) (clock : ℤ) (open_lists : OpenLists) (verb : ListVerb) (format : Format) (items : List ItemState) → config.chunk < length items
     → selection_response config clock open_lists verb format items ≡ opens_list config open_lists format (new_list config clock open_lists verb format.prefix items) (wait_at config clock open_lists)
 unfolding selection_response
 told_long config clock open_lists verb format items many =
     cond-false (nat_le (length items) config.chunk) (with_answer (complete_answer config verb format items), open_lists) (opens_list config open_lists format (new_list config clock open_lists verb format.prefix items) (wait_at config clock open_lists))
     (lt-leb (length items) config.chunk many)
 
-first_turn : (config : Config) (state : RepoState) (command : Command) (list_request : ListRequest) → IsConfig config → IsSound config state → is_of_records list_request.verb ≡ true → command ≡ first_request list_request
+first_turn : (config : RepositoryConfig) (state : RepoState) (command : Command) (list_request : ListQuery) → IsConfig config → IsSound config state → is_of_records list_request.verb ≡ true → command ≡ first_request list_request
     → config.chunk < length (selection_in state list_request) → is_later (act config state command).0 ≡ false → IsFirst config state command list_request
 first_turn config state command list_request good sound verb is many answered =
     let items : List ItemState = selection_in state list_request in
@@ -170,7 +171,7 @@ unfolding selected
 selected_apart asked items h = apart-filter (passes asked) items h
 
 -- what the pages of a list from its first record on are
-whole_list : (config : Config) (state : RepoState) (list_request : ListRequest) (format : Format) (exchanges : List Exchange) → AreKept config state.holdings → format_named list_request.prefix config.formats ≡ Some format
+whole_list : (config : RepositoryConfig) (state : RepoState) (list_request : ListQuery) (format : Format) (exchanges : List Transition) → AreKept config state.holdings → format_named list_request.prefix config.formats ≡ Some format
     → Followed config list_request.verb format (selection_in state list_request) 0 exchanges
     → (pages : List Page) × IsFollowedThrough config list_request (selection_in state list_request) exchanges pages
 whole_list config state list_request format exchanges kept known followed =
@@ -192,13 +193,13 @@ whole_list config state list_request format exchanges kept known followed =
     )
 
 -- an exchange that begins a chain, and those behind it
-chain_here : (config : Config) (state : RepoState) (timed : Timed) (commands : List Timed) (list_request : ListRequest) (others : List Exchange) → IsConfig config → IsSound config state
+chain_here : (config : RepositoryConfig) (state : RepoState) (timed : Timed) (commands : List Timed) (list_request : ListQuery) (others : List Transition) → IsConfig config → IsSound config state
     → IsPart others (run config (performed config state timed).left commands) → is_of_records list_request.verb ≡ true → timed.command ≡ first_request list_request
     → config.chunk < length (selection_in (moved timed.moment state) list_request) → is_later (performed config state timed).outcome ≡ false → AreNext list_request.verb (performed config state timed) others
     → (pages : List Page) × IsFollowedThrough config list_request (selection_in (moved timed.moment state) list_request) (performed config state timed ∷ others) pages
 chain_here config state timed commands list_request others good sound part verb is many answered next =
     let found : RepoState = moved timed.moment state in
-    let exchange : Exchange = performed config state timed in
+    let exchange : Transition = performed config state timed in
     let sound_found = sound_moved config timed.moment state sound in
     let begun = first_turn config found timed.command list_request good sound_found verb is many answered in
     let within : 0 < length begun.list.items = omega (arith, many, ap length begun.items) in
@@ -209,21 +210,21 @@ chain_here config state timed commands list_request others good sound part verb 
     (subst (λ (items : List ItemState). Followed config list_request.verb begun.good.format items 0 (exchange ∷ others)) begun.items
     (subst (λ (v : ListVerb). Followed config v begun.good.format begun.list.items 0 (exchange ∷ others)) begun.verb followed))
 
-chain_at : (config : Config) (state : RepoState) (timed : Timed) (commands : List Timed) (list_request : ListRequest) (first : Exchange) (others : List Exchange) → first ≡ performed config state timed
+chain_at : (config : RepositoryConfig) (state : RepoState) (timed : Timed) (commands : List Timed) (list_request : ListQuery) (first : Transition) (others : List Transition) → first ≡ performed config state timed
     → IsConfig config → IsSound config state → IsPart others (run config (performed config state timed).left commands) → is_of_records list_request.verb ≡ true → first.command ≡ first_request list_request
     → config.chunk < length (selection_in first.found list_request) → is_later first.outcome ≡ false → AreNext list_request.verb first others
     → (pages : List Page) × IsFollowedThrough config list_request (selection_in first.found list_request) (first ∷ others) pages
 chain_at config state timed commands list_request first others is good sound part verb asked many answered next =
     let shown = chain_here config state timed commands list_request others good sound part verb
-    (subst (λ (e : Exchange). e.command ≡ first_request list_request) is asked)
-    (subst (λ (e : Exchange). config.chunk < length (selection_in e.found list_request)) is many)
-    (subst (λ (e : Exchange). is_later e.outcome ≡ false) is answered)
-    (subst (λ (e : Exchange). AreNext list_request.verb e others) is next)
+    (subst (λ (e : Transition). e.command ≡ first_request list_request) is asked)
+    (subst (λ (e : Transition). config.chunk < length (selection_in e.found list_request)) is many)
+    (subst (λ (e : Transition). is_later e.outcome ≡ false) is answered)
+    (subst (λ (e : Transition). AreNext list_request.verb e others) is next)
     in
-    subst (λ (e : Exchange). (pages : List Page) × IsFollowedThrough config list_request (selection_in e.found list_request) (e ∷ others) pages) (sym is) shown
+    subst (λ (e : Transition). (pages : List Page) × IsFollowedThrough config list_request (selection_in e.found list_request) (e ∷ others) pages) (sym is) shown
 
 -- wherever it begins
-chain_from : (config : Config) (commands : List Timed) (state : RepoState) (list_request : ListRequest) (first : Exchange) (others : List Exchange) → IsConfig config → IsSound config state
+chain_from : (config : RepositoryConfig) (commands : List Timed) (state : RepoState) (list_request : ListQuery) (first : Transition) (others : List Transition) → IsConfig config → IsSound config state
     → IsPart (first ∷ others) (run config state commands) → is_of_records list_request.verb ≡ true → first.command ≡ first_request list_request
     → config.chunk < length (selection_in first.found list_request) → is_later first.outcome ≡ false → AreNext list_request.verb first others
     → (pages : List Page) × IsFollowedThrough config list_request (selection_in first.found list_request) (first ∷ others) pages
@@ -236,15 +237,15 @@ chain_from config (timed ∷ commands) state list_request first others good soun
     let is : first ∷ others ≡ performed config state timed ∷ here.0 = here.1 in
     let first_is : first ≡ performed config state timed = cc in
     let others_are : others ≡ here.0 = cc in
-    let part : IsPart others (run config later commands) = subst (λ (es : List Exchange). IsPart es (run config later commands)) (sym others_are) here.2 in
+    let part : IsPart others (run config later commands) = subst (λ (es : List Transition). IsPart es (run config later commands)) (sym others_are) here.2 in
     chain_at config state timed commands list_request first others first_is good sound part verb asked many answered next
 
-pub chain_followed : (config : Config) (commands : List Timed) (state : RepoState) (list_request : ListRequest) (first : Exchange) (others : List Exchange) → IsConfig config → IsSound config state
+pub chain_followed : (config : RepositoryConfig) (commands : List Timed) (state : RepoState) (list_request : ListQuery) (first : Transition) (others : List Transition) → IsConfig config → IsSound config state
     → IsChain config (run config state commands) list_request first others → (pages : List Page) × IsFollowedThrough config list_request (selection_in first.found list_request) (first ∷ others) pages
 chain_followed config commands state list_request first others good sound chain =
     chain_from config commands state list_request first others good sound chain.among chain.verb chain.asked chain.long chain.answered chain.next
 
 -- and whatever was asked of a repository from its beginning on
-pub following : (config : Config) (commands : List Timed) (list_request : ListRequest) (first : Exchange) (others : List Exchange) → IsConfig config
+pub following : (config : RepositoryConfig) (commands : List Timed) (list_request : ListQuery) (first : Transition) (others : List Transition) → IsConfig config
     → IsChain config (run config (empty_state config) commands) list_request first others → (pages : List Page) × IsFollowedThrough config list_request (selection_in first.found list_request) (first ∷ others) pages
 following config commands list_request first others good chain = chain_followed config commands (empty_state config) list_request first others good (sound_empty config) chain

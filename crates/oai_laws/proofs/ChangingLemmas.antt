@@ -23,14 +23,15 @@ use Rattle.oai_item.proofs.Named.{found_name, item_named-new, item_named-without
 use Rattle.oai_answers.specs.Answers.{Attributes}
 use Rattle.oai_item.specs.declared.deleted_record.DeletedRecord.{DeletedRecord}
 use Rattle.oai_item.specs.declared.deleted_record.DeletedRecord.TheVariants.{No, Transient, Persistent}
-use Rattle.oai_settings.specs.Config.{Config}
+use Rattle.oai_settings.specs.Config.{RepositoryConfig}
 use Rattle.oai_repo.specs.Answers.{arguments_of_request}
-use Rattle.oai_repo.specs.Changes.{after_deletion, after_purge, changed, dead_refusal, is_transient, limit_in, limit_of, missing_refusal, purge_refusal, purged, refusal_of, stamp_at, with_new, with_tombstone}
+use Rattle.oai_holdings.specs.Changes.{after_deletion, after_purge, changed, dead_refusal, is_transient, limit_in, limit_of, missing_refusal, purge_refusal, purged, refusal_of, stamp_at, with_new, with_tombstone}
 use Rattle.oai_repo.specs.Listing.{Response, request_response, with_answer, retry_after}
 use Rattle.oai_repo.specs.Machine.{Command, accepted, act, act_on_change, requesting, changing, outcome_of, refused_with, rejecting}
-use Rattle.oai_repo.specs.State.{Holdings, RepoState}
+use Rattle.oai_holdings.specs.Holdings.{Holdings}
+use Rattle.oai_repo.specs.State.{RepoState}
 use Rattle.oai_laws.specs.Changing.{DoesChange, IsDeleted, IsPurged, IsReplaced, Makes, left_over}
-use Rattle.oai_repo.proofs.KeptLemmas.{no_cause}
+use Rattle.oai_holdings.proofs.KeptLemmas.{no_cause}
 use Rattle.oai_laws.proofs.EffectLemmas.{not_not, of_transient, passed, was_live}
 
 -- what is held, with other items
@@ -132,7 +133,7 @@ purged_members limit items item =
       (λ h. contains_from (filter test items) item (kept.1 (member_from items item h.0, as_stays item.live item.stamp limit h.1))),
     )
 
-purge_makes : (config : Config) (text : List ℕ) (holdings : Holdings) → purge_refusal config text ≡ None
+purge_makes : (config : RepositoryConfig) (text : List ℕ) (holdings : Holdings) → purge_refusal config text ≡ None
     → IsPurged config.deleted text holdings (with_items holdings (after_purge (limit_of config.granularity text) holdings.items))
 unfolding purge_refusal
 purge_makes config text holdings none =
@@ -150,7 +151,7 @@ purge_makes config text holdings none =
 
 -- ---- a change
 
-makes : (config : Config) (stamp : ℤ) (asked : Change) (holdings : Holdings) → refusal_of config stamp holdings asked ≡ None → Makes config stamp asked holdings (changed config stamp holdings asked)
+makes : (config : RepositoryConfig) (stamp : ℤ) (asked : Change) (holdings : Holdings) → refusal_of config stamp holdings asked ≡ None → Makes config stamp asked holdings (changed config stamp holdings asked)
 unfolding refusal_of changed
 makes config stamp (change.Deposit identifier sets records) holdings none = put_replaced (live_item identifier stamp (reduced sets) records) holdings
 makes config stamp (change.Delete identifier) holdings none =
@@ -161,7 +162,7 @@ makes config stamp (change.Purge before) holdings none = purge_makes config befo
 makes config stamp (change.AddSet spec name) holdings none = (refl, refl)
 
 -- the state that is left, where the outcome is that it was accepted
-accepted_by : (config : Config) (state : RepoState) (asked : Change) (refusal : Option ChangeRefusal) (told : ℤ) → refusal_of config (stamp_at config state.clock) state.holdings asked ≡ refusal
+accepted_by : (config : RepositoryConfig) (state : RepoState) (asked : Change) (refusal : Option ChangeRefusal) (told : ℤ) → refusal_of config (stamp_at config state.clock) state.holdings asked ≡ refusal
     → (act_on_change config state (stamp_at config state.clock) asked refusal).0 ≡ accepted told
     → DoesChange config asked state (act_on_change config state (stamp_at config state.clock) asked refusal).1 told
 accepted_by config state asked (Some cause) told is h = cc
@@ -171,24 +172,24 @@ accepted_by config state asked None told is h =
     subst (λ (t : ℤ). DoesChange config asked state (record state { holdings = changed config stamp state.holdings asked }) t) same
     (record { dated = refl; made = makes config stamp asked state.holdings is })
 
-pub accepted_is : (config : Config) (state : RepoState) (asked : Change) (told : ℤ)
+pub accepted_is : (config : RepositoryConfig) (state : RepoState) (asked : Change) (told : ℤ)
     → (let done = act config state (changing asked) in done.0 ≡ accepted told → DoesChange config asked state done.1 told)
 unfolding act
 accepted_is config state asked told = accepted_by config state asked (refusal_of config (stamp_at config state.clock) state.holdings asked) told refl
 
 -- ---- a refusal
 
-refused_by : (config : Config) (state : RepoState) (asked : Change) (refusal : Option ChangeRefusal) (cause : Cause)
+refused_by : (config : RepositoryConfig) (state : RepoState) (asked : Change) (refusal : Option ChangeRefusal) (cause : Cause)
     → (act_on_change config state (stamp_at config state.clock) asked refusal).0 ≡ refused_with cause
     → (act_on_change config state (stamp_at config state.clock) asked refusal).1 ≡ state
 refused_by config state asked (Some other) cause h = refl
 refused_by config state asked None cause h = cc
 
-never_refused : (config : Config) (clock : ℤ) (asked : Attributes) (said : Response) (cause : Cause) → outcome_of config clock asked said ≡ refused_with cause → ⊥
+never_refused : (config : RepositoryConfig) (clock : ℤ) (asked : Attributes) (said : Response) (cause : Cause) → outcome_of config clock asked said ≡ refused_with cause → ⊥
 never_refused config clock asked (with_answer answer) cause h = cc
 never_refused config clock asked (retry_after seconds) cause h = cc
 
-pub refused_is : (config : Config) (state : RepoState) (command : Command) (cause : Cause)
+pub refused_is : (config : RepositoryConfig) (state : RepoState) (command : Command) (cause : Cause)
     → (let done = act config state command in done.0 ≡ refused_with cause → done.1 ≡ state)
 unfolding act
 refused_is config state (requesting request) cause = λ told. absurd (never_refused config state.clock (arguments_of_request request) (request_response config state request).0 cause told)

@@ -22,19 +22,19 @@ use Rattle.oai_lists.specs.declared.tokens.Token.{Token}
 use Rattle.oai_lists.proofs.Stops.{is_other, no_stop}
 use Rattle.oai_args.specs.Asks.{AskOrError, asks, bad_verb, bad_argument}
 use Rattle.oai_args.specs.declared.requests.Ask.TheVariants as ask
-use Rattle.oai_answers.specs.Answers.{Answer, Attributes, Continuation, Page, completes, fails, remains}
+use Rattle.oai_answers.specs.Answers.{Attributes, Continuation, Page, VerbAnswer, completes, fails, remains}
 use Rattle.oai_answers.specs.declared.errors.ErrorCode.TheVariants.{BadResumptionToken}
-use Rattle.oai_settings.specs.Config.{Config, IsConfig}
+use Rattle.oai_settings.specs.Config.{IsConfig, RepositoryConfig}
 use Rattle.oai_repo.specs.Answers.{arguments_of_request, disseminated, filter_of, formats_answer, item_formats_answer, record_answer, sets_answer}
-use Rattle.oai_repo.specs.Changes.{refusal_of, stamp_at}
+use Rattle.oai_holdings.specs.Changes.{refusal_of, stamp_at}
 use Rattle.oai_repo.specs.Listing.{Response, answer_by_verb, carried_on_at, complete_answer, continued_response, format_response, has_no_sets, is_continued, is_of_number, items_from, extent_at, new_list, opens_list, part_answer, part_from, prolonged, request_response, selection_response, token_response, wait_at, where_continued, with_answer}
 use Rattle.oai_repo.specs.Machine.{Command, Outcome, act, act_on_change, changing, outcome_of, rejecting, requesting}
 use Rattle.oai_repo.specs.Saved.{ended}
 use Rattle.oai_repo.specs.State.{FrozenList, OpenLists, RepoState, is_open_at, moved}
 use Rattle.oai_laws.specs.Effects.{Effect, IsPossible, IsSound, effected, is_given, item_put, item_taken, items_purged, list_carried_on, list_opened, set_added, unchanged}
-use Rattle.oai_laws.specs.Eras.{AreEnded, AreRefused, Era, HaveNumbers, left_behind, left_by_era, runs}
+use Rattle.oai_laws.specs.Eras.{AreEnded, AreOldTokensRefused, Era, HaveNumbers, left_behind, left_by_era, runs}
 use Rattle.oai_laws.specs.Following.{IsOffered, TokenOffer, WasOffered, answer_in, next_request, offer_in, page_in, page_shown}
-use Rattle.oai_laws.specs.Runs.{Exchange, Throughout, Timed, performed, run}
+use Rattle.oai_laws.specs.Runs.{Throughout, Timed, Transition, performed, run}
 use Rattle.oai_laws.proofs.EffectLemmas.{effect_of, same_number, sound_act, sound_moved}
 use Rattle.oai_laws.proofs.EndedLemmas.{sound_ended}
 use Rattle.oai_laws.proofs.OfferLemmas.{AreHanded, resumed_given, text_at}
@@ -77,10 +77,10 @@ abbrev ShowsBelow : ℕ → Outcome → Type 0
 ShowsBelow next outcome = (page : Page) → page_shown outcome ≡ Some page → OffersBelow next page
 
 -- below the number of the next list, once that is the response
-abbrev HandsBelow : Config → ℤ → Attributes → Response × OpenLists → Type 0
+abbrev HandsBelow : RepositoryConfig → ℤ → Attributes → Response × OpenLists → Type 0
 HandsBelow config clock asked done = ShowsBelow done.1.next (outcome_of config clock asked done.0)
 
-part_below : (config : Config) (list : FrozenList) (cursor next : ℕ) → list.number < 2 ^ 64 → list.number < next → OffersBelow next (part_from config list cursor)
+part_below : (config : RepositoryConfig) (list : FrozenList) (cursor next : ℕ) → list.number < 2 ^ 64 → list.number < next → OffersBelow next (part_from config list cursor)
 unfolding part_from
 part_below config list cursor next small below =
     let behind : ℕ = cursor + length (items_from config list cursor) in
@@ -93,29 +93,29 @@ part_below config list cursor next small below =
     subst (λ (n : ℕ). n < next) (sym (number_at list.number behind small) ∙ ap (λ (o : TokenOffer). number_in o.token) is) below)
     (λ _ offer offered. cc)
 
-page_below : (config : Config) (clock : ℤ) (asked : Attributes) (verb : ListVerb) (format : Format) (page : Page) (next : ℕ) → OffersBelow next page
+page_below : (config : RepositoryConfig) (clock : ℤ) (asked : Attributes) (verb : ListVerb) (format : Format) (page : Page) (next : ℕ) → OffersBelow next page
     → ShowsBelow next (outcome_of config clock asked (with_answer (answer_by_verb verb format page)))
 page_below config clock asked list.Identifiers format page next below = λ its told. let is : page ≡ its = cc in subst (OffersBelow next) is below
 page_below config clock asked list.Records format page next below = λ its told. let is : page ≡ its = cc in subst (OffersBelow next) is below
 page_below config clock asked list.Sets format page next below = λ its told. cc
 
-answered_below : (config : Config) (clock : ℤ) (asked : Attributes) (verb : ListVerb) (format : Option Format) (page : Page) (next : ℕ) → OffersBelow next page
+answered_below : (config : RepositoryConfig) (clock : ℤ) (asked : Attributes) (verb : ListVerb) (format : Option Format) (page : Page) (next : ℕ) → OffersBelow next page
     → ShowsBelow next (outcome_of config clock asked (with_answer (part_answer verb format page)))
 answered_below config clock asked verb None page next below = λ its told. cc
 answered_below config clock asked verb (Some format) page next below = page_below config clock asked verb format page next below
 
-whole_below : (config : Config) (clock : ℤ) (asked : Attributes) (verb : ListVerb) (format : Format) (items : List ItemState) (next : ℕ)
+whole_below : (config : RepositoryConfig) (clock : ℤ) (asked : Attributes) (verb : ListVerb) (format : Format) (items : List ItemState) (next : ℕ)
     → ShowsBelow next (outcome_of config clock asked (with_answer (complete_answer config verb format items)))
 whole_below config clock asked verb format [] next = λ its told. cc
 whole_below config clock asked verb format (item ∷ items) next = page_below config clock asked verb format _ next (λ offer offered. cc)
 
-begun_below : (config : Config) (clock : ℤ) (asked : Attributes) (open_lists : OpenLists) (format : Format) (list : FrozenList) (wait : Option ℤ) → open_lists.next ≤ LAST_NUMBER → list.number ≡ open_lists.next
+begun_below : (config : RepositoryConfig) (clock : ℤ) (asked : Attributes) (open_lists : OpenLists) (format : Format) (list : FrozenList) (wait : Option ℤ) → open_lists.next ≤ LAST_NUMBER → list.number ≡ open_lists.next
     → HandsBelow config clock asked (opens_list config open_lists format list wait)
 begun_below config clock asked open_lists format list (Some seconds) few is = λ its told. cc
 begun_below config clock asked open_lists format list None few is =
     page_below config clock asked list.verb format (part_from config list 0) (open_lists.next + 1) (part_below config list 0 (open_lists.next + 1) (omega (arith, few, is)) (omega (arith, is)))
 
-items_below : (config : Config) (clock : ℤ) (asked : Attributes) (open_lists : OpenLists) (verb : ListVerb) (format : Format) (items : List ItemState) → open_lists.next ≤ LAST_NUMBER
+items_below : (config : RepositoryConfig) (clock : ℤ) (asked : Attributes) (open_lists : OpenLists) (verb : ListVerb) (format : Format) (items : List ItemState) → open_lists.next ≤ LAST_NUMBER
     → HandsBelow config clock asked (selection_response config clock open_lists verb format items)
 unfolding selection_response
 items_below config clock asked open_lists verb format items few =
@@ -123,12 +123,12 @@ items_below config clock asked open_lists verb format items few =
     (λ _. whole_below config clock asked verb format items open_lists.next)
     (λ _. begun_below config clock asked open_lists format (new_list config clock open_lists verb format.prefix items) (wait_at config clock open_lists) few refl)
 
-format_below : (config : Config) (clock : ℤ) (asked : Attributes) (open_lists : OpenLists) (verb : ListVerb) (format : Option Format) (items : List ItemState) → open_lists.next ≤ LAST_NUMBER
+format_below : (config : RepositoryConfig) (clock : ℤ) (asked : Attributes) (open_lists : OpenLists) (verb : ListVerb) (format : Option Format) (items : List ItemState) → open_lists.next ≤ LAST_NUMBER
     → HandsBelow config clock asked (format_response config clock open_lists verb format items)
 format_below config clock asked open_lists verb None items few = λ its told. cc
 format_below config clock asked open_lists verb (Some format) items few = items_below config clock asked open_lists verb format items few
 
-found_below : (config : Config) (clock : ℤ) (asked : Attributes) (open_lists : OpenLists) (verb : ListVerb) (token : Token) (found : Option FrozenList) → open_lists.next ≤ LAST_NUMBER
+found_below : (config : RepositoryConfig) (clock : ℤ) (asked : Attributes) (open_lists : OpenLists) (verb : ListVerb) (token : Token) (found : Option FrozenList) → open_lists.next ≤ LAST_NUMBER
     → ((list : FrozenList) → found ≡ Some list → is_given open_lists.next list ≡ true)
     → HandsBelow config clock asked (continued_response config clock open_lists verb token.cursor (where_continued config verb token found))
 found_below config clock asked open_lists verb token None few given = λ its told. cc
@@ -140,7 +140,7 @@ found_below config clock asked open_lists verb token (Some list) few given =
     (part_below config (prolonged config clock list) token.cursor open_lists.next (omega (arith, below, few)) below))
     (λ _ its told. cc)
 
-token_below : (config : Config) (state : RepoState) (asked : Attributes) (verb : ListVerb) (token : Option Token) → IsSound config state
+token_below : (config : RepositoryConfig) (state : RepoState) (asked : Attributes) (verb : ListVerb) (token : Option Token) → IsSound config state
     → HandsBelow config state.clock asked (token_response config state.clock state.open_lists verb token)
 token_below config state asked verb None sound = λ its told. cc
 token_below config state asked verb (Some token) sound =
@@ -152,26 +152,26 @@ no_sets_page : (sets : List _) → page_in (sets_answer sets) ≡ None
 no_sets_page [] = refl
 no_sets_page (set ∷ sets) = refl
 
-no_formats_page : (config : Config) (found : Option ItemState) → page_in (item_formats_answer config found) ≡ None
+no_formats_page : (config : RepositoryConfig) (found : Option ItemState) → page_in (item_formats_answer config found) ≡ None
 no_formats_page config None = refl
-no_formats_page config (Some item) = cond_both item.live _ _ (λ (answer : Answer). page_in answer ≡ None) (λ _. refl) (λ _. refl)
+no_formats_page config (Some item) = cond_both item.live _ _ (λ (answer : VerbAnswer). page_in answer ≡ None) (λ _. refl) (λ _. refl)
 
-no_asked_page : (config : Config) (items : List ItemState) (identifier : Option (List ℕ)) → page_in (formats_answer config items identifier) ≡ None
+no_asked_page : (config : RepositoryConfig) (items : List ItemState) (identifier : Option (List ℕ)) → page_in (formats_answer config items identifier) ≡ None
 no_asked_page config items None = refl
 no_asked_page config items (Some identifier) = no_formats_page config (item_named identifier items)
 
-no_disseminated_page : (config : Config) (item : ItemState) (format : Option Format) → page_in (disseminated config item format) ≡ None
+no_disseminated_page : (config : RepositoryConfig) (item : ItemState) (format : Option Format) → page_in (disseminated config item format) ≡ None
 no_disseminated_page config item None = refl
-no_disseminated_page config item (Some format) = cond_both (has_record format.prefix item.formats) _ _ (λ (answer : Answer). page_in answer ≡ None) (λ _. refl) (λ _. refl)
+no_disseminated_page config item (Some format) = cond_both (has_record format.prefix item.formats) _ _ (λ (answer : VerbAnswer). page_in answer ≡ None) (λ _. refl) (λ _. refl)
 
-no_record_page : (config : Config) (found : Option ItemState) (prefix : List ℕ) → page_in (record_answer config found prefix) ≡ None
+no_record_page : (config : RepositoryConfig) (found : Option ItemState) (prefix : List ℕ) → page_in (record_answer config found prefix) ≡ None
 no_record_page config None prefix = refl
 no_record_page config (Some item) prefix = no_disseminated_page config item (format_named prefix config.formats)
 
-unshown : (config : Config) (clock : ℤ) (asked : Attributes) (open_lists : OpenLists) (answer : Answer) → page_in answer ≡ None → HandsBelow config clock asked (with_answer answer, open_lists)
+unshown : (config : RepositoryConfig) (clock : ℤ) (asked : Attributes) (open_lists : OpenLists) (answer : VerbAnswer) → page_in answer ≡ None → HandsBelow config clock asked (with_answer answer, open_lists)
 unshown config clock asked open_lists answer none = λ page told. let clash : None ≡ Some page = sym none ∙ told in cc
 
-request_below : (config : Config) (state : RepoState) (asked : Attributes) (request : AskOrError) → IsSound config state → HandsBelow config state.clock asked (request_response config state request)
+request_below : (config : RepositoryConfig) (state : RepoState) (asked : Attributes) (request : AskOrError) → IsSound config state → HandsBelow config state.clock asked (request_response config state request)
 request_below config state asked bad_verb sound = λ its told. cc
 request_below config state asked bad_argument sound = λ its told. cc
 request_below config state asked (asks ask.Identify) sound = λ its told. cc
@@ -184,12 +184,12 @@ request_below config state asked (asks (ask.List verb prefix from until set)) so
     (λ _. format_below config state.clock asked state.open_lists verb (format_named prefix config.formats) (selected (filter_of prefix from until set) state.holdings.items) sound.few)
 request_below config state asked (asks (ask.Resume verb token)) sound = token_below config state asked verb (token_of token) sound
 
-change_below : (config : Config) (state : RepoState) (stamp : ℤ) (change : Change) (refusal : Option ChangeRefusal) (next : ℕ) → ShowsBelow next (act_on_change config state stamp change refusal).0
+change_below : (config : RepositoryConfig) (state : RepoState) (stamp : ℤ) (change : Change) (refusal : Option ChangeRefusal) (next : ℕ) → ShowsBelow next (act_on_change config state stamp change refusal).0
 change_below config state stamp change (Some cause) next = λ its told. cc
 change_below config state stamp change None next = λ its told. cc
 
 -- what a command is answered offers no token but of a number below that of the next list
-command_below : (config : Config) (state : RepoState) (command : Command) → IsSound config state → ShowsBelow (act config state command).1.open_lists.next (act config state command).0
+command_below : (config : RepositoryConfig) (state : RepoState) (command : Command) → IsSound config state → ShowsBelow (act config state command).1.open_lists.next (act config state command).0
 unfolding act
 command_below config state (requesting request) sound = request_below config state (arguments_of_request request) request sound
 command_below config state (changing change) sound =
@@ -201,7 +201,7 @@ offered_below next token outcome shows is = subst (λ (text : List ℕ). number_
 
 -- ---- numbers do not fall
 
-next_effected : (config : Config) (state : RepoState) (effect : Effect) → IsPossible config state effect → state.open_lists.next ≤ (effected config state effect).open_lists.next
+next_effected : (config : RepositoryConfig) (state : RepoState) (effect : Effect) → IsPossible config state effect → state.open_lists.next ≤ (effected config state effect).open_lists.next
 next_effected config state unchanged possible = omega arith
 next_effected config state (item_put item) possible = omega arith
 next_effected config state (item_taken identifier) possible = omega arith
@@ -214,7 +214,7 @@ next_effected config state (list_opened list) possible = omega arith
 abbrev is_from : ℕ → FrozenList → Bool
 is_from from list = nat_le from list.number
 
-carried_from : (config : Config) (clock : ℤ) (number : ℕ) (next : Option ℕ) (from : ℕ) (lists : List FrozenList) → list_all (is_from from) lists ≡ true
+carried_from : (config : RepositoryConfig) (clock : ℤ) (number : ℕ) (next : Option ℕ) (from : ℕ) (lists : List FrozenList) → list_all (is_from from) lists ≡ true
     → list_all (is_from from) (map (carried_on_at config clock number next) lists) ≡ true
 carried_from config clock number next from [] h = refl
 carried_from config clock number next from (x ∷ lists) h =
@@ -228,7 +228,7 @@ record IsFrom (from : ℕ) (open_lists : OpenLists) : Type 0 where
   pub numbers : list_all (is_from from) open_lists.lists ≡ true
   pub next : from ≤ open_lists.next
 
-from_effected : (config : Config) (from : ℕ) (state : RepoState) (effect : Effect) → IsPossible config state effect → IsFrom from state.open_lists → IsFrom from (effected config state effect).open_lists
+from_effected : (config : RepositoryConfig) (from : ℕ) (state : RepoState) (effect : Effect) → IsPossible config state effect → IsFrom from state.open_lists → IsFrom from (effected config state effect).open_lists
 from_effected config from state unchanged possible h = h
 from_effected config from state (item_put item) possible h = h
 from_effected config from state (item_taken identifier) possible h = h
@@ -249,24 +249,24 @@ from_effected config from state (list_opened list) possible h = record {
 from_moved : (from : ℕ) (moment : ℤ) (state : RepoState) → IsFrom from state.open_lists → IsFrom from (moved moment state).open_lists
 from_moved from moment state h = record { numbers = all-filter (is_from from) (is_open_at (moved moment state).clock) state.open_lists.lists h.numbers; next = h.next }
 
-from_act : (config : Config) (from : ℕ) (state : RepoState) (command : Command) → IsSound config state → IsFrom from state.open_lists → IsFrom from (act config state command).1.open_lists
+from_act : (config : RepositoryConfig) (from : ℕ) (state : RepoState) (command : Command) → IsSound config state → IsFrom from state.open_lists → IsFrom from (act config state command).1.open_lists
 from_act config from state command sound h =
     let done = effect_of config state command sound in
     subst (λ (new : RepoState). IsFrom from new.open_lists) (sym done.done) (from_effected config from state done.effect done.possible h)
 
-next_act : (config : Config) (state : RepoState) (command : Command) → IsSound config state → state.open_lists.next ≤ (act config state command).1.open_lists.next
+next_act : (config : RepositoryConfig) (state : RepoState) (command : Command) → IsSound config state → state.open_lists.next ≤ (act config state command).1.open_lists.next
 next_act config state command sound =
     let done = effect_of config state command sound in
     subst (λ (new : RepoState). state.open_lists.next ≤ new.open_lists.next) (sym done.done) (next_effected config state done.effect done.possible)
 
 -- ---- along a run
 
-pub sound_left : (config : Config) (commands : List Timed) (state : RepoState) → IsSound config state → IsSound config (left_behind config state commands)
+pub sound_left : (config : RepositoryConfig) (commands : List Timed) (state : RepoState) → IsSound config state → IsSound config (left_behind config state commands)
 sound_left config [] state sound = sound
 sound_left config (timed ∷ commands) state sound =
     sound_left config commands (performed config state timed).left (sound_act config (moved timed.moment state) timed.command (sound_moved config timed.moment state sound))
 
-next_left : (config : Config) (commands : List Timed) (state : RepoState) → IsSound config state → state.open_lists.next ≤ (left_behind config state commands).open_lists.next
+next_left : (config : RepositoryConfig) (commands : List Timed) (state : RepoState) → IsSound config state → state.open_lists.next ≤ (left_behind config state commands).open_lists.next
 next_left config [] state sound = omega arith
 next_left config (timed ∷ commands) state sound =
     let found : RepoState = moved timed.moment state in
@@ -276,7 +276,7 @@ next_left config (timed ∷ commands) state sound =
     omega (arith, first, others)
 
 -- what was offered in a run has a number below that of the next list behind it
-run_below : (config : Config) (commands : List Timed) (state : RepoState) (token : List ℕ) → IsSound config state → WasOffered token (run config state commands)
+run_below : (config : RepositoryConfig) (commands : List Timed) (state : RepoState) (token : List ℕ) → IsSound config state → WasOffered token (run config state commands)
     → number_in token < (left_behind config state commands).open_lists.next
 run_below config [] state token sound none = absurd none
 run_below config (timed ∷ commands) state token sound (inl is) =
@@ -306,7 +306,7 @@ handed_from chunk from next (list ∷ lists) few given h =
 abbrev IsRefused : Outcome → Type 0
 IsRefused outcome = answer_in outcome ≡ Some (fails BadResumptionToken)
 
-refused_at : (config : Config) (from : ℕ) (state : RepoState) (verb : ListVerb) (token : List ℕ) → IsSound config state → IsFrom from state.open_lists → number_in token < from
+refused_at : (config : RepositoryConfig) (from : ℕ) (state : RepoState) (verb : ListVerb) (token : List ℕ) → IsSound config state → IsFrom from state.open_lists → number_in token < from
     → IsRefused (act config state (next_request verb token)).0
 refused_at config from state verb token sound h below = elim (tokens_shown config state verb token sound) [
   | inl refused ↦ refused
@@ -318,8 +318,8 @@ refused_at config from state verb token sound h below = elim (tokens_shown confi
       absurd (omega (arith, below, above))
 ]
 
-refused_from : (config : Config) (from : ℕ) (verb : ListVerb) (token : List ℕ) (commands : List Timed) (state : RepoState) → number_in token < from → IsSound config state → IsFrom from state.open_lists
-    → Throughout (λ (exchange : Exchange). exchange.command ≡ next_request verb token → IsRefused exchange.outcome) (run config state commands)
+refused_from : (config : RepositoryConfig) (from : ℕ) (verb : ListVerb) (token : List ℕ) (commands : List Timed) (state : RepoState) → number_in token < from → IsSound config state → IsFrom from state.open_lists
+    → Throughout (λ (exchange : Transition). exchange.command ≡ next_request verb token → IsRefused exchange.outcome) (run config state commands)
 refused_from config from verb token [] state below sound h = tt
 refused_from config from verb token (timed ∷ commands) state below sound h =
     let found : RepoState = moved timed.moment state in
@@ -332,8 +332,8 @@ refused_from config from verb token (timed ∷ commands) state below sound h =
 -- ---- over eras
 
 -- tokens of numbers below that one are refused in all of these eras
-all_refuse : (config : Config) (from : ℕ) (earlier : List Exchange) (eras : List Era) (state : RepoState) → ((token : List ℕ) → WasOffered token earlier → number_in token < from)
-    → IsSound config state → HaveNumbers config state eras → from ≤ state.open_lists.next → AllByRecursion (AreRefused earlier) (runs config state eras)
+all_refuse : (config : RepositoryConfig) (from : ℕ) (earlier : List Transition) (eras : List Era) (state : RepoState) → ((token : List ℕ) → WasOffered token earlier → number_in token < from)
+    → IsSound config state → HaveNumbers config state eras → from ≤ state.open_lists.next → AllByRecursion (AreOldTokensRefused earlier) (runs config state eras)
 all_refuse config from earlier [] state below sound numbers low = tt
 all_refuse config from earlier (era ∷ eras) state below sound numbers low =
     let begun : RepoState = ended era.raise state in
@@ -345,7 +345,7 @@ all_refuse config from earlier (era ∷ eras) state below sound numbers low =
     )
 
 -- a token that was handed out in an era is refused in each later one
-pub era_tokens_refused : (config : Config) (eras : List Era) (state : RepoState) → IsConfig config → IsSound config state → HaveNumbers config state eras → AreEnded (runs config state eras)
+pub era_tokens_refused : (config : RepositoryConfig) (eras : List Era) (state : RepoState) → IsConfig config → IsSound config state → HaveNumbers config state eras → AreEnded (runs config state eras)
 era_tokens_refused config [] state good sound numbers = tt
 era_tokens_refused config (era ∷ eras) state good sound numbers =
     let begun : RepoState = ended era.raise state in

@@ -17,15 +17,15 @@ use Rattle.oai_item.specs.Item.{ItemState}
 use Rattle.oai_item.specs.declared.formats.Format.{Format}
 use Rattle.oai_args.specs.Asks.{AskOrError, asks}
 use Rattle.oai_args.specs.declared.requests.Ask.TheVariants as ask
-use Rattle.oai_answers.specs.Answers.{Answer, Attributes, Continuation, Page, completes, remains}
+use Rattle.oai_answers.specs.Answers.{Attributes, Continuation, Page, VerbAnswer, completes, remains}
 use Rattle.oai_repo.specs.Answers.{arguments_of_request}
-use Rattle.oai_settings.specs.Config.{Config}
+use Rattle.oai_settings.specs.Config.{RepositoryConfig}
 use Rattle.oai_laws.specs.Effects.{IsSound, is_given}
 use Rattle.oai_args.specs.Verbs.{is_of_records}
 use Rattle.oai_laws.specs.Following.{AreLasting, ArePagesAt, AreNext, IsLasting, IsNextRequest, IsPageAt, TokenOffer, answer_in, are_complete, extent_in, is_later, joined, next_request, offer_in, page_in}
 use Rattle.oai_repo.specs.Listing.{Response, request_response, continued_response, carried_on, extent_at, highest_given, is_of_number, is_continued, is_handed_out, is_same_verb, is_valid_cursor, items_from, next_cursor, part_from, part_answer, prolonged, with_answer, answer_by_verb, token_response, retry_after, where_continued, with_carried_on}
 use Rattle.oai_repo.specs.Machine.{Command, act, requesting, outcome_of}
-use Rattle.oai_laws.specs.Runs.{Exchange, IsPart, Timed, performed, run}
+use Rattle.oai_laws.specs.Runs.{IsPart, Timed, Transition, performed, run}
 use Rattle.oai_repo.specs.State.{FrozenList, OpenLists, RepoState, moved}
 use Rattle.oai_laws.proofs.EffectLemmas.{effect_of, sound_act, sound_moved}
 use Rattle.oai_laws.proofs.StandLemmas.{IsThere, Stands, list_there, of_found, stands_carried_on, stands_effected, stands_moved}
@@ -57,7 +57,7 @@ none_behind (suc n) [] h = refl
 none_behind (suc n) (x ∷ xs) h = none_behind n xs (omega (arith, h))
 
 -- how many records stand before the next part
-unfoldable pub next_at : Config → FrozenList → ℕ → ℕ
+unfoldable pub next_at : RepositoryConfig → FrozenList → ℕ → ℕ
 next_at config list cursor = cursor + length (items_from config list cursor)
 
 -- the two ways in which a part ends
@@ -78,20 +78,20 @@ extent_told : (list : FrozenList) (cursor next : ℕ) (test : Bool) → extent_i
 extent_told list cursor next true = refl
 extent_told list cursor next false = refl
 
-pub part_items : (config : Config) (list : FrozenList) (cursor : ℕ) → (part_from config list cursor).items ≡ items_from config list cursor
+pub part_items : (config : RepositoryConfig) (list : FrozenList) (cursor : ℕ) → (part_from config list cursor).items ≡ items_from config list cursor
 unfolding part_from
 part_items config list cursor = refl
 
-part_ends : (config : Config) (list : FrozenList) (cursor : ℕ)
+part_ends : (config : RepositoryConfig) (list : FrozenList) (cursor : ℕ)
     → (part_from config list cursor).continuation ≡ by_rest list cursor (next_at config list cursor) (nat_lt (next_at config list cursor) (length list.items))
 unfolding part_from next_at
 part_ends config list cursor = refl
 
 -- whether records remain behind a part
-unfoldable pub remain : Config → FrozenList → ℕ → Bool
+unfoldable pub remain : RepositoryConfig → FrozenList → ℕ → Bool
 remain config list cursor = nat_lt (next_at config list cursor) (length list.items)
 
-part_offer : (config : Config) (list : FrozenList) (cursor : ℕ) → is_none (offer_in (part_from config list cursor).continuation) ≡ not (remain config list cursor)
+part_offer : (config : RepositoryConfig) (list : FrozenList) (cursor : ℕ) → is_none (offer_in (part_from config list cursor).continuation) ≡ not (remain config list cursor)
 unfolding remain
 part_offer config list cursor =
     ap (λ c. is_none (offer_in c)) (part_ends config list cursor) ∙ not_offered list cursor (next_at config list cursor) (nat_lt (next_at config list cursor) (length list.items))
@@ -99,11 +99,11 @@ part_offer config list cursor =
 is_left : (k n : ℕ) → not (nat_lt k n) ≡ false → k < n
 is_left k n h = grind (arith, nat_tests)
 
-part_dated : (config : Config) (list : FrozenList) (cursor : ℕ) → (part_from config list cursor).granularity ≡ config.granularity
+part_dated : (config : RepositoryConfig) (list : FrozenList) (cursor : ℕ) → (part_from config list cursor).granularity ≡ config.granularity
 unfolding part_from
 part_dated config list cursor = refl
 
-part_placed : (config : Config) (list : FrozenList) (cursor : ℕ) → 1 ≤ config.chunk → cursor < length list.items → IsPageAt config (length list.items) cursor (part_from config list cursor)
+part_placed : (config : RepositoryConfig) (list : FrozenList) (cursor : ℕ) → 1 ≤ config.chunk → cursor < length list.items → IsPageAt config (length list.items) cursor (part_from config list cursor)
 unfolding remain next_at
 part_placed config list cursor some within = record {
   extent = ap extent_in (part_ends config list cursor) ∙ extent_told list cursor (next_at config list cursor) (nat_lt (next_at config list cursor) (length list.items));
@@ -122,7 +122,7 @@ part_placed config list cursor some within = record {
 }
 
 -- the next part begins behind a multiple of `chunk` records, where this one does
-pub next_behind : (config : Config) (list : FrozenList) (cursor : ℕ) → remain config list cursor ≡ true → next_at config list cursor ≡ cursor + config.chunk
+pub next_behind : (config : RepositoryConfig) (list : FrozenList) (cursor : ℕ) → remain config list cursor ≡ true → next_at config list cursor ≡ cursor + config.chunk
 unfolding remain next_at
 next_behind config list cursor more =
     let within : cursor + length (items_from config list cursor) < length list.items = ltb-true (cursor + length (items_from config list cursor)) (length list.items) more in
@@ -141,7 +141,7 @@ is_given_out chunk given cursor some multiple below =
     (and_from (nat_lt 0 cursor) (eqb (cursor % chunk) 0) (lt-ltb 0 cursor (omega (arith, some))) (eq-eqb (cursor % chunk) 0 multiple)) (le-leb cursor given below)
 
 -- the token of a part is handed out once the part is answered
-next_given : (config : Config) (clock : ℤ) (list : FrozenList) (cursor : ℕ) → remain config list cursor ≡ true → next_at config list cursor ≤ (carried_on config clock (next_cursor config list cursor) list).given
+next_given : (config : RepositoryConfig) (clock : ℤ) (list : FrozenList) (cursor : ℕ) → remain config list cursor ≡ true → next_at config list cursor ≤ (carried_on config clock (next_cursor config list cursor) list).given
 unfolding remain next_at
 next_given config clock list cursor more =
     let next : ℕ = cursor + length (items_from config list cursor) in
@@ -151,12 +151,12 @@ next_given config clock list cursor more =
     subst (λ (n : ℕ). next ≤ n) (sym there) (le-max_right list.given next)
 
 -- the first token of a list
-pub first_given : (config : Config) (list : FrozenList) → list.given ≡ config.chunk → next_at config list 0 ≤ list.given
+pub first_given : (config : RepositoryConfig) (list : FrozenList) → list.given ≡ config.chunk → next_at config list 0 ≤ list.given
 unfolding next_at
 first_given config list is = let few = length-take config.chunk list.items in omega (arith, few, is)
 
 -- what a part offers behind which records remain
-pub part_offers : (config : Config) (list : FrozenList) (cursor : ℕ) → remain config list cursor ≡ true
+pub part_offers : (config : RepositoryConfig) (list : FrozenList) (cursor : ℕ) → remain config list cursor ≡ true
     → offer_in (part_from config list cursor).continuation ≡ Some (record { token = token_text (record { list = list.number; cursor = next_at config list cursor }); expires = list.end })
 unfolding remain
 part_offers config list cursor more =
@@ -164,7 +164,7 @@ part_offers config list cursor more =
     ∙ ap (λ (b : Bool). offer_in (by_rest list cursor (next_at config list cursor) b)) more
 
 -- a token lasts as long as its list
-part_lasting : (config : Config) (list : FrozenList) (cursor : ℕ) (exchange : Exchange) → list.end ≡ exchange.found.clock +ℤ pos config.lifetime → IsLasting config exchange (part_from config list cursor)
+part_lasting : (config : RepositoryConfig) (list : FrozenList) (cursor : ℕ) (exchange : Transition) → list.end ≡ exchange.found.clock +ℤ pos config.lifetime → IsLasting config exchange (part_from config list cursor)
 part_lasting config list cursor exchange lasting = λ offer offers.
     let is = offered_where list cursor (next_at config list cursor) (nat_lt (next_at config list cursor) (length list.items)) offer (ap offer_in (sym (part_ends config list cursor)) ∙ offers) in
     ap (λ (o : TokenOffer). o.expires) is.1 ∙ lasting
@@ -172,8 +172,8 @@ part_lasting config list cursor exchange lasting = λ offer offers.
 -- ---- the pages so far
 
 -- what a front of a chain that begins behind so many records is answered
-pub record IsTold (config : Config) (verb : ListVerb) (format : Format) (items : List ItemState) (cursor : ℕ) (exchanges : List Exchange) (pages : List Page) : Type 0 where
-  pub told : map (λ (exchange : Exchange). answer_in exchange.outcome) exchanges ≡ map (λ (page : Page). Some (answer_by_verb verb format page)) pages
+pub record IsTold (config : RepositoryConfig) (verb : ListVerb) (format : Format) (items : List ItemState) (cursor : ℕ) (exchanges : List Transition) (pages : List Page) : Type 0 where
+  pub told : map (λ (exchange : Transition). answer_in exchange.outcome) exchanges ≡ map (λ (page : Page). Some (answer_by_verb verb format page)) pages
   pub placed : ArePagesAt config (length items) cursor pages
   pub lasting : AreLasting config exchanges pages
   pub others : List ItemState
@@ -184,7 +184,7 @@ nothing_left : (k n : ℕ) → (not (nat_lt k n) || false) ≡ true → n ≤ k
 nothing_left k n h = grind (arith, nat_tests)
 
 -- one page, and what is behind it
-one_page : (config : Config) (list : FrozenList) (format : Format) (cursor : ℕ) (exchange : Exchange) → answer_in exchange.outcome ≡ Some (answer_by_verb list.verb format (part_from config list cursor))
+one_page : (config : RepositoryConfig) (list : FrozenList) (format : Format) (cursor : ℕ) (exchange : Transition) → answer_in exchange.outcome ≡ Some (answer_by_verb list.verb format (part_from config list cursor))
     → list.end ≡ exchange.found.clock +ℤ pos config.lifetime → 1 ≤ config.chunk → cursor < length list.items
     → IsTold config list.verb format list.items cursor (exchange ∷ []) (part_from config list cursor ∷ [])
 unfolding remain next_at
@@ -192,7 +192,7 @@ one_page config list format cursor exchange told lasting some within =
     let items : List ItemState = items_from config list cursor in
     let behind : List ItemState = drop (length items) (drop cursor list.items) in
     record {
-      told = ap (λ (a : Option Answer). a ∷ []) told;
+      told = ap (λ (a : Option VerbAnswer). a ∷ []) told;
       placed = (part_placed config list cursor some within, tt);
       lasting = (part_lasting config list cursor exchange lasting, tt);
       others = behind;
@@ -203,7 +203,7 @@ one_page config list format cursor exchange told lasting some within =
     }
 
 -- one page more, before others
-more_pages : (config : Config) (list : FrozenList) (format : Format) (cursor : ℕ) (exchange : Exchange) (exchanges : List Exchange) (pages : List Page)
+more_pages : (config : RepositoryConfig) (list : FrozenList) (format : Format) (cursor : ℕ) (exchange : Transition) (exchanges : List Transition) (pages : List Page)
     → answer_in exchange.outcome ≡ Some (answer_by_verb list.verb format (part_from config list cursor)) → list.end ≡ exchange.found.clock +ℤ pos config.lifetime → remain config list cursor ≡ true
     → 1 ≤ config.chunk → cursor < length list.items → IsTold config list.verb format list.items (next_at config list cursor) exchanges pages
     → IsTold config list.verb format list.items cursor (exchange ∷ exchanges) (part_from config list cursor ∷ pages)
@@ -215,7 +215,7 @@ more_pages config list format cursor exchange exchanges pages told lasting more 
     in
     record {
       told =
-          ap (λ (o : Option Answer). o ∷ map (λ (e : Exchange). answer_in e.outcome) exchanges) told
+          ap (λ (o : Option VerbAnswer). o ∷ map (λ (e : Transition). answer_in e.outcome) exchanges) told
           ∙ ap (λ ps. Some (answer_by_verb list.verb format (part_from config list cursor)) ∷ ps) later.told;
       placed = (part_placed config list cursor some within, placed_later);
       lasting = (part_lasting config list cursor exchange lasting, later.lasting);
@@ -243,7 +243,7 @@ told_page list.Sets format page h = cc
 
 -- what is needed of a list beside that it stands: its verb is one of records, its format is one of the repository, its size is a number of
 -- 64 bits, and a part may have some of its records
-pub record IsGood (config : Config) (list : FrozenList) : Type 0 where
+pub record IsGood (config : RepositoryConfig) (list : FrozenList) : Type 0 where
   pub format : Format
   pub verb : is_of_records list.verb ≡ true
   pub known : format_named list.prefix config.formats ≡ Some format
@@ -253,7 +253,7 @@ pub record IsGood (config : Config) (list : FrozenList) : Type 0 where
 numbered : (number next last : ℕ) → nat_lt number next ≡ true → next ≤ last → number < last + 1
 numbered number next last below few = grind (arith, nat_tests)
 
-small_number : (config : Config) (state : RepoState) (list : FrozenList) → IsSound config state → IsThere list state.open_lists → list.number < 2 ^ 64
+small_number : (config : RepositoryConfig) (state : RepoState) (list : FrozenList) → IsSound config state → IsThere list state.open_lists → list.number < 2 ^ 64
 small_number config state list sound there =
     numbered list.number state.open_lists.next LAST_NUMBER
     (of_found (is_of_number list.number) (is_given state.open_lists.next) state.open_lists.lists (list_there list state.open_lists there) there.4 sound.given) sound.few
@@ -266,17 +266,17 @@ token_read list cursor small within =
     token_of-is (asked_next list cursor) (record { list = list.number; cursor = cursor }) (record { list = small; cursor = within; spelled = refl })
 
 -- a part of a list does not depend on its end before, nor on what was handed out
-part_found : (config : Config) (clock : ℤ) (list : FrozenList) (cursor : ℕ) (end : ℤ) (given : ℕ)
+part_found : (config : RepositoryConfig) (clock : ℤ) (list : FrozenList) (cursor : ℕ) (end : ℤ) (given : ℕ)
     → part_from config (prolonged config clock (record list { end = end; given = given })) cursor ≡ part_from config (prolonged config clock list) cursor
 unfolding part_from
 part_found config clock list cursor end given = refl
 
-part_carried : (config : Config) (clock : ℤ) (next : Option ℕ) (list : FrozenList) (cursor : ℕ) → part_from config (prolonged config clock list) cursor ≡ part_from config (carried_on config clock next list) cursor
+part_carried : (config : RepositoryConfig) (clock : ℤ) (next : Option ℕ) (list : FrozenList) (cursor : ℕ) → part_from config (prolonged config clock list) cursor ≡ part_from config (carried_on config clock next list) cursor
 unfolding part_from
 part_carried config clock next list cursor = refl
 
 -- the token of a list that is there, by its verb, of a record that it has, and with a cursor that was handed out
-answered_next : (config : Config) (state : RepoState) (list : FrozenList) (cursor : ℕ) (good : IsGood config list) → IsSound config state → IsThere list state.open_lists → cursor < length list.items
+answered_next : (config : RepositoryConfig) (state : RepoState) (list : FrozenList) (cursor : ℕ) (good : IsGood config list) → IsSound config state → IsThere list state.open_lists → cursor < length list.items
     → 1 ≤ cursor → cursor % config.chunk ≡ 0 → cursor ≤ list.given
     → request_response config state (asks (ask.Resume list.verb (asked_next list cursor)))
     ≡ (with_answer (answer_by_verb list.verb good.format (part_from config (prolonged config state.clock list) cursor)), with_carried_on config state.clock list.number (next_cursor config list cursor) state.open_lists)
@@ -301,19 +301,19 @@ answered_next config state list cursor good sound there within some multiple bel
 -- ---- one request of a chain
 
 -- the answer of what is said, if it is one
-abbrev pub answer_said : Response → Option Answer
+abbrev pub answer_said : Response → Option VerbAnswer
 answer_said (with_answer answer) = Some answer
 answer_said (retry_after seconds) = None
 
-said_answer : (config : Config) (clock : ℤ) (asked : Attributes) (said : Response) → answer_in (outcome_of config clock asked said) ≡ answer_said said
+said_answer : (config : RepositoryConfig) (clock : ℤ) (asked : Attributes) (said : Response) → answer_in (outcome_of config clock asked said) ≡ answer_said said
 said_answer config clock asked (with_answer answer) = refl
 said_answer config clock asked (retry_after seconds) = refl
 
-said_later : (config : Config) (clock : ℤ) (asked : Attributes) (seconds : ℤ) → is_later (outcome_of config clock asked (retry_after seconds)) ≡ true
+said_later : (config : RepositoryConfig) (clock : ℤ) (asked : Attributes) (seconds : ℤ) → is_later (outcome_of config clock asked (retry_after seconds)) ≡ true
 said_later config clock asked seconds = refl
 
 -- a request that is answered so, and with these lists open then
-pub asked_page : (config : Config) (state : RepoState) (command : Command) (request : AskOrError) (said : Response) (open_lists : OpenLists) → command ≡ requesting request → request_response config state request ≡ (said, open_lists)
+pub asked_page : (config : RepositoryConfig) (state : RepoState) (command : Command) (request : AskOrError) (said : Response) (open_lists : OpenLists) → command ≡ requesting request → request_response config state request ≡ (said, open_lists)
     → (answer_in (act config state command).0 ≡ answer_said said) × ((act config state command).1 ≡ record state { open_lists = open_lists })
 unfolding act
 asked_page config state command request said open_lists is answer =
@@ -324,7 +324,7 @@ asked_page config state command request said open_lists is answer =
     (ap (λ (c : Command). answer_in (act config state c).0) is ∙ told, ap (λ (c : Command). (act config state c).1) is ∙ left)
 
 -- one that is told to wait is
-pub asked_later : (config : Config) (state : RepoState) (command : Command) (request : AskOrError) (seconds : ℤ) (open_lists : OpenLists) → command ≡ requesting request
+pub asked_later : (config : RepositoryConfig) (state : RepoState) (command : Command) (request : AskOrError) (seconds : ℤ) (open_lists : OpenLists) → command ≡ requesting request
     → request_response config state request ≡ (retry_after seconds, open_lists) → is_later (act config state command).0 ≡ true
 unfolding act
 asked_later config state command request seconds open_lists is answer =
@@ -332,7 +332,7 @@ asked_later config state command request seconds open_lists is answer =
     ∙ ap (λ (done : Response × OpenLists). is_later (outcome_of config state.clock (arguments_of_request request) done.0)) answer
 
 -- the next request of a chain, by the token of the page before it
-turned : (config : Config) (state : RepoState) (command : Command) (list : FrozenList) (cursor : ℕ) (good : IsGood config list) → IsSound config state → Stands config list state
+turned : (config : RepositoryConfig) (state : RepoState) (command : Command) (list : FrozenList) (cursor : ℕ) (good : IsGood config list) → IsSound config state → Stands config list state
     → command ≡ next_request list.verb (asked_next list cursor) → cursor < length list.items → int_lt state.clock list.end ≡ true → 1 ≤ cursor → cursor % config.chunk ≡ 0 → cursor ≤ list.given
     → (let after = carried_on config state.clock (next_cursor config list cursor) list in
     (answer_in (act config state command).0 ≡ Some (answer_by_verb list.verb good.format (part_from config after cursor))) × Stands config after (act config state command).1)
@@ -345,7 +345,7 @@ turned config state command list cursor good sound stands is within before some 
     )
 
 -- the list goes on standing where another command comes
-stands_on : (config : Config) (state : RepoState) (command : Command) (list : FrozenList) → IsSound config state → Stands config list state → Stands config list (act config state command).1
+stands_on : (config : RepositoryConfig) (state : RepoState) (command : Command) (list : FrozenList) → IsSound config state → Stands config list state → Stands config list (act config state command).1
 stands_on config state command list sound stands =
     let done = effect_of config state command sound in
     subst (Stands config list) (sym done.done) (stands_effected config list state done.effect stands)
@@ -353,7 +353,7 @@ stands_on config state command list sound stands =
 -- ---- a chain behind a page
 
 -- what the exchange after a page asks for
-next_asked : (config : Config) (list : FrozenList) (good : IsGood config list) (cursor : ℕ) (before after : Exchange)
+next_asked : (config : RepositoryConfig) (list : FrozenList) (good : IsGood config list) (cursor : ℕ) (before after : Transition)
     → answer_in before.outcome ≡ Some (answer_by_verb list.verb good.format (part_from config list cursor)) → IsNextRequest list.verb before after
     → (remain config list cursor ≡ true) × (after.command ≡ next_request list.verb (asked_next list (next_at config list cursor))) × (int_lt after.found.clock list.end ≡ true)
 unfolding remain
@@ -371,25 +371,25 @@ next_asked config list good cursor before after told next =
       ap (λ (o : TokenOffer). int_lt after.found.clock o.expires) (sym is.1) ∙ next.unexpired,
     )
 
-remains_within : (config : Config) (list : FrozenList) (cursor : ℕ) → remain config list cursor ≡ true → nat_lt (next_at config list cursor) (length list.items) ≡ true
+remains_within : (config : RepositoryConfig) (list : FrozenList) (cursor : ℕ) → remain config list cursor ≡ true → nat_lt (next_at config list cursor) (length list.items) ≡ true
 unfolding remain
 remains_within config list cursor h = h
 
 -- the same of the list as it is then
-next_given' : (config : Config) (clock : ℤ) (list : FrozenList) (cursor : ℕ)
+next_given' : (config : RepositoryConfig) (clock : ℤ) (list : FrozenList) (cursor : ℕ)
     → (let after = carried_on config clock (next_cursor config list cursor) list in remain config after cursor ≡ true → next_at config after cursor ≤ after.given)
 unfolding remain next_at
 next_given' config clock list cursor more = next_given config clock list cursor more
 
 -- the pages of those that follow a page, and of it
-abbrev pub Followed : Config → ListVerb → Format → List ItemState → ℕ → List Exchange → Type 0
+abbrev pub Followed : RepositoryConfig → ListVerb → Format → List ItemState → ℕ → List Transition → Type 0
 Followed config verb format items cursor exchanges = (pages : List Page) × IsTold config verb format items cursor exchanges pages
 
-pub follow : (config : Config) (commands : List Timed) (state : RepoState) (list : FrozenList) (cursor : ℕ) (before : Exchange) (others : List Exchange)
+pub follow : (config : RepositoryConfig) (commands : List Timed) (state : RepoState) (list : FrozenList) (cursor : ℕ) (before : Transition) (others : List Transition)
     (good : IsGood config list) → IsSound config state → Stands config list state → cursor < length list.items → cursor % config.chunk ≡ 0 → (remain config list cursor ≡ true → next_at config list cursor ≤ list.given)
     → answer_in before.outcome ≡ Some (answer_by_verb list.verb good.format (part_from config list cursor)) → list.end ≡ before.found.clock +ℤ pos config.lifetime → IsPart others (run config state commands) → AreNext list.verb before others → Followed config list.verb good.format list.items cursor (before ∷ others)
 follow config [] state list cursor before others good sound stands within multiple given told lasting none next =
-    subst (λ (es : List Exchange). Followed config list.verb good.format list.items cursor (before ∷ es)) (sym none) (part_from config list cursor ∷ [], one_page config list good.format cursor before told lasting good.part within)
+    subst (λ (es : List Transition). Followed config list.verb good.format list.items cursor (before ∷ es)) (sym none) (part_from config list cursor ∷ [], one_page config list good.format cursor before told lasting good.part within)
 follow config (timed ∷ commands) state list cursor before others good sound stands within multiple given told lasting (inl part) next =
     let found : RepoState = moved timed.moment state in
     let sound_found = sound_moved config timed.moment state sound in
@@ -398,7 +398,7 @@ follow config (timed ∷ commands) state list cursor before others good sound st
     (stands_on config found timed.command list sound_found stands_found) within multiple given told lasting part next
 follow config (timed ∷ commands) state list cursor before others good sound stands within multiple given told lasting (inr here) next =
     let found : RepoState = moved timed.moment state in
-    let exchange : Exchange = performed config state timed in
+    let exchange : Transition = performed config state timed in
     let sound_found = sound_moved config timed.moment state sound in
     let stands_found = stands_moved config list timed.moment state stands in
     let nexts : AreNext list.verb before (exchange ∷ here.0) = subst (AreNext list.verb before) here.1 next in
@@ -414,5 +414,5 @@ follow config (timed ∷ commands) state list cursor before others good sound st
     let later = follow config commands exchange.left list' next' exchange here.0 (record { format = good.format; verb = good.verb; known = good.known; small = good.small; part = good.part })
     (sound_act config found timed.command sound_found) turn.1 more multiple' (λ left. next_given' config found.clock list next' left) turn.0 refl here.2 nexts.1
     in
-    subst (λ (es : List Exchange). Followed config list.verb good.format list.items cursor (before ∷ es)) (sym here.1)
+    subst (λ (es : List Transition). Followed config list.verb good.format list.items cursor (before ∷ es)) (sym here.1)
     (part_from config list cursor ∷ later.0, more_pages config list good.format cursor before (exchange ∷ here.0) later.0 told lasting asked.0 good.part within later.1)

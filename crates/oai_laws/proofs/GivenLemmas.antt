@@ -8,27 +8,27 @@ use Rattle.std.proofs.lemmas.List.{map-append}
 use Rattle.std.proofs.lemmas.List.Elements.{filter-append}
 use Rattle.oai_names.specs.Names.{is_one_of}
 use Rattle.oai_lists.specs.declared.lists.TheConstants.{LAST_NUMBER}
-use Rattle.oai_settings.specs.Config.{Config}
+use Rattle.oai_settings.specs.Config.{RepositoryConfig}
 use Rattle.oai_laws.specs.Effects.{Effect, IsPossible, IsSound, effected, is_given, item_put, item_taken, items_purged, list_carried_on, list_opened, set_added, unchanged}
 use Rattle.oai_laws.specs.Eras.{left_behind}
 use Rattle.oai_repo.specs.Listing.{carried_on_at, with_carried_on}
-use Rattle.oai_laws.specs.Runs.{Exchange, Throughout, Timed, are_never_last, numbers_rise_strictly, given_in, numbers_given, numbers_open, performed, run}
+use Rattle.oai_laws.specs.Runs.{Transition, Throughout, Timed, are_never_last, numbers_rise_strictly, given_in, numbers_given, numbers_open, performed, run}
 use Rattle.oai_repo.specs.State.{FrozenList, RepoState, empty_state, moved}
 use Rattle.oai_laws.proofs.EffectLemmas.{effect_of, number_left, same_number, sound_act, sound_empty, sound_moved}
 
 -- ---- every state of a run is sound
 
-abbrev pub IsSoundExchange : Config → Exchange → Type 0
+abbrev pub IsSoundExchange : RepositoryConfig → Transition → Type 0
 IsSoundExchange config exchange = IsSound config exchange.found × IsSound config exchange.left
 
-sound_from : (config : Config) (commands : List Timed) (state : RepoState) → IsSound config state → Throughout (IsSoundExchange config) (run config state commands)
+sound_from : (config : RepositoryConfig) (commands : List Timed) (state : RepoState) → IsSound config state → Throughout (IsSoundExchange config) (run config state commands)
 sound_from config [] state sound = tt
 sound_from config (timed ∷ commands) state sound =
     let found = sound_moved config timed.moment state sound in
     let left = sound_act config (moved timed.moment state) timed.command found in
     ((found, left), sound_from config commands (performed config state timed).left left)
 
-pub sound_throughout : (config : Config) (commands : List Timed) → Throughout (IsSoundExchange config) (run config (empty_state config) commands)
+pub sound_throughout : (config : RepositoryConfig) (commands : List Timed) → Throughout (IsSoundExchange config) (run config (empty_state config) commands)
 sound_throughout config commands = sound_from config commands (empty_state config) (sound_empty config)
 
 -- ---- the numbers that one exchange gives
@@ -78,7 +78,7 @@ one_given next list lists is h =
     ∙ ap (λ ns. ns ++ filter test (next ∷ [])) (none_given numbers numbers refl)
     ∙ cond-true (test next) (next ∷ []) [] (ap not (ungiven next lists h))
 
-carried_numbers : (config : Config) (clock : ℤ) (number : ℕ) (next : Option ℕ) (lists : List FrozenList)
+carried_numbers : (config : RepositoryConfig) (clock : ℤ) (number : ℕ) (next : Option ℕ) (lists : List FrozenList)
     → map (λ (l : FrozenList). l.number) (map (carried_on_at config clock number next) lists) ≡ map (λ (l : FrozenList). l.number) lists
 carried_numbers config clock number next [] = refl
 carried_numbers config clock number next (x ∷ lists) =
@@ -92,7 +92,7 @@ IsGiving old given new = ((given ≡ []) × (new ≡ old)) ⊎ ((given ≡ old �
 abbrev new_numbers : RepoState → RepoState → List ℕ
 new_numbers old new = filter (λ n. not (is_one_of (numbers_open old.open_lists) n)) (numbers_open new.open_lists)
 
-given_by : (config : Config) (state : RepoState) (effect : Effect) → IsPossible config state effect → IsSound config state
+given_by : (config : RepositoryConfig) (state : RepoState) (effect : Effect) → IsPossible config state effect → IsSound config state
     → IsGiving state.open_lists.next (new_numbers state (effected config state effect)) (effected config state effect).open_lists.next
 given_by config state unchanged possible sound = inl (none_given (numbers_open state.open_lists) (numbers_open state.open_lists) refl, refl)
 given_by config state (item_put item) possible sound = inl (none_given (numbers_open state.open_lists) (numbers_open state.open_lists) refl, refl)
@@ -109,7 +109,7 @@ given_by config state (list_opened list) possible sound = inr (
   number_left config state.clock state.open_lists possible.admitted sound.few,
 )
 
-given_at : (config : Config) (state : RepoState) (timed : Timed) → IsSound config state → IsGiving state.open_lists.next (given_in (performed config state timed)) (performed config state timed).left.open_lists.next
+given_at : (config : RepositoryConfig) (state : RepoState) (timed : Timed) → IsSound config state → IsGiving state.open_lists.next (given_in (performed config state timed)) (performed config state timed).left.open_lists.next
 given_at config state timed sound =
     let found : RepoState = moved timed.moment state in
     let sound_found = sound_moved config timed.moment state sound in
@@ -161,11 +161,11 @@ joined_given old new given numbers (inr one) later =
     subst (λ (ns : List ℕ). AreGiven old (ns ++ numbers)) (sym one.0) (with_first old numbers one.2 (subst (λ (n : ℕ). AreGiven n numbers) one.1 later))
 
 -- those of a run, and others that are given after it
-pub given_then : (config : Config) (commands : List Timed) (state : RepoState) (later : List ℕ) → IsSound config state → AreGiven (left_behind config state commands).open_lists.next later
+pub given_then : (config : RepositoryConfig) (commands : List Timed) (state : RepoState) (later : List ℕ) → IsSound config state → AreGiven (left_behind config state commands).open_lists.next later
     → AreGiven state.open_lists.next (numbers_given (run config state commands) ++ later)
 given_then config [] state later sound given = given
 given_then config (timed ∷ commands) state later sound given =
-    let exchange : Exchange = performed config state timed in
+    let exchange : Transition = performed config state timed in
     let left = sound_act config (moved timed.moment state) timed.command (sound_moved config timed.moment state sound) in
     let others : List ℕ = numbers_given (run config exchange.left commands) in
     subst (AreGiven state.open_lists.next) (sym (append_assoc (given_in exchange) others later))
@@ -174,13 +174,13 @@ given_then config (timed ∷ commands) state later sound given =
 pub none_are_given : (next : ℕ) → AreGiven next []
 none_are_given next = record { above = refl; rising = refl; never_last = refl }
 
-given_from : (config : Config) (commands : List Timed) (state : RepoState) → IsSound config state → AreGiven state.open_lists.next (numbers_given (run config state commands))
+given_from : (config : RepositoryConfig) (commands : List Timed) (state : RepoState) → IsSound config state → AreGiven state.open_lists.next (numbers_given (run config state commands))
 given_from config commands state sound =
     subst (AreGiven state.open_lists.next) (append-nil (numbers_given (run config state commands)))
     (given_then config commands state [] sound (none_are_given (left_behind config state commands).open_lists.next))
 
-pub numbers_rise : (config : Config) (commands : List Timed) → numbers_rise_strictly (numbers_given (run config (empty_state config) commands)) ≡ true
+pub numbers_rise : (config : RepositoryConfig) (commands : List Timed) → numbers_rise_strictly (numbers_given (run config (empty_state config) commands)) ≡ true
 numbers_rise config commands = (given_from config commands (empty_state config) (sound_empty config)).rising
 
-pub never_the_last : (config : Config) (commands : List Timed) → are_never_last (numbers_given (run config (empty_state config) commands)) ≡ true
+pub never_the_last : (config : RepositoryConfig) (commands : List Timed) → are_never_last (numbers_given (run config (empty_state config) commands)) ≡ true
 never_the_last config commands = (given_from config commands (empty_state config) (sound_empty config)).never_last

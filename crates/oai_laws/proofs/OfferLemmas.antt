@@ -20,15 +20,15 @@ use Rattle.oai_args.specs.Asks.{AskOrError, asks, bad_verb, bad_argument}
 use Rattle.oai_args.specs.declared.requests.Ask.TheVariants as ask
 use Rattle.oai_answers.specs.Answers.{Attributes, Page, fails, identifies}
 use Rattle.oai_answers.specs.declared.errors.ErrorCode.TheVariants.{BadArgument, BadResumptionToken, BadVerb, CannotDisseminateFormat, NoSetHierarchy}
-use Rattle.oai_settings.specs.Config.{Config, IsConfig}
+use Rattle.oai_settings.specs.Config.{IsConfig, RepositoryConfig}
 use Rattle.oai_repo.specs.Answers.{arguments_of_request, description, filter_of, formats_answer, record_answer, sets_answer}
 use Rattle.oai_repo.specs.Listing.{Response, answer_by_verb, carried_on, carried_on_at, continued_response, complete_answer, format_response, has_no_sets, highest_given, is_continued, is_handed_out, is_of_number, is_same_verb, is_valid_cursor, new_list, next_cursor, opens_list, part_answer, part_from, prolonged, request_response, retry_after, selection_response, token_response, wait_at, where_continued, with_answer}
 use Rattle.oai_repo.specs.Machine.{Command, Outcome, act, changing, outcome_of, rejecting, requesting}
 use Rattle.oai_repo.specs.State.{FrozenList, OpenLists, RepoState, empty_state, is_open_at, moved}
-use Rattle.oai_laws.specs.Effects.{IsSound, is_of_format}
+use Rattle.oai_laws.specs.Effects.{IsSound, is_frozen_of_format}
 use Rattle.oai_args.specs.Verbs.{is_of_records}
 use Rattle.oai_laws.specs.Following.{IsOffered, WasOffered, next_request, page_shown}
-use Rattle.oai_laws.specs.Runs.{Exchange, Timed, performed, run}
+use Rattle.oai_laws.specs.Runs.{Timed, Transition, performed, run}
 use Rattle.oai_laws.proofs.ChainLemmas.{some_in_part}
 use Rattle.oai_laws.proofs.EffectLemmas.{sound_act, sound_empty, sound_moved}
 use Rattle.oai_laws.proofs.FollowLemmas.{next_at, next_behind, part_offers, remain, told_page}
@@ -96,7 +96,7 @@ raised P chunk number given (Some cursor) more h = λ k some below. elim (upto_e
   | inr high ↦ more k some high
 ]
 
-carried : (P : List ℕ → Type 0) (config : Config) (clock : ℤ) (number : ℕ) (next : Option ℕ) (lists : List FrozenList) → MayGive P config.chunk number next → AreHanded P config.chunk lists
+carried : (P : List ℕ → Type 0) (config : RepositoryConfig) (clock : ℤ) (number : ℕ) (next : Option ℕ) (lists : List FrozenList) → MayGive P config.chunk number next → AreHanded P config.chunk lists
     → AreHanded P config.chunk (map (carried_on_at config clock number next) lists)
 carried P config clock number next [] more h = tt
 carried P config clock number next (x ∷ lists) more h = (
@@ -158,14 +158,14 @@ handed_multiple chunk given cursor h =
 abbrev pub OrOffered : (List ℕ → Type 0) → Outcome → List ℕ → Type 0
 OrOffered P outcome text = P text ⊎ IsOffered text outcome
 
-abbrev pub HandsOut : (List ℕ → Type 0) → Config → ℤ → Attributes → Response × OpenLists → Type 0
+abbrev pub HandsOut : (List ℕ → Type 0) → RepositoryConfig → ℤ → Attributes → Response × OpenLists → Type 0
 HandsOut P config clock asked done = AreHanded (OrOffered P (outcome_of config clock asked done.0)) config.chunk done.1.lists
 
-same_lists : (P : List ℕ → Type 0) (config : Config) (clock : ℤ) (asked : Attributes) (response : Response) (open_lists : OpenLists) → AreHanded P config.chunk open_lists.lists → HandsOut P config clock asked (response, open_lists)
+same_lists : (P : List ℕ → Type 0) (config : RepositoryConfig) (clock : ℤ) (asked : Attributes) (response : Response) (open_lists : OpenLists) → AreHanded P config.chunk open_lists.lists → HandsOut P config clock asked (response, open_lists)
 same_lists P config clock asked response open_lists h = weaker P (OrOffered P (outcome_of config clock asked response)) config.chunk (λ text was. inl was) open_lists.lists h
 
 -- a page of a list behind which records remain
-page_offers : (config : Config) (outcome : Outcome) (list : FrozenList) (cursor : ℕ) → page_shown outcome ≡ Some (part_from config list cursor) → remain config list cursor ≡ true
+page_offers : (config : RepositoryConfig) (outcome : Outcome) (list : FrozenList) (cursor : ℕ) → page_shown outcome ≡ Some (part_from config list cursor) → remain config list cursor ≡ true
     → IsOffered (text_at list.number (next_at config list cursor)) outcome
 page_offers config outcome list cursor told more = record {
   page = part_from config list cursor;
@@ -176,11 +176,11 @@ page_offers config outcome list cursor told more = record {
 }
 
 -- the first part of a list that is longer
-first_next : (config : Config) (list : FrozenList) → config.chunk < length list.items → remain config list 0 ≡ true
+first_next : (config : RepositoryConfig) (list : FrozenList) → config.chunk < length list.items → remain config list 0 ≡ true
 unfolding remain next_at
 first_next config list many = let few = length-take config.chunk list.items in lt-ltb (0 + length (take config.chunk list.items)) (length list.items) (omega (arith, few, many))
 
-begun_hands : (P : List ℕ → Type 0) (config : Config) (clock : ℤ) (asked : Attributes) (open_lists : OpenLists) (format : Format) (list : FrozenList) (wait : Option ℤ) → 1 ≤ config.chunk → config.chunk < length list.items → list.given ≡ config.chunk
+begun_hands : (P : List ℕ → Type 0) (config : RepositoryConfig) (clock : ℤ) (asked : Attributes) (open_lists : OpenLists) (format : Format) (list : FrozenList) (wait : Option ℤ) → 1 ≤ config.chunk → config.chunk < length list.items → list.given ≡ config.chunk
     → AreHanded P config.chunk open_lists.lists → HandsOut P config clock asked (opens_list config open_lists format list wait)
 begun_hands P config clock asked open_lists format list (Some seconds) part many given h = same_lists P config clock asked (retry_after seconds) open_lists h
 begun_hands P config clock asked open_lists format list None part many given h =
@@ -193,7 +193,7 @@ begun_hands P config clock asked open_lists format list None part many given h =
     let at : next_at config list 0 ≡ k * config.chunk = omega (arith, is, next) in
     inr (subst (λ (n : ℕ). IsOffered (text_at list.number n) outcome) at (page_offers config outcome list 0 (told_page list.verb format (part_from config list 0) verb) more)))
 
-items_hand : (P : List ℕ → Type 0) (config : Config) (clock : ℤ) (asked : Attributes) (open_lists : OpenLists) (verb : ListVerb) (format : Format) (items : List ItemState) → 1 ≤ config.chunk
+items_hand : (P : List ℕ → Type 0) (config : RepositoryConfig) (clock : ℤ) (asked : Attributes) (open_lists : OpenLists) (verb : ListVerb) (format : Format) (items : List ItemState) → 1 ≤ config.chunk
     → AreHanded P config.chunk open_lists.lists → HandsOut P config clock asked (selection_response config clock open_lists verb format items)
 unfolding selection_response
 items_hand P config clock asked open_lists verb format items part h =
@@ -201,13 +201,13 @@ items_hand P config clock asked open_lists verb format items part h =
     (λ _. same_lists P config clock asked (with_answer (complete_answer config verb format items)) open_lists h)
     (λ many. begun_hands P config clock asked open_lists format (new_list config clock open_lists verb format.prefix items) (wait_at config clock open_lists) part (leb-false (length items) config.chunk many) refl h)
 
-format_hands : (P : List ℕ → Type 0) (config : Config) (clock : ℤ) (asked : Attributes) (open_lists : OpenLists) (verb : ListVerb) (format : Option Format) (items : List ItemState) → 1 ≤ config.chunk
+format_hands : (P : List ℕ → Type 0) (config : RepositoryConfig) (clock : ℤ) (asked : Attributes) (open_lists : OpenLists) (verb : ListVerb) (format : Option Format) (items : List ItemState) → 1 ≤ config.chunk
     → AreHanded P config.chunk open_lists.lists → HandsOut P config clock asked (format_response config clock open_lists verb format items)
 format_hands P config clock asked open_lists verb None items part h = same_lists P config clock asked (with_answer (fails CannotDisseminateFormat)) open_lists h
 format_hands P config clock asked open_lists verb (Some format) items part h = items_hand P config clock asked open_lists verb format items part h
 
 -- a list that is continued: the parts before are those that were handed out, and this one's token is behind the last of them
-next_given_out : (P : List ℕ → Type 0) (config : Config) (outcome : Outcome) (list : FrozenList) (cursor : ℕ) → 1 ≤ config.chunk → IsMultiple config.chunk list.given cursor → IsHandedTo P config.chunk list.number list.given
+next_given_out : (P : List ℕ → Type 0) (config : RepositoryConfig) (outcome : Outcome) (list : FrozenList) (cursor : ℕ) → 1 ≤ config.chunk → IsMultiple config.chunk list.given cursor → IsHandedTo P config.chunk list.number list.given
     → page_shown outcome ≡ Some (part_from config list cursor) → MayGive (OrOffered P outcome) config.chunk list.number (next_cursor config list cursor)
 unfolding remain next_at
 next_given_out P config outcome list cursor part multiple handed told =
@@ -231,8 +231,8 @@ same_records list.Sets list.Identifiers h = cc
 same_records list.Sets list.Records h = cc
 same_records list.Sets list.Sets h = cc
 
-found_hands : (P : List ℕ → Type 0) (config : Config) (clock : ℤ) (asked : Attributes) (open_lists : OpenLists) (verb : ListVerb) (token : Token) (found : Option FrozenList) → 1 ≤ config.chunk
-    → ((list : FrozenList) → found ≡ Some list → (is_of_format config list ≡ true) × IsHanded P config.chunk list) → AreHanded P config.chunk open_lists.lists
+found_hands : (P : List ℕ → Type 0) (config : RepositoryConfig) (clock : ℤ) (asked : Attributes) (open_lists : OpenLists) (verb : ListVerb) (token : Token) (found : Option FrozenList) → 1 ≤ config.chunk
+    → ((list : FrozenList) → found ≡ Some list → (is_frozen_of_format config list ≡ true) × IsHanded P config.chunk list) → AreHanded P config.chunk open_lists.lists
     → HandsOut P config clock asked (continued_response config clock open_lists verb token.cursor (where_continued config verb token found))
 found_hands P config clock asked open_lists verb token None part known h = same_lists P config clock asked (with_answer (fails BadResumptionToken)) open_lists h
 found_hands P config clock asked open_lists verb token (Some list) part known h =
@@ -252,18 +252,18 @@ found_hands P config clock asked open_lists verb token (Some list) part known h 
     (λ _. same_lists P config clock asked (with_answer (fails BadResumptionToken)) open_lists h)
 
 -- what is known of the list that is found
-found_known : (P : List ℕ → Type 0) (config : Config) (open_lists : OpenLists) (number : ℕ) → list_all (is_of_format config) open_lists.lists ≡ true → AreHanded P config.chunk open_lists.lists
-    → (list : FrozenList) → find (is_of_number number) open_lists.lists ≡ Some list → (is_of_format config list ≡ true) × IsHanded P config.chunk list
+found_known : (P : List ℕ → Type 0) (config : RepositoryConfig) (open_lists : OpenLists) (number : ℕ) → list_all (is_frozen_of_format config) open_lists.lists ≡ true → AreHanded P config.chunk open_lists.lists
+    → (list : FrozenList) → find (is_of_number number) open_lists.lists ≡ Some list → (is_frozen_of_format config list ≡ true) × IsHanded P config.chunk list
 found_known P config open_lists number known h = λ list found.
-    (of_found (is_of_number number) (is_of_format config) open_lists.lists list found known, (found_handed P config.chunk (is_of_number number) open_lists.lists list found h).1)
+    (of_found (is_of_number number) (is_frozen_of_format config) open_lists.lists list found known, (found_handed P config.chunk (is_of_number number) open_lists.lists list found h).1)
 
-token_hands : (P : List ℕ → Type 0) (config : Config) (clock : ℤ) (asked : Attributes) (open_lists : OpenLists) (verb : ListVerb) (token : Option Token) → 1 ≤ config.chunk → list_all (is_of_format config) open_lists.lists ≡ true
+token_hands : (P : List ℕ → Type 0) (config : RepositoryConfig) (clock : ℤ) (asked : Attributes) (open_lists : OpenLists) (verb : ListVerb) (token : Option Token) → 1 ≤ config.chunk → list_all (is_frozen_of_format config) open_lists.lists ≡ true
     → AreHanded P config.chunk open_lists.lists → HandsOut P config clock asked (token_response config clock open_lists verb token)
 token_hands P config clock asked open_lists verb None part known h = same_lists P config clock asked (with_answer (fails BadResumptionToken)) open_lists h
 token_hands P config clock asked open_lists verb (Some token) part known h =
     found_hands P config clock asked open_lists verb token (find (is_of_number token.list) open_lists.lists) part (found_known P config open_lists token.list known h) h
 
-request_hands : (P : List ℕ → Type 0) (config : Config) (state : RepoState) (asked : Attributes) (request : AskOrError) → 1 ≤ config.chunk → IsSound config state → AreHanded P config.chunk state.open_lists.lists
+request_hands : (P : List ℕ → Type 0) (config : RepositoryConfig) (state : RepoState) (asked : Attributes) (request : AskOrError) → 1 ≤ config.chunk → IsSound config state → AreHanded P config.chunk state.open_lists.lists
     → HandsOut P config state.clock asked (request_response config state request)
 request_hands P config state asked bad_verb part sound h = same_lists P config state.clock asked (with_answer (fails BadVerb)) state.open_lists h
 request_hands P config state asked bad_argument part sound h = same_lists P config state.clock asked (with_answer (fails BadArgument)) state.open_lists h
@@ -279,7 +279,7 @@ request_hands P config state asked (asks (ask.Resume verb token)) part sound h =
 
 -- ---- what a command hands out
 
-pub command_hands : (P : List ℕ → Type 0) (config : Config) (state : RepoState) (command : Command) → 1 ≤ config.chunk → IsSound config state → AreHanded P config.chunk state.open_lists.lists
+pub command_hands : (P : List ℕ → Type 0) (config : RepositoryConfig) (state : RepoState) (command : Command) → 1 ≤ config.chunk → IsSound config state → AreHanded P config.chunk state.open_lists.lists
     → AreHanded (OrOffered P (act config state command).0) config.chunk (act config state command).1.open_lists.lists
 unfolding act
 command_hands P config state (requesting request) part sound h = request_hands P config state (arguments_of_request request) request part sound h
@@ -304,7 +304,7 @@ read_text text token h =
     by_test true its same h = let is : its ≡ token = cc in ap token_text (sym is) ∙ same refl
     by_test false its same h = cc
 
-found_given : (P : List ℕ → Type 0) (config : Config) (clock : ℤ) (asked : Attributes) (open_lists : OpenLists) (verb : ListVerb) (token : Token) (page : Page) (found : Option FrozenList)
+found_given : (P : List ℕ → Type 0) (config : RepositoryConfig) (clock : ℤ) (asked : Attributes) (open_lists : OpenLists) (verb : ListVerb) (token : Token) (page : Page) (found : Option FrozenList)
     → ((list : FrozenList) → found ≡ Some list → (list.number ≡ token.list) × IsHanded P config.chunk list)
     → page_shown (outcome_of config clock asked (continued_response config clock open_lists verb token.cursor (where_continued config verb token found)).0) ≡ Some page → P (token_text token)
 found_given P config clock asked open_lists verb token page None own told = cc
@@ -323,7 +323,7 @@ found_given P config clock asked open_lists verb token page (Some list) own told
     (λ _ told. cc)
     told
 
-token_given : (P : List ℕ → Type 0) (config : Config) (clock : ℤ) (asked : Attributes) (open_lists : OpenLists) (verb : ListVerb) (text : List ℕ) (token : Option Token) (page : Page) → token_of text ≡ token
+token_given : (P : List ℕ → Type 0) (config : RepositoryConfig) (clock : ℤ) (asked : Attributes) (open_lists : OpenLists) (verb : ListVerb) (text : List ℕ) (token : Option Token) (page : Page) → token_of text ≡ token
     → AreHanded P config.chunk open_lists.lists → page_shown (outcome_of config clock asked (token_response config clock open_lists verb token).0) ≡ Some page → P text
 token_given P config clock asked open_lists verb text None page is h told = cc
 token_given P config clock asked open_lists verb text (Some token) page is h told =
@@ -334,7 +334,7 @@ token_given P config clock asked open_lists verb text (Some token) page is h tol
     (eqb-true list.number token.list both.0, both.1))
     told)
 
-pub resumed_given : (P : List ℕ → Type 0) (config : Config) (state : RepoState) (verb : ListVerb) (text : List ℕ) (page : Page) → AreHanded P config.chunk state.open_lists.lists
+pub resumed_given : (P : List ℕ → Type 0) (config : RepositoryConfig) (state : RepoState) (verb : ListVerb) (text : List ℕ) (page : Page) → AreHanded P config.chunk state.open_lists.lists
     → page_shown (act config state (next_request verb text)).0 ≡ Some page → P text
 unfolding act
 resumed_given P config state verb text page h told = token_given P config state.clock (arguments_of_request (asks (ask.Resume verb text))) state.open_lists verb text (token_of text) page refl h told
@@ -346,7 +346,7 @@ either_way A B C (inl (inl a)) = inl a
 either_way A B C (inl (inr b)) = inr (inl b)
 either_way A B C (inr c) = inr (inr c)
 
-offered_from : (P : List ℕ → Type 0) (config : Config) (commands : List Timed) (state : RepoState) (before after : List Exchange) (exchange : Exchange) (verb : ListVerb) (token : List ℕ) (page : Page) → 1 ≤ config.chunk → IsSound config state
+offered_from : (P : List ℕ → Type 0) (config : RepositoryConfig) (commands : List Timed) (state : RepoState) (before after : List Transition) (exchange : Transition) (verb : ListVerb) (token : List ℕ) (page : Page) → 1 ≤ config.chunk → IsSound config state
     → AreHanded P config.chunk state.open_lists.lists → before ++ exchange ∷ after ≡ run config state commands → exchange.command ≡ next_request verb token → page_shown exchange.outcome ≡ Some page
     → P token ⊎ WasOffered token before
 offered_from P config [] state [] after exchange verb token page part sound h is asked told = cc
@@ -355,9 +355,9 @@ offered_from P config (timed ∷ commands) state [] after exchange verb token pa
     let found : RepoState = moved timed.moment state in
     let whole : exchange ∷ after ≡ performed config state timed ∷ run config (performed config state timed).left commands = is in
     let here : exchange ≡ performed config state timed = cc in
-    let command : timed.command ≡ next_request verb token = ap (λ (e : Exchange). e.command) (sym here) ∙ asked in
+    let command : timed.command ≡ next_request verb token = ap (λ (e : Transition). e.command) (sym here) ∙ asked in
     let outcome : page_shown (act config found (next_request verb token)).0 ≡ Some page =
-    ap (λ (c : Command). page_shown (act config found c).0) (sym command) ∙ ap (λ (e : Exchange). page_shown e.outcome) (sym here) ∙ told
+    ap (λ (c : Command). page_shown (act config found c).0) (sym command) ∙ ap (λ (e : Transition). page_shown e.outcome) (sym here) ∙ told
     in
     inl (resumed_given P config found verb token page (filtered P config.chunk (is_open_at found.clock) state.open_lists.lists h) outcome)
 offered_from P config (timed ∷ commands) state (x ∷ before) after exchange verb token page part sound h is asked told =
@@ -371,9 +371,9 @@ offered_from P config (timed ∷ commands) state (x ∷ before) after exchange v
     (command_hands P config found timed.command part sound_found (filtered P config.chunk (is_open_at found.clock) state.open_lists.lists h)) rest asked told
     in
     either_way (P token) (IsOffered token x.outcome) (WasOffered token before)
-    (subst (λ (e : Exchange). (P token ⊎ IsOffered token e.outcome) ⊎ WasOffered token before) (sym here) later)
+    (subst (λ (e : Transition). (P token ⊎ IsOffered token e.outcome) ⊎ WasOffered token before) (sym here) later)
 
-pub answered_offered : (config : Config) (commands : List Timed) (before after : List Exchange) (exchange : Exchange) (verb : ListVerb) (token : List ℕ) (page : Page) → IsConfig config
+pub answered_offered : (config : RepositoryConfig) (commands : List Timed) (before after : List Transition) (exchange : Transition) (verb : ListVerb) (token : List ℕ) (page : Page) → IsConfig config
     → before ++ exchange ∷ after ≡ run config (empty_state config) commands → exchange.command ≡ next_request verb token → page_shown exchange.outcome ≡ Some page → WasOffered token before
 answered_offered config commands before after exchange verb token page good is asked told =
     elim (offered_from (λ _. ⊥) config commands (empty_state config) before after exchange verb token page (some_in_part config good) (sound_empty config) tt is asked told) [

@@ -2,21 +2,21 @@
 use Rattle.std.proofs.Common.{◌≡◌, inl, inr, ℤ, List, [], ◌∷◌, ◌++◌, refl, sym, subst}
 use Rattle.oai_item.specs.Item.{ItemState}
 use Rattle.oai_item.specs.declared.deleted_record.DeletedRecord.TheVariants.{Persistent}
-use Rattle.oai_settings.specs.Config.{Config}
+use Rattle.oai_settings.specs.Config.{RepositoryConfig}
 use Rattle.oai_repo.specs.Machine.{act}
 use Rattle.oai_repo.specs.Saved.{ended}
 use Rattle.oai_repo.specs.State.{RepoState, moved}
 use Rattle.oai_laws.specs.Eras.{Era, HaveNumbers, all_exchanges, left_behind, runs}
-use Rattle.oai_laws.specs.Runs.{Exchange, IsPart, Timed, performed, run}
+use Rattle.oai_laws.specs.Runs.{IsPart, Timed, Transition, performed, run}
 use Rattle.oai_laws.proofs.EndedLemmas.{after_ended}
 use Rattle.oai_laws.proofs.SinceLemmas.{IsAfter, after_act, after_itself, after_moved}
 
 -- the exchanges of commands, and of the eras behind them
-abbrev pub all_from : Config → RepoState → List Timed → List Era → List Exchange
+abbrev pub all_from : RepositoryConfig → RepoState → List Timed → List Era → List Transition
 all_from config state commands eras = run config state commands ++ all_exchanges (runs config (left_behind config state commands) eras)
 
 -- what is known of one that is found behind such a state, with others behind it, in its era or in later ones
-pub record IsReached (config : Config) (clock : ℤ) (old : List ItemState) (exchange : Exchange) (others : List Exchange) : Type 0 where
+pub record IsReached (config : RepositoryConfig) (clock : ℤ) (old : List ItemState) (exchange : Transition) (others : List Transition) : Type 0 where
   pub commands : List Timed
   pub eras : List Era
   pub found : IsAfter config clock old exchange.found
@@ -25,7 +25,7 @@ pub record IsReached (config : Config) (clock : ℤ) (old : List ItemState) (exc
   pub numbers : HaveNumbers config (left_behind config exchange.left commands) eras
   pub behind : IsPart others (all_from config exchange.left commands eras)
 
-here : (config : Config) (clock : ℤ) (old : List ItemState) (state : RepoState) (timed : Timed) (commands : List Timed) (eras : List Era) (others : List Exchange) → IsAfter config clock old state
+here : (config : RepositoryConfig) (clock : ℤ) (old : List ItemState) (state : RepoState) (timed : Timed) (commands : List Timed) (eras : List Era) (others : List Transition) → IsAfter config clock old state
     → HaveNumbers config (left_behind config (performed config state timed).left commands) eras
     → IsPart others (all_from config (performed config state timed).left commands eras) → IsReached config clock old (performed config state timed) others
 here config clock old state timed commands eras others after numbers part = record {
@@ -38,7 +38,7 @@ here config clock old state timed commands eras others after numbers part = reco
   behind = part;
 }
 
-pub reached : (config : Config) (clock : ℤ) (old : List ItemState) (state : RepoState) (commands : List Timed) (eras : List Era) (exchange : Exchange) (others : List Exchange) → config.deleted ≡ Persistent
+pub reached : (config : RepositoryConfig) (clock : ℤ) (old : List ItemState) (state : RepoState) (commands : List Timed) (eras : List Era) (exchange : Transition) (others : List Transition) → config.deleted ≡ Persistent
     → IsAfter config clock old state → HaveNumbers config (left_behind config state commands) eras → IsPart (exchange ∷ others) (all_from config state commands eras) → IsReached config clock old exchange others
 reached config clock old state [] [] exchange others persistent after numbers part = cc
 reached config clock old state [] (era ∷ eras) exchange others persistent after numbers part =
@@ -50,11 +50,11 @@ reached config clock old state (timed ∷ commands) eras exchange others persist
     let is : exchange ∷ others ≡ performed config state timed ∷ found.0 = found.1 in
     let exchange_is : performed config state timed ≡ exchange = cc in
     let others_are : found.0 ≡ others = cc in
-    subst (λ (e : Exchange). IsReached config clock old e others) exchange_is
-    (here config clock old state timed commands eras others after numbers (subst (λ (es : List Exchange). IsPart es (all_from config (performed config state timed).left commands eras)) others_are found.2))
+    subst (λ (e : Transition). IsReached config clock old e others) exchange_is
+    (here config clock old state timed commands eras others after numbers (subst (λ (es : List Transition). IsPart es (all_from config (performed config state timed).left commands eras)) others_are found.2))
 
 -- what becomes of its items behind it
-pub left_after : (config : Config) (clock : ℤ) (old : List ItemState) (exchange : Exchange) (others : List Exchange) → config.deleted ≡ Persistent → IsReached config clock old exchange others
+pub left_after : (config : RepositoryConfig) (clock : ℤ) (old : List ItemState) (exchange : Transition) (others : List Transition) → config.deleted ≡ Persistent → IsReached config clock old exchange others
     → IsAfter config exchange.found.clock exchange.found.holdings.items exchange.left
 left_after config clock old exchange others persistent reached =
     subst (IsAfter config exchange.found.clock exchange.found.holdings.items) (sym reached.left)

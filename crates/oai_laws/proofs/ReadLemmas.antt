@@ -9,17 +9,17 @@ use Rattle.oai_time.specs.declared.granularity.Granularity.{Granularity}
 use Rattle.oai_item.specs.Formats.{AreRepositoryFormats}
 use Rattle.oai_item.specs.Item.{ItemState}
 use Rattle.oai_item.specs.declared.formats.Format.{Format}
-use Rattle.oai_answers.specs.Answers.{Answer, Continuation, Document, Page, completes, remains, whole}
+use Rattle.oai_answers.specs.Answers.{Continuation, Document, Page, VerbAnswer, completes, remains, whole}
 use Rattle.oai_answers.specs.Documents.{document}
 use Rattle.oai_answers.specs.Seen.{IsRegular, SeenDocument, SeenHeader, SeenRecord, SeenToken, answer_seen, document_seen, empty_token, header_seen, no_token, record_seen, seen_token, token_seen}
 use Rattle.oai_answers.proofs.RegularLemmas.{same_seen}
-use Rattle.oai_settings.specs.Config.{Config}
+use Rattle.oai_settings.specs.Config.{RepositoryConfig}
 use Rattle.oai_laws.specs.Effects.{IsSound}
 use Rattle.oai_args.specs.Verbs.{is_of_records}
-use Rattle.oai_laws.specs.Following.{ArePagesAt, ListRequest, answer_in, are_complete, joined, offer_in, page_in, selection_in}
+use Rattle.oai_laws.specs.Following.{ArePagesAt, ListQuery, answer_in, are_complete, joined, offer_in, page_in, selection_in}
 use Rattle.oai_repo.specs.Listing.{answer_by_verb}
 use Rattle.oai_repo.specs.Machine.{Outcome, accepted, documented, later, refused_with, outcome_output}
-use Rattle.oai_laws.specs.Runs.{Exchange, IsPart, Throughout, Timed, performed, run}
+use Rattle.oai_laws.specs.Runs.{IsPart, Throughout, Timed, Transition, performed, run}
 use Rattle.oai_laws.specs.Shown.{IsFollowedList, IsRegularOutcome, IsSomeAnswer, bytes_written, is_followed_to_its_end, is_last_page, seen_by, selection_seen}
 use Rattle.oai_repo.specs.State.{RepoState, empty_state, moved}
 use Rattle.oai_laws.proofs.ChainLemmas.{following}
@@ -29,10 +29,10 @@ use Rattle.oai_laws.proofs.ShownLemmas.{regular_act}
 
 -- ---- every exchange is answered so
 
-abbrev pub IsRegularExchange : Exchange → Type 0
+abbrev pub IsRegularExchange : Transition → Type 0
 IsRegularExchange exchange = IsRegularOutcome exchange.outcome
 
-regular_part : (config : Config) (commands : List Timed) (state : RepoState) (some : List Exchange) → AreRepositoryFormats config.formats → IsSound config state → IsPart some (run config state commands)
+regular_part : (config : RepositoryConfig) (commands : List Timed) (state : RepoState) (some : List Transition) → AreRepositoryFormats config.formats → IsSound config state → IsPart some (run config state commands)
     → Throughout IsRegularExchange some
 regular_part config [] state some rules sound none = subst (Throughout IsRegularExchange) (sym none) tt
 regular_part config (timed ∷ commands) state some rules sound (inl part) =
@@ -44,22 +44,22 @@ regular_part config (timed ∷ commands) state some rules sound (inr here) =
       regular_part config commands (performed config state timed).left here.0 rules (sound_act config (moved timed.moment state) timed.command found) here.2,
     )
 
-regular_answer : (config : Config) (d : Document) → IsSomeAnswer config d → IsRegular d.answer
+regular_answer : (config : RepositoryConfig) (d : Document) → IsSomeAnswer config d → IsRegular d.answer
 regular_answer config d is =
     subst IsRegularOutcome is.told (regular_part config is.commands (empty_state config) (is.exchange ∷ []) is.formats (sound_empty config) is.among).0
 
-pub answers_shown : (config other : Config) (a b : Document) → IsSomeAnswer config a → IsSomeAnswer other b → document a ≡ document b → document_seen a ≡ document_seen b
+pub answers_shown : (config other : RepositoryConfig) (a b : Document) → IsSomeAnswer config a → IsSomeAnswer other b → document a ≡ document b → document_seen a ≡ document_seen b
 answers_shown config other a b is its same = same_seen a b (regular_answer config a is) (regular_answer other b its) same
 
 -- ---- one page
 
 -- an outcome that tells an answer is a document with that answer
-record IsDocument (outcome : Outcome) (answer : Answer) : Type 0 where
+record IsDocument (outcome : Outcome) (answer : VerbAnswer) : Type 0 where
   pub document : Document
   pub is : outcome ≡ documented document
   pub told : document.answer ≡ answer
 
-document_told : (outcome : Outcome) (answer : Answer) → answer_in outcome ≡ Some answer → IsDocument outcome answer
+document_told : (outcome : Outcome) (answer : VerbAnswer) → answer_in outcome ≡ Some answer → IsDocument outcome answer
 document_told (documented d) answer h = record { document = d; is = refl; told = let e : d.answer ≡ answer = cc in e }
 document_told (later seconds) answer h = cc
 document_told (accepted stamp) answer h = cc
@@ -124,14 +124,14 @@ no_offer_is whole = refl
 no_offer_is (remains expires extent token) = refl
 no_offer_is (completes extent) = refl
 
-abbrev AreTold : ListVerb → Format → List Exchange → List Page → Type 0
-AreTold verb format exchanges pages = map (λ (exchange : Exchange). answer_in exchange.outcome) exchanges ≡ map (λ (page : Page). Some (answer_by_verb verb format page)) pages
+abbrev AreTold : ListVerb → Format → List Transition → List Page → Type 0
+AreTold verb format exchanges pages = map (λ (exchange : Transition). answer_in exchange.outcome) exchanges ≡ map (λ (page : Page). Some (answer_by_verb verb format page)) pages
 
 abbrev AreSeenAlike : ListVerb → Granularity → Format → List Page → ListVerb → Granularity → Format → List Page → Type 0
 AreSeenAlike verb g format pages its k other its_pages =
     (map (seen_by verb g (Some format)) (joined pages) ≡ map (seen_by its k (Some other)) (joined its_pages)) × (are_complete pages ≡ are_complete its_pages)
 
-all_pages : (config other : Config) (verb its : ListVerb) (format its_format : Format) (size before its_size its_before : ℕ) (exchanges its_exchanges : List Exchange) (pages its_pages : List Page)
+all_pages : (config other : RepositoryConfig) (verb its : ListVerb) (format its_format : Format) (size before its_size its_before : ℕ) (exchanges its_exchanges : List Transition) (pages its_pages : List Page)
     → is_of_records verb ≡ true → is_of_records its ≡ true → AreTold verb format exchanges pages → AreTold its its_format its_exchanges its_pages
     → ArePagesAt config size before pages → ArePagesAt other its_size its_before its_pages → Throughout IsRegularExchange exchanges → Throughout IsRegularExchange its_exchanges
     → bytes_written config exchanges ≡ bytes_written other its_exchanges → AreSeenAlike verb config.granularity format pages its other.granularity its_format its_pages
@@ -163,7 +163,7 @@ all_pages config other verb its format its_format size before its_size its_befor
 
 -- ---- a list that is followed to its end
 
-ended : (verb : ListVerb) (format : Format) (exchanges : List Exchange) (pages : List Page) → is_of_records verb ≡ true → AreTold verb format exchanges pages
+ended : (verb : ListVerb) (format : Format) (exchanges : List Transition) (pages : List Page) → is_of_records verb ≡ true → AreTold verb format exchanges pages
     → is_followed_to_its_end exchanges ≡ are_complete pages
 ended verb format [] [] ok told = refl
 ended verb format [] (page ∷ pages) ok told = cc
@@ -174,7 +174,7 @@ ended verb format (e ∷ es) (page ∷ pages) ok told =
     ap (λ (p : Option Page). is_last_page p || is_followed_to_its_end es) (ap (option_and_then page_in) first ∙ told_page verb format page ok)
     ∙ ap (λ b. is_none (offer_in page.continuation) || b) (ended verb format es pages ok later')
 
-pub lists_shown : (config other : Config) (list_request its : ListRequest) (first its_first : Exchange) (others its_others : List Exchange) → IsFollowedList config list_request first others → IsFollowedList other its its_first its_others
+pub lists_shown : (config other : RepositoryConfig) (list_request its : ListQuery) (first its_first : Transition) (others its_others : List Transition) → IsFollowedList config list_request first others → IsFollowedList other its its_first its_others
     → is_followed_to_its_end (first ∷ others) ≡ true → bytes_written config (first ∷ others) ≡ bytes_written other (its_first ∷ its_others)
     → selection_seen config list_request (selection_in first.found list_request) ≡ selection_seen other its (selection_in its_first.found its)
 lists_shown config other list_request its first its_first others its_others is their ends same =

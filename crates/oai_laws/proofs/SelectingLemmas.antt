@@ -28,23 +28,23 @@ use Rattle.oai_names.proofs.Lists.{all-filter, all-weaker}
 use Rattle.oai_item.proofs.OrderLemmas.{all-placed}
 use Rattle.oai_item.proofs.Selecting.{contains_selected, in_order-selected}
 use Rattle.oai_args.specs.Bounds.{given_bound}
-use Rattle.oai_settings.specs.Config.{Config, IsConfig, is_date, is_in_years}
+use Rattle.oai_settings.specs.Config.{IsConfig, RepositoryConfig, is_date, is_in_years}
 use Rattle.oai_repo.specs.Answers.{filter_of, lower_given, upper_given}
-use Rattle.oai_repo.specs.Changes.{stamp_at}
+use Rattle.oai_holdings.specs.Changes.{stamp_at}
 use Rattle.oai_repo.specs.Machine.{Command, act}
 use Rattle.oai_repo.specs.State.{RepoState, empty_state, moved}
 use Rattle.oai_laws.specs.Effects.{Effect, IsPossible, IsSound, effected, goes_below, item_put, item_taken, items_purged, list_opened, list_carried_on, set_added, unchanged}
-use Rattle.oai_laws.specs.Following.{ListRequest, selection_in}
-use Rattle.oai_laws.specs.Runs.{Exchange, Throughout, Timed, performed, run}
+use Rattle.oai_laws.specs.Following.{ListQuery, selection_in}
+use Rattle.oai_laws.specs.Runs.{Throughout, Timed, Transition, performed, run}
 use Rattle.oai_laws.specs.Selecting.{IsAskedFor, IsFrom, IsInSet, IsSelection, IsUntil, has_granular_stamp}
 use Rattle.oai_repo.proofs.ClockLemmas.{in_years-config, in_years-tick, writable}
-use Rattle.oai_repo.proofs.KeptLemmas.{well-without}
+use Rattle.oai_holdings.proofs.KeptLemmas.{well-without}
 use Rattle.oai_laws.proofs.EffectLemmas.{effect_of, sound_act, sound_empty, sound_moved}
 
 -- ---- datestamps
 
 -- what is true of the times of a state
-pub record IsTimed (config : Config) (state : RepoState) : Type 0 where
+pub record IsTimed (config : RepositoryConfig) (state : RepoState) : Type 0 where
   pub years : is_in_years state.clock ≡ true
   pub begun : int_le config.earliest state.clock ≡ true
   pub dated : list_all (has_granular_stamp config state.clock) state.holdings.items ≡ true
@@ -59,21 +59,21 @@ le_later : (a b c : ℤ) → int_le a b ≡ true → b ≤ℤ c → int_le a c �
 le_later a b c h g = grind (arith, ints)
 
 -- a repository begins at its earliestDatestamp
-pub timed_empty : (config : Config) → IsConfig config → IsTimed config (empty_state config)
+pub timed_empty : (config : RepositoryConfig) → IsConfig config → IsTimed config (empty_state config)
 timed_empty config good = record { years = in_years-config config good; begun = le_own config.earliest; dated = refl }
 
 -- the clock never goes back
 tick_later : (clock moment : ℤ) → clock ≤ℤ tick clock moment
 tick_later clock moment = grind (arith, ints)
 
-dated_later : (config : Config) (clock later : ℤ) → clock ≤ℤ later → (item : ItemState) → has_granular_stamp config clock item ≡ true → has_granular_stamp config later item ≡ true
+dated_later : (config : RepositoryConfig) (clock later : ℤ) → clock ≤ℤ later → (item : ItemState) → has_granular_stamp config clock item ≡ true → has_granular_stamp config later item ≡ true
 dated_later config clock later after item h =
     let parts = and_parts (int_le config.earliest item.stamp && int_le item.stamp clock) (int_eq (stamp_of config.granularity item.stamp) item.stamp) h in
     let between = and_parts (int_le config.earliest item.stamp) (int_le item.stamp clock) parts.0 in
     and_from (int_le config.earliest item.stamp && int_le item.stamp later) (int_eq (stamp_of config.granularity item.stamp) item.stamp)
     (and_from (int_le config.earliest item.stamp) (int_le item.stamp later) between.0 (le_later item.stamp clock later between.1 after)) parts.1
 
-pub timed_moved : (config : Config) (moment : ℤ) (state : RepoState) → IsTimed config state → IsTimed config (moved moment state)
+pub timed_moved : (config : RepositoryConfig) (moment : ℤ) (state : RepoState) → IsTimed config state → IsTimed config (moved moment state)
 timed_moved config moment state timed =
     let later : ℤ = tick state.clock moment in
     record {
@@ -88,7 +88,7 @@ stamp_again Day clock h = (stamp_of-IsMidnight clock h).1
 stamp_again Second clock h = refl
 
 -- earliestDatestamp is one of the repository's granularity
-earliest_stamp : (config : Config) → IsConfig config → stamp_of config.granularity config.earliest ≡ config.earliest
+earliest_stamp : (config : RepositoryConfig) → IsConfig config → stamp_of config.granularity config.earliest ≡ config.earliest
 unfolding is_date
 earliest_stamp config good =
     (Decides-int_eq (stamp_of config.granularity config.earliest) config.earliest).0
@@ -98,7 +98,7 @@ le_from : (a b : ℤ) → int_le a b ≡ true → a ≤ℤ b
 le_from a b h = grind (arith, ints)
 
 -- an item with the datestamp of the clock
-dated_now : (config : Config) (clock : ℤ) (item : ItemState) → IsConfig config → is_in_years clock ≡ true → int_le config.earliest clock ≡ true → item.stamp ≡ stamp_at config clock
+dated_now : (config : RepositoryConfig) (clock : ℤ) (item : ItemState) → IsConfig config → is_in_years clock ≡ true → int_le config.earliest clock ≡ true → item.stamp ≡ stamp_at config clock
     → has_granular_stamp config clock item ≡ true
 dated_now config clock item good years open_lists is =
     let stamp : ℤ = stamp_at config clock in
@@ -113,7 +113,7 @@ dated_now config clock item good years open_lists is =
     (and_from (int_le config.earliest stamp) (int_le stamp clock) (le_test config.earliest stamp from) (le_test stamp clock (stamp_of-not_after config.granularity clock))) same)
 
 -- after each effect that is possible
-timed_effected : (config : Config) (state : RepoState) (effect : Effect) → IsConfig config → IsPossible config state effect → IsTimed config state → IsTimed config (effected config state effect)
+timed_effected : (config : RepositoryConfig) (state : RepoState) (effect : Effect) → IsConfig config → IsPossible config state effect → IsTimed config state → IsTimed config (effected config state effect)
 timed_effected config state unchanged good possible timed = timed
 timed_effected config state (item_put item) good possible timed = record {
   years = timed.years;
@@ -130,7 +130,7 @@ timed_effected config state (set_added set) good possible timed = record { years
 timed_effected config state (list_carried_on number next) good possible timed = record { years = timed.years; begun = timed.begun; dated = timed.dated }
 timed_effected config state (list_opened list) good possible timed = record { years = timed.years; begun = timed.begun; dated = timed.dated }
 
-pub timed_act : (config : Config) (state : RepoState) (command : Command) → IsConfig config → IsSound config state → IsTimed config state → IsTimed config (act config state command).1
+pub timed_act : (config : RepositoryConfig) (state : RepoState) (command : Command) → IsConfig config → IsSound config state → IsTimed config state → IsTimed config (act config state command).1
 timed_act config state command good sound timed =
     let done = effect_of config state command sound in
     subst (IsTimed config) (sym done.done) (timed_effected config state done.effect good done.possible timed)
@@ -190,7 +190,7 @@ given_set (Some set) specs h = from_in_set set specs h
 
 -- ---- the selection
 
-asked_for : (list_request : ListRequest) (items : List ItemState) (item : ItemState) → IsSelected (filter_of list_request.prefix list_request.from list_request.until list_request.set) items item → IsAskedFor list_request item
+asked_for : (list_request : ListQuery) (items : List ItemState) (item : ItemState) → IsSelected (filter_of list_request.prefix list_request.from list_request.until list_request.set) items item → IsAskedFor list_request item
 asked_for list_request items item h = record {
   prefix = h.has_prefix;
   from = from_given list_request.from item.stamp h.from;
@@ -199,7 +199,7 @@ asked_for list_request items item h = record {
 }
 
 -- where each datestamp is one that the bounds can name
-selected_for : (config : Config) (clock : ℤ) (list_request : ListRequest) (items : List ItemState) (item : ItemState) → is_in_years config.earliest ≡ true → is_in_years clock ≡ true
+selected_for : (config : RepositoryConfig) (clock : ℤ) (list_request : ListQuery) (items : List ItemState) (item : ItemState) → is_in_years config.earliest ≡ true → is_in_years clock ≡ true
     → has_granular_stamp config clock item ≡ true → Contains items item → IsAskedFor list_request item → IsSelected (filter_of list_request.prefix list_request.from list_request.until list_request.set) items item
 selected_for config clock list_request items item earliest years dated stands asked =
     let parts = and_parts (int_le config.earliest item.stamp && int_le item.stamp clock) (int_eq (stamp_of config.granularity item.stamp) item.stamp) dated in
@@ -212,7 +212,7 @@ selected_for config clock list_request items item earliest years dated stands as
       in_set = given_set list_request.set item.sets asked.set;
     }
 
-pub selection_is : (config : Config) (state : RepoState) (list_request : ListRequest) → IsConfig config → IsSound config state → IsTimed config state → IsSelection list_request state.holdings.items (selection_in state list_request)
+pub selection_is : (config : RepositoryConfig) (state : RepoState) (list_request : ListQuery) → IsConfig config → IsSound config state → IsTimed config state → IsSelection list_request state.holdings.items (selection_in state list_request)
 selection_is config state list_request good sound timed =
     let items : List ItemState = state.holdings.items in
     let asked : Filter = filter_of list_request.prefix list_request.from list_request.until list_request.set in
@@ -227,13 +227,13 @@ selection_is config state list_request good sound timed =
 
 -- ---- in the course of time
 
-abbrev pub IsSelectionAt : ListRequest → Exchange → Type 0
+abbrev pub IsSelectionAt : ListQuery → Transition → Type 0
 IsSelectionAt list_request exchange = IsSelection list_request exchange.found.holdings.items (selection_in exchange.found list_request)
 
-abbrev pub IsDatedAfter : Config → Exchange → Type 0
+abbrev pub IsDatedAfter : RepositoryConfig → Transition → Type 0
 IsDatedAfter config exchange = list_all (has_granular_stamp config exchange.left.clock) exchange.left.holdings.items ≡ true
 
-pub selected_from : (config : Config) (commands : List Timed) (state : RepoState) (list_request : ListRequest) → IsConfig config → IsSound config state → IsTimed config state → Throughout (IsSelectionAt list_request) (run config state commands)
+pub selected_from : (config : RepositoryConfig) (commands : List Timed) (state : RepoState) (list_request : ListQuery) → IsConfig config → IsSound config state → IsTimed config state → Throughout (IsSelectionAt list_request) (run config state commands)
 selected_from config [] state list_request good sound times = tt
 selected_from config (timed ∷ commands) state list_request good sound times =
     let found : RepoState = moved timed.moment state in
@@ -243,7 +243,7 @@ selected_from config (timed ∷ commands) state list_request good sound times =
       selected_from config commands (performed config state timed).left list_request good (sound_act config found timed.command sound_found) (timed_act config found timed.command good sound_found timed_found),
     )
 
-dated_from : (config : Config) (commands : List Timed) (state : RepoState) → IsConfig config → IsSound config state → IsTimed config state → Throughout (IsDatedAfter config) (run config state commands)
+dated_from : (config : RepositoryConfig) (commands : List Timed) (state : RepoState) → IsConfig config → IsSound config state → IsTimed config state → Throughout (IsDatedAfter config) (run config state commands)
 dated_from config [] state good sound times = tt
 dated_from config (timed ∷ commands) state good sound times =
     let found : RepoState = moved timed.moment state in
@@ -253,8 +253,8 @@ dated_from config (timed ∷ commands) state good sound times =
       dated_from config commands (performed config state timed).left good (sound_act config found timed.command sound_found) left,
     )
 
-pub selected_throughout : (config : Config) (commands : List Timed) (list_request : ListRequest) → IsConfig config → Throughout (IsSelectionAt list_request) (run config (empty_state config) commands)
+pub selected_throughout : (config : RepositoryConfig) (commands : List Timed) (list_request : ListQuery) → IsConfig config → Throughout (IsSelectionAt list_request) (run config (empty_state config) commands)
 selected_throughout config commands list_request good = selected_from config commands (empty_state config) list_request good (sound_empty config) (timed_empty config good)
 
-pub dated_throughout : (config : Config) (commands : List Timed) → IsConfig config → Throughout (IsDatedAfter config) (run config (empty_state config) commands)
+pub dated_throughout : (config : RepositoryConfig) (commands : List Timed) → IsConfig config → Throughout (IsDatedAfter config) (run config (empty_state config) commands)
 dated_throughout config commands good = dated_from config commands (empty_state config) good (sound_empty config) (timed_empty config good)

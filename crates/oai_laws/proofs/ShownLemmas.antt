@@ -24,20 +24,21 @@ use Rattle.oai_args.specs.declared.requests.Ask.TheVariants as ask
 use Rattle.oai_answers.specs.Answers.{Attributes, Page}
 use Rattle.oai_answers.specs.Seen.{IsGoodFormat, IsRegular, has_own_fields}
 use Rattle.oai_repo.specs.Answers.{arguments_of_request, disseminated, filter_of, formats_answer, item_formats_answer, record_answer, sets_answer}
-use Rattle.oai_settings.specs.Config.{Config}
+use Rattle.oai_settings.specs.Config.{RepositoryConfig}
 use Rattle.oai_laws.specs.Effects.{IsSound, is_formed, has_known_records}
 use Rattle.oai_repo.specs.Listing.{Response, request_response, opens_list, continued_response, has_no_sets, is_continued, list_response, new_list, part_from, part_answer, prolonged, with_answer, answer_by_verb, format_response, selection_response, complete_answer, token_response, wait_at, retry_after, where_continued, complete_page, is_of_number}
 use Rattle.oai_repo.specs.Machine.{Command, act, act_on_change, requesting, changing, outcome_of, rejecting}
-use Rattle.oai_repo.specs.Changes.{refusal_of, stamp_at}
+use Rattle.oai_holdings.specs.Changes.{refusal_of, stamp_at}
 use Rattle.oai_laws.specs.Shown.{IsRegularOutcome}
-use Rattle.oai_repo.specs.State.{FrozenList, NamedSet, OpenLists, RepoState}
+use Rattle.oai_holdings.specs.Holdings.{NamedSet}
+use Rattle.oai_repo.specs.State.{FrozenList, OpenLists, RepoState}
 use Rattle.oai_item.specs.declared.changes.Change.{Change}
 use Rattle.oai_item.specs.declared.refusals.ChangeRefusal.{ChangeRefusal}
 use Rattle.oai_laws.proofs.EffectLemmas.{named, kept_formed, selected_formed}
 use Rattle.oai_laws.proofs.FollowLemmas.{part_items}
 use Rattle.oai_laws.proofs.StandLemmas.{of_found}
 use Rattle.oai_item.proofs.Named.{of_found as of_named}
-use Rattle.oai_repo.specs.Kept.{is_well_kept}
+use Rattle.oai_holdings.specs.Kept.{is_well_kept}
 
 -- ---- formats and fields
 
@@ -69,12 +70,12 @@ known_fields formats prefix format (r ∷ records) named all =
     by_test true same here later = ap (λ (o : Option Format). are_fields_of o r.1) (sym named ∙ ap (λ (p : List ℕ). format_named p formats) (sym (same refl))) ∙ here
     by_test false same here later = later
 
-own_fields : (config : Config) (prefix : List ℕ) (format : Format) (item : ItemState) → format_named prefix config.formats ≡ Some format → has_known_records config item ≡ true → has_own_fields format item ≡ true
+own_fields : (config : RepositoryConfig) (prefix : List ℕ) (format : Format) (item : ItemState) → format_named prefix config.formats ≡ Some format → has_known_records config item ≡ true → has_own_fields format item ≡ true
 own_fields config prefix format item found formed =
     let parts = and_parts (list_all (has_format config.formats) item.formats) (list_all (has_known_fields config.formats) item.formats) formed in
     ap (λ (p : List ℕ). are_fields_of (Some format) (fields_in p item.formats)) (named prefix config.formats format found) ∙ known_fields config.formats prefix format item.formats found parts.1
 
-all_own : (config : Config) (prefix : List ℕ) (format : Format) (items : List ItemState) → format_named prefix config.formats ≡ Some format → list_all (has_known_records config) items ≡ true
+all_own : (config : RepositoryConfig) (prefix : List ℕ) (format : Format) (items : List ItemState) → format_named prefix config.formats ≡ Some format → list_all (has_known_records config) items ≡ true
     → list_all (has_own_fields format) items ≡ true
 all_own config prefix format items found formed = all-weaker (has_known_records config) (has_own_fields format) (λ item h. own_fields config prefix format item found h) items formed
 
@@ -92,7 +93,7 @@ regular_told list.Identifiers format page good own = tt
 regular_told list.Records format page good own = (good, own)
 regular_told list.Sets format page good own = tt
 
-regular_whole : (config : Config) (verb : ListVerb) (format : Format) (items : List ItemState) → IsGoodFormat format → list_all (has_own_fields format) items ≡ true
+regular_whole : (config : RepositoryConfig) (verb : ListVerb) (format : Format) (items : List ItemState) → IsGoodFormat format → list_all (has_own_fields format) items ≡ true
     → IsRegular (complete_answer config verb format items)
 regular_whole config verb format [] good own = tt
 regular_whole config verb format (item ∷ items) good own = regular_told verb format (complete_page config (item ∷ items)) good own
@@ -104,18 +105,18 @@ part_all p n k items all =
     (and_parts (list_all p (take n (drop k items))) (list_all p (drop n (drop k items)))
     (sym (list_all-append p (take n (drop k items)) (drop n (drop k items))) ∙ ap (list_all p) (take-append-drop n (drop k items)) ∙ behind)).0
 
-regular_part : (config : Config) (verb : ListVerb) (format : Format) (list : FrozenList) (cursor : ℕ) → IsGoodFormat format → list_all (has_own_fields format) list.items ≡ true
+regular_part : (config : RepositoryConfig) (verb : ListVerb) (format : Format) (list : FrozenList) (cursor : ℕ) → IsGoodFormat format → list_all (has_own_fields format) list.items ≡ true
     → IsRegular (answer_by_verb verb format (part_from config list cursor))
 regular_part config verb format list cursor good own =
     regular_told verb format (part_from config list cursor) good
     (ap (list_all (has_own_fields format)) (part_items config list cursor) ∙ part_all (has_own_fields format) config.chunk cursor list.items own)
 
-regular_begun : (config : Config) (open_lists : OpenLists) (format : Format) (list : FrozenList) (wait : Option ℤ) → IsGoodFormat format → list_all (has_own_fields format) list.items ≡ true
+regular_begun : (config : RepositoryConfig) (open_lists : OpenLists) (format : Format) (list : FrozenList) (wait : Option ℤ) → IsGoodFormat format → list_all (has_own_fields format) list.items ≡ true
     → IsRegularDone (opens_list config open_lists format list wait)
 regular_begun config open_lists format list (Some seconds) good own = tt
 regular_begun config open_lists format list None good own = regular_part config list.verb format list 0 good own
 
-regular_items : (config : Config) (clock : ℤ) (open_lists : OpenLists) (verb : ListVerb) (format : Format) (items : List ItemState) → IsGoodFormat format → list_all (has_own_fields format) items ≡ true
+regular_items : (config : RepositoryConfig) (clock : ℤ) (open_lists : OpenLists) (verb : ListVerb) (format : Format) (items : List ItemState) → IsGoodFormat format → list_all (has_own_fields format) items ≡ true
     → IsRegularDone (selection_response config clock open_lists verb format items)
 unfolding selection_response
 regular_items config clock open_lists verb format items good own =
@@ -123,26 +124,26 @@ regular_items config clock open_lists verb format items good own =
     (λ _. regular_whole config verb format items good own)
     (λ _. regular_begun config open_lists format (new_list config clock open_lists verb format.prefix items) (wait_at config clock open_lists) good own)
 
-regular_in : (config : Config) (clock : ℤ) (open_lists : OpenLists) (verb : ListVerb) (prefix : List ℕ) (format : Option Format) (items : List ItemState) → AreRepositoryFormats config.formats
+regular_in : (config : RepositoryConfig) (clock : ℤ) (open_lists : OpenLists) (verb : ListVerb) (prefix : List ℕ) (format : Option Format) (items : List ItemState) → AreRepositoryFormats config.formats
     → format_named prefix config.formats ≡ format → list_all (has_known_records config) items ≡ true → IsRegularDone (format_response config clock open_lists verb format items)
 regular_in config clock open_lists verb prefix None items rules found formed = tt
 regular_in config clock open_lists verb prefix (Some format) items rules found formed =
     regular_items config clock open_lists verb format items (found_good prefix config.formats format rules found) (all_own config prefix format items found formed)
 
-regular_list : (config : Config) (clock : ℤ) (open_lists : OpenLists) (sets : List NamedSet) (verb : ListVerb) (prefix : List ℕ) (set : Option (List ℕ)) (items : List ItemState)
+regular_list : (config : RepositoryConfig) (clock : ℤ) (open_lists : OpenLists) (sets : List NamedSet) (verb : ListVerb) (prefix : List ℕ) (set : Option (List ℕ)) (items : List ItemState)
     → AreRepositoryFormats config.formats → list_all (has_known_records config) items ≡ true → IsRegularDone (list_response config clock open_lists sets verb prefix set items)
 regular_list config clock open_lists sets verb prefix set items rules formed =
     cond_both (is_some set && has_no_sets sets) _ _ IsRegularDone (λ _. tt) (λ _. regular_in config clock open_lists verb prefix (format_named prefix config.formats) items rules refl formed)
 
 -- ---- tokens
 
-regular_part_told : (config : Config) (verb : ListVerb) (list : FrozenList) (format : Option Format) (cursor : ℕ) → AreRepositoryFormats config.formats
+regular_part_told : (config : RepositoryConfig) (verb : ListVerb) (list : FrozenList) (format : Option Format) (cursor : ℕ) → AreRepositoryFormats config.formats
     → format_named list.prefix config.formats ≡ format → is_formed config list ≡ true → IsRegular (part_answer verb format (part_from config list cursor))
 regular_part_told config verb list None cursor rules found formed = tt
 regular_part_told config verb list (Some format) cursor rules found formed =
     regular_part config verb format list cursor (found_good list.prefix config.formats format rules found) (all_own config list.prefix format list.items found formed)
 
-regular_continued : (config : Config) (clock : ℤ) (open_lists : OpenLists) (verb : ListVerb) (token : Token) (found : Option FrozenList) → AreRepositoryFormats config.formats
+regular_continued : (config : RepositoryConfig) (clock : ℤ) (open_lists : OpenLists) (verb : ListVerb) (token : Token) (found : Option FrozenList) → AreRepositoryFormats config.formats
     → ((list : FrozenList) → found ≡ Some list → is_formed config list ≡ true) → IsRegularDone (continued_response config clock open_lists verb token.cursor (where_continued config verb token found))
 regular_continued config clock open_lists verb token None rules formed = tt
 regular_continued config clock open_lists verb token (Some list) rules formed =
@@ -150,7 +151,7 @@ regular_continued config clock open_lists verb token (Some list) rules formed =
     (λ _. regular_part_told config verb (prolonged config clock list) (format_named list.prefix config.formats) token.cursor rules refl (formed list refl))
     (λ _. tt)
 
-regular_token : (config : Config) (state : RepoState) (verb : ListVerb) (token : Option Token) → AreRepositoryFormats config.formats → IsSound config state
+regular_token : (config : RepositoryConfig) (state : RepoState) (verb : ListVerb) (token : Option Token) → AreRepositoryFormats config.formats → IsSound config state
     → IsRegularDone (token_response config state.clock state.open_lists verb token)
 regular_token config state verb None rules sound = tt
 regular_token config state verb (Some token) rules sound =
@@ -159,14 +160,14 @@ regular_token config state verb (Some token) rules sound =
 
 -- ---- GetRecord
 
-regular_disseminated : (config : Config) (item : ItemState) (prefix : List ℕ) (format : Option Format) → AreRepositoryFormats config.formats → format_named prefix config.formats ≡ format
+regular_disseminated : (config : RepositoryConfig) (item : ItemState) (prefix : List ℕ) (format : Option Format) → AreRepositoryFormats config.formats → format_named prefix config.formats ≡ format
     → has_known_records config item ≡ true → IsRegular (disseminated config item format)
 regular_disseminated config item prefix None rules found formed = tt
 regular_disseminated config item prefix (Some format) rules found formed =
     cond_both (has_record format.prefix item.formats) _ _ IsRegular
     (λ _. (found_good prefix config.formats format rules found, own_fields config prefix format item found formed)) (λ _. tt)
 
-regular_record : (config : Config) (state : RepoState) (identifier prefix : List ℕ) (found : Option ItemState) → item_named identifier state.holdings.items ≡ found → AreRepositoryFormats config.formats
+regular_record : (config : RepositoryConfig) (state : RepoState) (identifier prefix : List ℕ) (found : Option ItemState) → item_named identifier state.holdings.items ≡ found → AreRepositoryFormats config.formats
     → IsSound config state → IsRegular (record_answer config found prefix)
 regular_record config state identifier prefix None is rules sound = tt
 regular_record config state identifier prefix (Some item) is rules sound =
@@ -175,11 +176,11 @@ regular_record config state identifier prefix (Some item) is rules sound =
 
 -- ---- the other verbs
 
-regular_item_formats : (config : Config) (found : Option ItemState) → IsRegular (item_formats_answer config found)
+regular_item_formats : (config : RepositoryConfig) (found : Option ItemState) → IsRegular (item_formats_answer config found)
 regular_item_formats config None = tt
 regular_item_formats config (Some item) = cond_both item.live _ _ IsRegular (λ _. tt) (λ _. tt)
 
-regular_formats : (config : Config) (items : List ItemState) (identifier : Option (List ℕ)) → IsRegular (formats_answer config items identifier)
+regular_formats : (config : RepositoryConfig) (items : List ItemState) (identifier : Option (List ℕ)) → IsRegular (formats_answer config items identifier)
 regular_formats config items None = tt
 regular_formats config items (Some identifier) = regular_item_formats config (item_named identifier items)
 
@@ -187,7 +188,7 @@ regular_sets : (sets : List NamedSet) → IsRegular (sets_answer sets)
 regular_sets [] = tt
 regular_sets (set ∷ sets) = tt
 
-regular_done : (config : Config) (state : RepoState) (request : AskOrError) → AreRepositoryFormats config.formats → IsSound config state → IsRegularDone (request_response config state request)
+regular_done : (config : RepositoryConfig) (state : RepoState) (request : AskOrError) → AreRepositoryFormats config.formats → IsSound config state → IsRegularDone (request_response config state request)
 regular_done config state bad_verb rules sound = tt
 regular_done config state bad_argument rules sound = tt
 regular_done config state (asks ask.Identify) rules sound = tt
@@ -201,15 +202,15 @@ regular_done config state (asks (ask.Resume verb token)) rules sound = regular_t
 
 -- ---- a command
 
-regular_outcome : (config : Config) (clock : ℤ) (asked : Attributes) (said : Response) → IsRegularSaid said → IsRegularOutcome (outcome_of config clock asked said)
+regular_outcome : (config : RepositoryConfig) (clock : ℤ) (asked : Attributes) (said : Response) → IsRegularSaid said → IsRegularOutcome (outcome_of config clock asked said)
 regular_outcome config clock asked (with_answer answer) h = h
 regular_outcome config clock asked (retry_after seconds) h = tt
 
-regular_change : (config : Config) (state : RepoState) (stamp : ℤ) (change : Change) (refusal : Option ChangeRefusal) → IsRegularOutcome (act_on_change config state stamp change refusal).0
+regular_change : (config : RepositoryConfig) (state : RepoState) (stamp : ℤ) (change : Change) (refusal : Option ChangeRefusal) → IsRegularOutcome (act_on_change config state stamp change refusal).0
 regular_change config state stamp change (Some cause) = tt
 regular_change config state stamp change None = tt
 
-pub regular_act : (config : Config) (state : RepoState) (command : Command) → AreRepositoryFormats config.formats → IsSound config state → IsRegularOutcome (act config state command).0
+pub regular_act : (config : RepositoryConfig) (state : RepoState) (command : Command) → AreRepositoryFormats config.formats → IsSound config state → IsRegularOutcome (act config state command).0
 unfolding act
 regular_act config state (requesting request) rules sound = regular_outcome config state.clock (arguments_of_request request) (request_response config state request).0 (regular_done config state request rules sound)
 regular_act config state (changing change) rules sound =

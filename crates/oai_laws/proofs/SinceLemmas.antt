@@ -14,8 +14,8 @@ use Rattle.oai_item.specs.Item.{ItemState, Metadata, has_record, record_named}
 use Rattle.oai_item.specs.Items.{item_named}
 use Rattle.oai_item.specs.declared.deleted_record.DeletedRecord.TheVariants.{Persistent}
 use Rattle.oai_item.proofs.Named.{item_named-new}
-use Rattle.oai_settings.specs.Config.{Config}
-use Rattle.oai_repo.specs.Changes.{drops_format, stamp_at, with_new}
+use Rattle.oai_settings.specs.Config.{RepositoryConfig}
+use Rattle.oai_holdings.specs.Changes.{drops_format, stamp_at, with_new}
 use Rattle.oai_repo.specs.Machine.{Command, act}
 use Rattle.oai_repo.specs.State.{RepoState, moved}
 use Rattle.oai_laws.specs.Effects.{Effect, IsPossible, IsSound, effected, item_put, item_taken, items_purged, list_carried_on, list_opened, set_added, unchanged}
@@ -82,7 +82,7 @@ since_put stamp old items item since dated kept q =
 -- ---- in the course of time
 
 -- a state that a repository comes to from a clock on, at which it held those items
-pub record IsAfter (config : Config) (clock : ℤ) (old : List ItemState) (state : RepoState) : Type 0 where
+pub record IsAfter (config : RepositoryConfig) (clock : ℤ) (old : List ItemState) (state : RepoState) : Type 0 where
   pub sound : IsSound config state
   pub writable : IsWritable state.clock
   pub later : clock ≤ℤ state.clock
@@ -94,10 +94,10 @@ le_again z = omega (arith, ints)
 le_trans : (a b c : ℤ) → a ≤ℤ b → b ≤ℤ c → a ≤ℤ c
 le_trans a b c h g = omega (arith, ints)
 
-pub after_itself : (config : Config) (state : RepoState) → IsSound config state → IsWritable state.clock → IsAfter config state.clock state.holdings.items state
+pub after_itself : (config : RepositoryConfig) (state : RepoState) → IsSound config state → IsWritable state.clock → IsAfter config state.clock state.holdings.items state
 after_itself config state sound writable = record { sound = sound; writable = writable; later = le_again state.clock; since = λ q. inl refl }
 
-pub after_moved : (config : Config) (clock : ℤ) (old : List ItemState) (moment : ℤ) (state : RepoState) → IsAfter config clock old state → IsAfter config clock old (moved moment state)
+pub after_moved : (config : RepositoryConfig) (clock : ℤ) (old : List ItemState) (moment : ℤ) (state : RepoState) → IsAfter config clock old state → IsAfter config clock old (moved moment state)
 after_moved config clock old moment state after = record {
   sound = sound_moved config moment state after.sound;
   writable = tick-in_range state.clock moment after.writable;
@@ -105,7 +105,7 @@ after_moved config clock old moment state after = record {
   since = after.since;
 }
 
-same_clock : (config : Config) (state : RepoState) (effect : Effect) → (effected config state effect).clock ≡ state.clock
+same_clock : (config : RepositoryConfig) (state : RepoState) (effect : Effect) → (effected config state effect).clock ≡ state.clock
 same_clock config state unchanged = refl
 same_clock config state (item_put item) = refl
 same_clock config state (item_taken identifier) = refl
@@ -115,7 +115,7 @@ same_clock config state (list_carried_on number next) = refl
 same_clock config state (list_opened list) = refl
 
 -- where deleted items are kept, nothing is taken out
-since_effected : (config : Config) (clock : ℤ) (old : List ItemState) (state : RepoState) (effect : Effect) → config.deleted ≡ Persistent → IsPossible config state effect → IsAfter config clock old state
+since_effected : (config : RepositoryConfig) (clock : ℤ) (old : List ItemState) (state : RepoState) (effect : Effect) → config.deleted ≡ Persistent → IsPossible config state effect → IsAfter config clock old state
     → IsSince (stamp_at config clock) old (effected config state effect).holdings.items
 since_effected config clock old state unchanged persistent possible after = after.since
 since_effected config clock old state (item_put item) persistent possible after =
@@ -127,7 +127,7 @@ since_effected config clock old state (set_added set) persistent possible after 
 since_effected config clock old state (list_carried_on number next) persistent possible after = after.since
 since_effected config clock old state (list_opened list) persistent possible after = after.since
 
-after_effected : (config : Config) (clock : ℤ) (old : List ItemState) (state : RepoState) (effect : Effect) → config.deleted ≡ Persistent → IsPossible config state effect → IsAfter config clock old state
+after_effected : (config : RepositoryConfig) (clock : ℤ) (old : List ItemState) (state : RepoState) (effect : Effect) → config.deleted ≡ Persistent → IsPossible config state effect → IsAfter config clock old state
     → IsAfter config clock old (effected config state effect)
 after_effected config clock old state effect persistent possible after =
     let same = sym (same_clock config state effect) in
@@ -138,7 +138,7 @@ after_effected config clock old state effect persistent possible after =
       since = since_effected config clock old state effect persistent possible after;
     }
 
-pub after_act : (config : Config) (clock : ℤ) (old : List ItemState) (state : RepoState) (command : Command) → config.deleted ≡ Persistent → IsAfter config clock old state → IsAfter config clock old (act config state command).1
+pub after_act : (config : RepositoryConfig) (clock : ℤ) (old : List ItemState) (state : RepoState) (command : Command) → config.deleted ≡ Persistent → IsAfter config clock old state → IsAfter config clock old (act config state command).1
 after_act config clock old state command persistent after =
     let done = effect_of config state command after.sound in
     subst (IsAfter config clock old) (sym done.done) (after_effected config clock old state done.effect persistent done.possible after)

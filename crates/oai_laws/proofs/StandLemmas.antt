@@ -9,7 +9,7 @@ use Rattle.std.proofs.Math.Nat.{le-max_left}
 use Rattle.std.proofs.lemmas.Int.{ints}
 use Rattle.std.proofs.lemmas.List.Folds.{find-append}
 use Rattle.oai_time.specs.Clock.{tick}
-use Rattle.oai_settings.specs.Config.{Config}
+use Rattle.oai_settings.specs.Config.{RepositoryConfig}
 use Rattle.oai_laws.specs.Effects.{Effect, IsSound, effected, is_given, item_put, item_taken, items_purged, list_carried_on, list_opened, set_added, unchanged}
 use Rattle.oai_repo.specs.Listing.{carried_on, carried_on_at, highest_given, is_of_number, with_carried_on, with_new_list}
 use Rattle.oai_repo.specs.State.{FrozenList, OpenLists, RepoState, is_open_at, moved}
@@ -76,7 +76,7 @@ abbrev pub list_there : (list : FrozenList) (open_lists : OpenLists) → IsThere
 list_there list open_lists there = record list { end = there.0; given = there.1 }
 
 -- a list with the end that was told: this is not later than the clock and the lifetime, and until then the list is there
-pub record Stands (config : Config) (list : FrozenList) (state : RepoState) : Type 0 where
+pub record Stands (config : RepositoryConfig) (list : FrozenList) (state : RepoState) : Type 0 where
   pub soon : list.end ≤ℤ (state.clock +ℤ pos config.lifetime)
   pub there : int_lt state.clock list.end ≡ true → IsThere list state.open_lists
 
@@ -94,7 +94,7 @@ was_before clock now end later h = grind (arith, ints)
 before_that : (now end last : ℤ) → int_lt now end ≡ true → end ≤ℤ last → int_lt now last ≡ true
 before_that now end last h later = grind (arith, ints)
 
-pub stands_moved : (config : Config) (list : FrozenList) (moment : ℤ) (state : RepoState) → Stands config list state → Stands config list (moved moment state)
+pub stands_moved : (config : RepositoryConfig) (list : FrozenList) (moment : ℤ) (state : RepoState) → Stands config list state → Stands config list (moved moment state)
 stands_moved config list moment state stands =
     let now : ℤ = tick state.clock moment in
     let later : state.clock ≤ℤ now = not_back state.clock moment in
@@ -115,7 +115,7 @@ stands_moved config list moment state stands =
 itself : (a : ℤ) → a ≤ℤ a
 itself a = grind (arith, ints)
 
-pub same_test : (config : Config) (clock : ℤ) (number : ℕ) (next : Option ℕ) (other : ℕ) (list : FrozenList) → is_of_number other (carried_on_at config clock number next list) ≡ is_of_number other list
+pub same_test : (config : RepositoryConfig) (clock : ℤ) (number : ℕ) (next : Option ℕ) (other : ℕ) (list : FrozenList) → is_of_number other (carried_on_at config clock number next list) ≡ is_of_number other list
 same_test config clock number next other list = ap (λ (n : ℕ). eqb n other) (same_number config clock number next list)
 
 -- the highest cursor falls neither by a token, nor where it was higher before
@@ -128,14 +128,14 @@ given_higher None given other h = h
 given_higher (Some cursor) given other h = omega (arith, h)
 
 -- a list that is carried on, or is not, ends no earlier
-still_there : (config : Config) (clock : ℤ) (number : ℕ) (next : Option ℕ) (list : FrozenList) (end : ℤ) (given : ℕ) (test : Bool) → list.end ≤ℤ end → list.given ≤ given → list.end ≤ℤ (clock +ℤ pos config.lifetime)
+still_there : (config : RepositoryConfig) (clock : ℤ) (number : ℕ) (next : Option ℕ) (list : FrozenList) (end : ℤ) (given : ℕ) (test : Bool) → list.end ≤ℤ end → list.given ≤ given → list.end ≤ℤ (clock +ℤ pos config.lifetime)
     → (later : ℤ) × (more : ℕ) × (list.end ≤ℤ later) × (list.given ≤ more)
     × (cond test (record list { end = clock +ℤ pos config.lifetime; given = highest_given next given }) (record list { end = end; given = given }) ≡ record list { end = later; given = more })
 still_there config clock number next list end given true within fewer soon =
     let rises = given_rises next given in (clock +ℤ pos config.lifetime, highest_given next given, soon, omega (arith, fewer, rises), refl)
 still_there config clock number next list end given false within fewer soon = (end, given, within, fewer, refl)
 
-carried_there : (config : Config) (clock : ℤ) (number : ℕ) (next : Option ℕ) (list : FrozenList) (open_lists : OpenLists) → list.end ≤ℤ (clock +ℤ pos config.lifetime) → IsThere list open_lists
+carried_there : (config : RepositoryConfig) (clock : ℤ) (number : ℕ) (next : Option ℕ) (list : FrozenList) (open_lists : OpenLists) → list.end ≤ℤ (clock +ℤ pos config.lifetime) → IsThere list open_lists
     → IsThere list (with_carried_on config clock number next open_lists)
 carried_there config clock number next list open_lists soon there =
     let found : FrozenList = list_there list open_lists there in
@@ -156,7 +156,7 @@ opened_there list other open_lists there = (
   find-append (is_of_number list.number) open_lists.lists (other ∷ []) ∙ ap (λ (o : Option FrozenList). option_or o (find (is_of_number list.number) (other ∷ []))) there.4,
 )
 
-pub stands_effected : (config : Config) (list : FrozenList) (state : RepoState) (effect : Effect) → Stands config list state → Stands config list (effected config state effect)
+pub stands_effected : (config : RepositoryConfig) (list : FrozenList) (state : RepoState) (effect : Effect) → Stands config list state → Stands config list (effected config state effect)
 stands_effected config list state unchanged stands = stands
 stands_effected config list state (item_put item) stands = record { soon = stands.soon; there = stands.there }
 stands_effected config list state (item_taken identifier) stands = record { soon = stands.soon; there = stands.there }
@@ -174,7 +174,7 @@ stands_effected config list state (list_opened other) stands = record {
 -- ---- a list begins to stand
 
 -- one that is opened
-pub stands_opened : (config : Config) (state : RepoState) (list : FrozenList) → IsSound config state → list.number ≡ state.open_lists.next → list.end ≡ state.clock +ℤ pos config.lifetime
+pub stands_opened : (config : RepositoryConfig) (state : RepoState) (list : FrozenList) → IsSound config state → list.number ≡ state.open_lists.next → list.end ≡ state.clock +ℤ pos config.lifetime
     → Stands config list (effected config state (list_opened list))
 stands_opened config state list sound number lasting = record {
   soon = subst (λ (e : ℤ). list.end ≤ℤ e) lasting (itself list.end);
@@ -193,7 +193,7 @@ stands_opened config state list sound number lasting = record {
     own n = grind (arith, nat_tests)
 
 -- one that is continued stands with its new end
-pub stands_carried_on : (config : Config) (state : RepoState) (next : Option ℕ) (list : FrozenList) → IsThere list state.open_lists
+pub stands_carried_on : (config : RepositoryConfig) (state : RepoState) (next : Option ℕ) (list : FrozenList) → IsThere list state.open_lists
     → Stands config (carried_on config state.clock next list) (effected config state (list_carried_on list.number next))
 stands_carried_on config state next list there = record {
   soon = itself (state.clock +ℤ pos config.lifetime);

@@ -11,12 +11,12 @@ use Rattle.oai_lists.specs.declared.tokens.Token.{Token}
 use Rattle.oai_args.specs.Asks.{asks}
 use Rattle.oai_args.specs.declared.requests.Ask.TheVariants as ask
 use Rattle.oai_answers.specs.Answers.{Attributes, Page}
-use Rattle.oai_settings.specs.Config.{Config}
+use Rattle.oai_settings.specs.Config.{RepositoryConfig}
 use Rattle.oai_repo.specs.Answers.{arguments_of_request}
 use Rattle.oai_repo.specs.Listing.{Response, continued_response, is_of_number, is_continued, is_same_verb, is_valid_cursor, part_from, part_answer, prolonged, with_answer, answer_by_verb, token_response, where_continued}
 use Rattle.oai_repo.specs.Machine.{act, requesting, outcome_of}
 use Rattle.oai_repo.specs.State.{FrozenList, OpenLists, RepoState}
-use Rattle.oai_laws.specs.Effects.{IsSound, is_of_format}
+use Rattle.oai_laws.specs.Effects.{IsSound, is_frozen_of_format}
 use Rattle.oai_laws.specs.Following.{IsContinued, page_in, page_shown}
 use Rattle.oai_laws.proofs.StandLemmas.{of_found}
 
@@ -29,17 +29,17 @@ shown_by list.Records list.Sets format page same = cc
 shown_by list.Sets list.Sets format page same = cc
 
 -- a part of it in its format, which the repository has
-pub part_shown : (config : Config) (clock : ℤ) (asked : Attributes) (its verb : ListVerb) (format : Option Format) (page : Page) → is_some format ≡ true → is_same_verb its verb ≡ true
+pub part_shown : (config : RepositoryConfig) (clock : ℤ) (asked : Attributes) (its verb : ListVerb) (format : Option Format) (page : Page) → is_some format ≡ true → is_same_verb its verb ≡ true
     → page_shown (outcome_of config clock asked (with_answer (part_answer verb format page))) ≡ Some page
 part_shown config clock asked its verb None page known same = cc
 part_shown config clock asked its verb (Some format) page known same = shown_by its verb format page same
 
 -- what is answered after that was said
-abbrev IsContinuedBy : Config → ℤ → Attributes → Response × OpenLists → Type 0
+abbrev IsContinuedBy : RepositoryConfig → ℤ → Attributes → Response × OpenLists → Type 0
 IsContinuedBy config clock asked done = IsContinued (outcome_of config clock asked done.0)
 
-found_shown : (config : Config) (clock : ℤ) (open_lists : OpenLists) (asked : Attributes) (verb : ListVerb) (token : Token) (found : Option FrozenList)
-    → ((list : FrozenList) → found ≡ Some list → is_of_format config list ≡ true)
+found_shown : (config : RepositoryConfig) (clock : ℤ) (open_lists : OpenLists) (asked : Attributes) (verb : ListVerb) (token : Token) (found : Option FrozenList)
+    → ((list : FrozenList) → found ≡ Some list → is_frozen_of_format config list ≡ true)
     → IsContinuedBy config clock asked (continued_response config clock open_lists verb token.cursor (where_continued config verb token found))
 found_shown config clock open_lists asked verb token None known = inl refl
 found_shown config clock open_lists asked verb token (Some list) known =
@@ -51,13 +51,13 @@ found_shown config clock open_lists asked verb token (Some list) known =
     ))
     (λ _. inl refl)
 
-token_shown : (config : Config) (state : RepoState) (asked : Attributes) (verb : ListVerb) (token : Option Token) → IsSound config state
+token_shown : (config : RepositoryConfig) (state : RepoState) (asked : Attributes) (verb : ListVerb) (token : Option Token) → IsSound config state
     → IsContinuedBy config state.clock asked (token_response config state.clock state.open_lists verb token)
 token_shown config state asked verb None sound = inl refl
 token_shown config state asked verb (Some token) sound =
     found_shown config state.clock state.open_lists asked verb token (find (is_of_number token.list) state.open_lists.lists)
-    (λ list found. of_found (is_of_number token.list) (is_of_format config) state.open_lists.lists list found sound.known)
+    (λ list found. of_found (is_of_number token.list) (is_frozen_of_format config) state.open_lists.lists list found sound.known)
 
-pub tokens_shown : (config : Config) (state : RepoState) (verb : ListVerb) (token : List ℕ) → IsSound config state → IsContinued (act config state (requesting (asks (ask.Resume verb token)))).0
+pub tokens_shown : (config : RepositoryConfig) (state : RepoState) (verb : ListVerb) (token : List ℕ) → IsSound config state → IsContinued (act config state (requesting (asks (ask.Resume verb token)))).0
 unfolding act
 tokens_shown config state verb token sound = token_shown config state (arguments_of_request (asks (ask.Resume verb token))) verb (token_of token) sound

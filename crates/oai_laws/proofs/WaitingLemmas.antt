@@ -8,7 +8,7 @@ use Rattle.std.proofs.lemmas.Bool.Decides.{nat_tests}
 use Rattle.std.proofs.lemmas.Int.{ints}
 use Rattle.oai_names.proofs.Lists.{all-filter_same, filter_all}
 use Rattle.oai_lists.specs.declared.lists.TheConstants.{LAST_NUMBER}
-use Rattle.oai_settings.specs.Config.{Config, IsConfig, are_limits, is_chunk, is_items, is_lifetime, is_lists}
+use Rattle.oai_settings.specs.Config.{IsConfig, RepositoryConfig, are_limits, is_chunk, is_items, is_lifetime, is_lists}
 use Rattle.oai_repo.specs.Listing.{earliest_end, seconds_to_end, wait_at}
 use Rattle.oai_repo.specs.State.{FrozenList, OpenLists, is_open_at, still_open}
 use Rattle.oai_laws.specs.Waiting.{IsWait}
@@ -125,7 +125,7 @@ is_above n most h k = grind (arith, nat_tests)
 is_same : (n m : ℕ) → eqb n m ≡ true → n ≡ m
 is_same n m h = grind (arith, nat_tests)
 
-pub wait_is : (config : Config) (clock seconds : ℤ) (open_lists : OpenLists) → IsConfig config → wait_at config clock (still_open clock open_lists) ≡ Some seconds
+pub wait_is : (config : RepositoryConfig) (clock seconds : ℤ) (open_lists : OpenLists) → IsConfig config → wait_at config clock (still_open clock open_lists) ≡ Some seconds
     → IsWait config clock (still_open clock open_lists) seconds
 unfolding wait_at are_limits
 wait_is config clock seconds open_lists good retry_after =

@@ -12,12 +12,12 @@ use Rattle.oai_args.specs.declared.requests.Ask.TheVariants as ask
 use Rattle.oai_answers.specs.Answers.{fails}
 use Rattle.oai_answers.specs.declared.errors.ErrorCode.{ErrorCode}
 use Rattle.oai_answers.specs.declared.errors.ErrorCode.TheVariants.{CannotDisseminateFormat, NoRecordsMatch, NoSetHierarchy}
-use Rattle.oai_settings.specs.Config.{Config}
+use Rattle.oai_settings.specs.Config.{RepositoryConfig}
 use Rattle.oai_repo.specs.Listing.{Response, request_response, opens_list, has_no_sets, list_response, new_list, with_answer, answer_by_verb, format_response, selection_response, complete_answer, wait_at, complete_page}
 use Rattle.oai_repo.specs.State.{OpenLists, RepoState}
 use Rattle.oai_laws.specs.Effects.{IsSound}
 use Rattle.oai_args.specs.Verbs.{is_of_records}
-use Rattle.oai_laws.specs.Following.{IsAnsweredNone, IsAnsweredWhole, ListRequest, first_request, selection_in}
+use Rattle.oai_laws.specs.Following.{IsAnsweredNone, IsAnsweredWhole, ListQuery, first_request, selection_in}
 use Rattle.oai_laws.proofs.ChainLemmas.{format_there, sets_there}
 use Rattle.oai_laws.proofs.FollowLemmas.{asked_page}
 
@@ -27,14 +27,14 @@ le_test a b h = grind (arith, nat_tests)
 -- ---- what is said
 
 -- items that are no more than a page has
-told_short : (config : Config) (clock : ℤ) (open_lists : OpenLists) (verb : ListVerb) (format : Format) (items : List ItemState) → length items ≤ config.chunk
+told_short : (config : RepositoryConfig) (clock : ℤ) (open_lists : OpenLists) (verb : ListVerb) (format : Format) (items : List ItemState) → length items ≤ config.chunk
     → selection_response config clock open_lists verb format items ≡ (with_answer (complete_answer config verb format items), open_lists)
 unfolding selection_response
 told_short config clock open_lists verb format items few =
     cond-true (nat_le (length items) config.chunk) (with_answer (complete_answer config verb format items), open_lists) (opens_list config open_lists format (new_list config clock open_lists verb format.prefix items) (wait_at config clock open_lists))
     (le_test (length items) config.chunk few)
 
-told_some : (config : Config) (verb : ListVerb) (format : Format) (items : List ItemState) → items ≢ [] → complete_answer config verb format items ≡ answer_by_verb verb format (complete_page config items)
+told_some : (config : RepositoryConfig) (verb : ListVerb) (format : Format) (items : List ItemState) → items ≢ [] → complete_answer config verb format items ≡ answer_by_verb verb format (complete_page config items)
 told_some config verb format [] some = absurd (some refl)
 told_some config verb format (item ∷ items) some = refl
 
@@ -42,11 +42,11 @@ told_some config verb format (item ∷ items) some = refl
 abbrev IsError : OpenLists → Response × OpenLists → Type 0
 IsError open_lists done = (code : ErrorCode) × (done ≡ (with_answer (fails code), open_lists))
 
-none_in : (config : Config) (clock : ℤ) (open_lists : OpenLists) (verb : ListVerb) (format : Option Format) → IsError open_lists (format_response config clock open_lists verb format [])
+none_in : (config : RepositoryConfig) (clock : ℤ) (open_lists : OpenLists) (verb : ListVerb) (format : Option Format) → IsError open_lists (format_response config clock open_lists verb format [])
 none_in config clock open_lists verb None = (CannotDisseminateFormat, refl)
 none_in config clock open_lists verb (Some format) = (NoRecordsMatch, told_short config clock open_lists verb format [] (omega arith))
 
-none_said : (config : Config) (state : RepoState) (list_request : ListRequest) → IsError state.open_lists (list_response config state.clock state.open_lists state.holdings.sets list_request.verb list_request.prefix list_request.set [])
+none_said : (config : RepositoryConfig) (state : RepoState) (list_request : ListQuery) → IsError state.open_lists (list_response config state.clock state.open_lists state.holdings.sets list_request.verb list_request.prefix list_request.set [])
 none_said config state list_request =
     cond_both (is_some list_request.set && has_no_sets state.holdings.sets) _ _ (IsError state.open_lists)
     (λ _. (NoSetHierarchy, refl))
@@ -54,7 +54,7 @@ none_said config state list_request =
 
 -- ---- what is answered
 
-pub whole_told : (config : Config) (state : RepoState) (list_request : ListRequest) → IsSound config state → is_of_records list_request.verb ≡ true → selection_in state list_request ≢ [] → length (selection_in state list_request) ≤ config.chunk → IsAnsweredWhole config state list_request
+pub whole_told : (config : RepositoryConfig) (state : RepoState) (list_request : ListQuery) → IsSound config state → is_of_records list_request.verb ≡ true → selection_in state list_request ≢ [] → length (selection_in state list_request) ≤ config.chunk → IsAnsweredWhole config state list_request
 whole_told config state list_request sound verb some few =
     let items : List ItemState = selection_in state list_request in
     let format = format_there config state.holdings list_request.prefix list_request.from list_request.until list_request.set (format_named list_request.prefix config.formats) refl sound.kept some in
@@ -78,7 +78,7 @@ whole_told config state list_request sound verb some few =
       left = done.1;
     }
 
-pub none_told : (config : Config) (state : RepoState) (list_request : ListRequest) → selection_in state list_request ≡ [] → IsAnsweredNone config state list_request
+pub none_told : (config : RepositoryConfig) (state : RepoState) (list_request : ListQuery) → selection_in state list_request ≡ [] → IsAnsweredNone config state list_request
 none_told config state list_request none =
     let said = none_said config state list_request in
     let done = asked_page config state (first_request list_request) _ _ _ refl

@@ -18,16 +18,16 @@ use Rattle.oai_lists.specs.Tokens.{token_of, token_text}
 use Rattle.oai_answers.specs.Answers.{fails}
 use Rattle.oai_answers.specs.declared.errors.ErrorCode.TheVariants.{BadResumptionToken}
 use Rattle.oai_repo.proofs.ClockLemmas.{writable}
-use Rattle.oai_repo.specs.Changes.{changed, deposit_refusal, is_one_too_many, item_refusal, refusal_of}
+use Rattle.oai_holdings.specs.Changes.{changed, deposit_refusal, is_one_too_many, item_refusal, refusal_of}
 use Rattle.oai_repo.specs.Listing.{part_from, selection_response, wait_at}
 use Rattle.oai_repo.specs.Machine.{act}
 use Rattle.oai_repo.specs.Saved.{ended}
 use Rattle.oai_repo.specs.State.{RepoState, empty_state}
 use Rattle.oai_laws.specs.Effects.{IsSound}
 use Rattle.oai_laws.specs.Eras.{AreSuccessiveWithin, left_behind}
-use Rattle.oai_laws.specs.Following.{IsAnsweredWhole, ListRequest, answer_in, first_request, next_request, page_in, page_shown, selection_in}
+use Rattle.oai_laws.specs.Following.{IsAnsweredWhole, ListQuery, answer_in, first_request, next_request, page_in, page_shown, selection_in}
 use Rattle.oai_laws.specs.Harvests.{Harvest, IsHarvest, harvested, items_told, records_since}
-use Rattle.oai_laws.specs.Runs.{Exchange, IsPart, Timed, performed, run}
+use Rattle.oai_laws.specs.Runs.{IsPart, Timed, Transition, performed, run}
 use Rattle.oai_laws.specs.Worked.{after, all_headers, all_records, delete, deposit, worked_commands, worked_config}
 use Rattle.oai_laws.specs.WorkedHarvests.{archive_b, datestamp, harvest_run, prefix, told}
 use Rattle.oai_laws.proofs.EffectLemmas.{sound_moved}
@@ -93,7 +93,7 @@ list_left =
 abbrev pub e0 : RepoState
 e0 = ended 1_000_000 beside.s9
 
-abbrev request_4 : ListRequest
+abbrev request_4 : ListQuery
 request_4 = records_since prefix (Some (datestamp 8))
 
 -- the token of the first harvest comes again, before it expires; an item is deposited; and a fourth harvest is made, from the datestamp of the third one
@@ -104,7 +104,7 @@ later_commands =
     ∷ after 10 (first_request request_4)
     ∷ []
 
-abbrev pub later_run : List Exchange
+abbrev pub later_run : List Transition
 later_run = run archive_b e0 later_commands
 
 abbrev pub item_5 : ItemState
@@ -122,7 +122,7 @@ e2 = beside.state_at 9 five [] 1_000_002
 abbrev e3 : RepoState
 e3 = beside.state_at 10 five [] 1_000_002
 
-abbrev pub refused : Exchange
+abbrev pub refused : Transition
 refused = performed archive_b e0 (after 9 (next_request list.Records (codes "1.2")))
 
 led_e1 : beside.Leads e0 (after 9 (next_request list.Records (codes "1.2"))) e1
@@ -163,7 +163,7 @@ few_selected xs is = rw is (omega arith)
 answered_4 : IsAnsweredWhole archive_b e3 request_4
 answered_4 = whole_told archive_b e3 request_4 sound_e3 refl (one_selected (selection_in e3 request_4) selected_4) (few_selected (selection_in e3 request_4) selected_4)
 
-abbrev pub exchange_4 : Exchange
+abbrev pub exchange_4 : Transition
 exchange_4 = performed archive_b e2 (after 10 (first_request request_4))
 
 abbrev pub harvest_4 : Harvest
@@ -202,11 +202,11 @@ second_among : IsPart (beside.exchange_2 ∷ beside.exchange_3 ∷ []) harvest_r
 second_among = part_behind beside.page_1 (beside.exchange_2 ∷ beside.exchange_3 ∷ []) harvest_run beside.begun
 
 -- exchanges of one run and of a further one
-both_among : (some few all others : List Exchange) → IsPart some all → IsPart few others → IsPart (some ++ few) (all ++ others)
-both_among some few [] others none part = subst (λ (xs : List Exchange). IsPart (xs ++ few) others) (sym none) part
+both_among : (some few all others : List Transition) → IsPart some all → IsPart few others → IsPart (some ++ few) (all ++ others)
+both_among some few [] others none part = subst (λ (xs : List Transition). IsPart (xs ++ few) others) (sym none) part
 both_among some few (x ∷ all) others (inl one) part = inl (both_among some few all others one part)
 both_among some few (x ∷ all) others (inr here) part =
-    inr (here.0 ++ few, ap (λ (xs : List Exchange). xs ++ few) here.1, both_among here.0 few all others here.2 part)
+    inr (here.0 ++ few, ap (λ (xs : List Transition). xs ++ few) here.1, both_among here.0 few all others here.2 part)
 
 pub harvests_over : AreSuccessiveWithin archive_b (harvest_run ∷ later_run ∷ []) prefix beside.harvest_1 (beside.harvest_2 ∷ beside.harvest_3 ∷ harvest_4 ∷ [])
 harvests_over =

@@ -26,14 +26,14 @@ use Rattle.std.specs.Prelude.{option_and_then}
 use Rattle.std.proofs.lemmas.List.{append-nil}
 use Rattle.oai_repo.proofs.ClockLemmas.{writable}
 use Rattle.oai_repo.specs.Answers.{lower_given, upper_given}
-use Rattle.oai_repo.specs.Changes.{changed, deposit_refusal, is_one_too_many, item_refusal, refusal_of}
+use Rattle.oai_holdings.specs.Changes.{changed, deposit_refusal, is_one_too_many, item_refusal, refusal_of}
 use Rattle.oai_repo.specs.Listing.{list_response, part_from, selection_response, wait_at, with_answer}
 use Rattle.oai_repo.specs.Machine.{act}
 use Rattle.oai_repo.specs.State.{FrozenList, RepoState, empty_state, moved}
 use Rattle.oai_laws.specs.Effects.{IsSound}
 use Rattle.oai_laws.specs.Eras.{left_behind}
-use Rattle.oai_laws.specs.Following.{IsAnsweredWhole, IsChain, ListRequest, TokenOffer, answer_in, first_request, is_later, next_request, offer_in, page_in, page_shown, selection_in}
-use Rattle.oai_laws.specs.Runs.{Exchange, IsPart, Timed, performed, run}
+use Rattle.oai_laws.specs.Following.{IsAnsweredWhole, IsChain, ListQuery, TokenOffer, answer_in, first_request, is_later, next_request, offer_in, page_in, page_shown, selection_in}
+use Rattle.oai_laws.specs.Runs.{IsPart, Timed, Transition, performed, run}
 use Rattle.oai_laws.specs.Shown.{is_followed_to_its_end, is_last_page}
 use Rattle.oai_laws.specs.Worked.{after, delete, deposit}
 use Rattle.oai_laws.proofs.EffectLemmas.{sound_act, sound_empty, sound_moved}
@@ -140,10 +140,10 @@ led_7 = refl
 
 -- ---- the first harvest, over two pages
 
-abbrev pub page_1 : Exchange
+abbrev pub page_1 : Transition
 page_1 = performed archive_b s3 (after 5 (first_request (records_since prefix None)))
 
-abbrev pub page_2 : Exchange
+abbrev pub page_2 : Transition
 page_2 = performed archive_b s5 (after 6 (next_request list.Records (codes "1.2")))
 
 abbrev pub harvest_1 : Harvest
@@ -215,10 +215,10 @@ bound_7 = record { in_range = writable (second 7) refl; written = refl }
 abbrev pub filter_from : Option Bound → Filter
 filter_from bound = record { prefix = prefix; lower = lower_given bound; upper = upper_given None; set = None }
 
-abbrev pub request_2 : ListRequest
+abbrev pub request_2 : ListQuery
 request_2 = records_since prefix (Some (datestamp 5))
 
-abbrev pub request_3 : ListRequest
+abbrev pub request_3 : ListQuery
 request_3 = records_since prefix (Some (datestamp 7))
 
 four_from_5 : selected (filter_from (Some (OneSecond (second 5)))) four ≡ left_2 ∷ item_4 ∷ []
@@ -262,7 +262,7 @@ few_selected xs is = rw is (omega arith)
 answered_2 : IsAnsweredWhole archive_b s8 request_2
 answered_2 = whole_told archive_b s8 request_2 sound_8 refl (some_selected (selection_in s8 request_2) selected_2) (few_selected (selection_in s8 request_2) selected_2)
 
-abbrev pub exchange_2 : Exchange
+abbrev pub exchange_2 : Transition
 exchange_2 = performed archive_b s7 (after 7 (first_request request_2))
 
 abbrev pub harvest_2 : Harvest
@@ -279,7 +279,7 @@ harvested_2 = ap (λ o. items_told o ++ []) shown_2 ∙ append-nil answered_2.pa
 
 -- ---- the third harvest, of nothing
 
-abbrev pub exchange_3 : Exchange
+abbrev pub exchange_3 : Transition
 exchange_3 = performed archive_b s8 (after 8 (first_request request_3))
 
 abbrev pub harvest_3 : Harvest
@@ -300,11 +300,11 @@ harvested_3 = ap (λ o. items_told o ++ []) (ap (option_and_then page_in) answer
 -- ---- all of them
 
 -- a run passes over a command, or takes it up
-pub passes_over : (old new : RepoState) (timed : Timed) (commands : List Timed) (some : List Exchange) → Leads old timed new → IsPart some (run archive_b new commands)
+pub passes_over : (old new : RepoState) (timed : Timed) (commands : List Timed) (some : List Transition) → Leads old timed new → IsPart some (run archive_b new commands)
     → IsPart some (run archive_b old (timed ∷ commands))
 passes_over old new timed commands some leads part = inl (subst (λ (state : RepoState). IsPart some (run archive_b state commands)) (sym leads) part)
 
-pub takes_up : (old new : RepoState) (timed : Timed) (commands : List Timed) (some : List Exchange) → Leads old timed new → IsPart some (run archive_b new commands)
+pub takes_up : (old new : RepoState) (timed : Timed) (commands : List Timed) (some : List Transition) → Leads old timed new → IsPart some (run archive_b new commands)
     → IsPart (performed archive_b old timed ∷ some) (run archive_b old (timed ∷ commands))
 takes_up old new timed commands some leads part = inr (some, refl, subst (λ (state : RepoState). IsPart some (run archive_b state commands)) (sym leads) part)
 
@@ -333,7 +333,7 @@ abbrev from_2 : List Timed
 from_2 = after 0 (deposit (codes "oai:b:2")) ∷ from_3
 
 -- what is found behind three deposits is found in the run
-in_run : (some : List Exchange) → IsPart some (run archive_b s3 from_4) → IsPart some harvest_run
+in_run : (some : List Transition) → IsPart some (run archive_b s3 from_4) → IsPart some harvest_run
 in_run some part =
     passes_over (empty_state archive_b) s1 (after 0 (deposit (codes "oai:b:1"))) from_2 some led_1
     (passes_over s1 s2 (after 0 (deposit (codes "oai:b:2"))) from_3 some led_2
@@ -350,7 +350,7 @@ begun =
     (passes_over s5 s6 (after 6 (next_request list.Records (codes "1.2"))) from_7 (exchange_2 ∷ exchange_3 ∷ []) led_6
     (passes_over s6 s7 (after 6 (deposit (codes "oai:b:4"))) from_8 (exchange_2 ∷ exchange_3 ∷ []) led_7 last_two))))
 
-pub none_behind : (commands : List Exchange) → IsPart [] commands
+pub none_behind : (commands : List Transition) → IsPart [] commands
 none_behind [] = refl
 none_behind (x ∷ commands) = inl (none_behind commands)
 

@@ -15,12 +15,12 @@ use Rattle.oai_names.specs.Characters.{is_xml_text}
 use Rattle.oai_item.specs.ShortTexts.{is_short_text}
 use Rattle.oai_lists.specs.Tokens.{token_of, token_text}
 use Rattle.oai_answers.specs.Answers.{Page}
-use Rattle.oai_repo.specs.Changes.{changed, deposit_refusal, is_one_too_many, item_refusal, refusal_of}
+use Rattle.oai_holdings.specs.Changes.{changed, deposit_refusal, is_one_too_many, item_refusal, refusal_of}
 use Rattle.oai_settings.specs.Config.{IsConfig, are_limits, is_date, is_described}
 use Rattle.oai_laws.specs.Following.{IsChain, IsNextRequest, TokenOffer, first_request, is_later, joined, next_request, offer_in, page_shown, selection_in}
 use Rattle.oai_repo.specs.Listing.{part_from, selection_response, wait_at}
 use Rattle.oai_repo.specs.Machine.{act}
-use Rattle.oai_laws.specs.Runs.{Exchange, IsPart, Timed, performed, run}
+use Rattle.oai_laws.specs.Runs.{IsPart, Timed, Transition, performed, run}
 use Rattle.oai_repo.specs.State.{FrozenList, RepoState, empty_state}
 use Rattle.oai_laws.specs.Worked.{IsWorked, after, all_headers, all_records, delete, deposit, identifiers, worked_config, worked_run}
 
@@ -157,21 +157,21 @@ led_14 = refl
 -- ---- the chain
 
 -- the exchanges of the chain: the first page, the second, and the last
-abbrev pub opens : Exchange
+abbrev pub opens : Transition
 opens = performed worked_config s6 (after 60 (first_request all_records))
 
-abbrev pub second_page : Exchange
+abbrev pub second_page : Transition
 second_page = performed worked_config s12 (after 64 (next_request list.Records (codes "2.2")))
 
-abbrev pub last_page : Exchange
+abbrev pub last_page : Transition
 last_page = performed worked_config s14 (after 123 (next_request list.Records (codes "2.4")))
 
 -- a run passes over a command, or takes it up
-pub passes_over : (old new : RepoState) (timed : Timed) (commands : List Timed) (some : List Exchange) → Leads old timed new → IsPart some (run worked_config new commands)
+pub passes_over : (old new : RepoState) (timed : Timed) (commands : List Timed) (some : List Transition) → Leads old timed new → IsPart some (run worked_config new commands)
     → IsPart some (run worked_config old (timed ∷ commands))
 passes_over old new timed commands some leads part = inl (subst (λ (state : RepoState). IsPart some (run worked_config state commands)) (sym leads) part)
 
-pub takes_up : (old new : RepoState) (timed : Timed) (commands : List Timed) (some : List Exchange) → Leads old timed new → IsPart some (run worked_config new commands)
+pub takes_up : (old new : RepoState) (timed : Timed) (commands : List Timed) (some : List Transition) → Leads old timed new → IsPart some (run worked_config new commands)
     → IsPart (performed worked_config old timed ∷ some) (run worked_config old (timed ∷ commands))
 takes_up old new timed commands some leads part = inr (some, refl, subst (λ (state : RepoState). IsPart some (run worked_config state commands)) (sym leads) part)
 
@@ -220,9 +220,9 @@ from_2 = after 0 (deposit (codes "oai:a:2")) ∷ from_3
 
 pub among : IsPart (opens ∷ second_page ∷ last_page ∷ []) worked_run
 among =
-    let chain_15 : List Exchange = last_page ∷ [] in
-    let chain_13 : List Exchange = second_page ∷ chain_15 in
-    let chain : List Exchange = opens ∷ chain_13 in
+    let chain_15 : List Transition = last_page ∷ [] in
+    let chain_13 : List Transition = second_page ∷ chain_15 in
+    let chain : List Transition = opens ∷ chain_13 in
     let part_15 : IsPart chain_15 (run worked_config s14 from_15) = inr ([], refl, refl) in
     let part_14 : IsPart chain_15 (run worked_config s13 from_14) = passes_over s13 s14 (after 70 (deposit (codes "oai:a:5"))) from_15 chain_15 led_14 part_15 in
     let part_13 : IsPart chain_13 (run worked_config s12 from_13) = takes_up s12 s13 (after 64 (next_request list.Records (codes "2.2"))) from_14 chain_15 led_13 part_14 in
@@ -296,7 +296,7 @@ pub records_told : identifiers (joined (page_1 ∷ page_2 ∷ page_3 ∷ [])) �
 unfolding part_from
 records_told = refl
 
-pub worked : (first : Exchange) × (others : List Exchange) × IsWorked first others
+pub worked : (first : Transition) × (others : List Transition) × IsWorked first others
 worked = (
   opens,
   second_page ∷ last_page ∷ [],

@@ -11,9 +11,10 @@ use Rattle.oai_item.specs.declared.changes.Change.{Change}
 use Rattle.oai_item.specs.declared.changes.Change.TheVariants as change
 use Rattle.oai_item.specs.declared.deleted_record.DeletedRecord.{DeletedRecord}
 use Rattle.oai_item.specs.declared.deleted_record.DeletedRecord.TheVariants.{No, Transient, Persistent}
-use Rattle.oai_settings.specs.Config.{Config}
-use Rattle.oai_repo.specs.Changes.{stamp_at}
-use Rattle.oai_repo.specs.State.{Holdings, RepoState}
+use Rattle.oai_settings.specs.Config.{RepositoryConfig}
+use Rattle.oai_holdings.specs.Changes.{stamp_at}
+use Rattle.oai_holdings.specs.Holdings.{Holdings}
+use Rattle.oai_repo.specs.State.{RepoState}
 
 -- the identifier has that item, or none; each other identifier has what it had; and the sets are unchanged
 pub record IsReplaced (identifier : List ℕ) (item : Option ItemState) (old new : Holdings) : Type 0 where
@@ -46,7 +47,7 @@ pub record IsPurged (policy : DeletedRecord) (text : List ℕ) (old new : Holdin
 
 -- the change, with that datestamp, has made the second of the first: the item of a deposit is live, in the given sets
 -- and with the given records, without the setSpecs that cover another one; a set is the last one
-abbrev pub Makes : Config → ℤ → Change → Holdings → Holdings → Type 0
+abbrev pub Makes : RepositoryConfig → ℤ → Change → Holdings → Holdings → Type 0
 Makes config stamp (change.Deposit identifier sets records) old new = IsReplaced identifier (Some (live_item identifier stamp (reduced sets) records)) old new
 Makes config stamp (change.Delete identifier) old new = IsDeleted config.deleted stamp identifier old new
 Makes config stamp (change.Purge before) old new = IsPurged config.deleted before old new
@@ -54,6 +55,6 @@ Makes config stamp (change.AddSet spec name) old new = (new.items ≡ old.items)
 
 -- the change was accepted with a datestamp: it is the clock's (section 2.7.1), and what is held is what the change
 -- makes with it
-pub record DoesChange (config : Config) (change : Change) (old new : RepoState) (stamp : ℤ) : Type 0 where
+pub record DoesChange (config : RepositoryConfig) (change : Change) (old new : RepoState) (stamp : ℤ) : Type 0 where
   pub dated : stamp ≡ stamp_at config old.clock
   pub made : Makes config stamp change old.holdings new.holdings

@@ -5,7 +5,7 @@ use Rattle.oai_item.specs.declared.changes.Change.{Change}
 use Rattle.oai_args.specs.Asks.{AskOrError}
 use Rattle.oai_answers.specs.Answers.{fails}
 use Rattle.oai_answers.specs.declared.errors.ErrorCode.TheVariants.{BadResumptionToken}
-use Rattle.oai_settings.specs.Config.{Config}
+use Rattle.oai_settings.specs.Config.{RepositoryConfig}
 use Rattle.oai_repo.specs.Machine.{Command, act, changing, later, requesting}
 use Rattle.oai_repo.specs.State.{RepoState, empty_state, moved}
 use Rattle.oai_laws.specs.Effects.{Effect, IsEffected, IsPossible, IsSound, effected, is_of_no_list}
@@ -13,7 +13,7 @@ use Rattle.oai_laws.specs.Following.{IsContinued, answer_in, next_request}
 use Rattle.oai_laws.specs.Waiting.{IsRetriedLater}
 
 -- a repository begins in a sound state, and is in one whenever its clock moves, and after all that can be done to it
-pub record StaysSound (config : Config) : Type 0 where
+pub record StaysSound (config : RepositoryConfig) : Type 0 where
   pub empty : IsSound config (empty_state config)
   pub moves : (moment : ℤ) (state : RepoState) → IsSound config state → IsSound config (moved moment state)
   pub done : (state : RepoState) (effect : Effect) → IsPossible config state effect → IsSound config state → IsSound config (effected config state effect)
@@ -21,7 +21,7 @@ pub record StaysSound (config : Config) : Type 0 where
 -- what a command does to a state: something that can be done to it; a request changes nothing that is held, and a
 -- change no open list; a request that is of no list leaves the state, and so does a token that is refused; a token is
 -- answered with a page, or refused; and a command that is answered by a time to wait is a request that may be repeated
-pub record ActsOn (config : Config) (state : RepoState) : Type 0 where
+pub record ActsOn (config : RepositoryConfig) (state : RepoState) : Type 0 where
   pub does : (command : Command) → IsSound config state → IsEffected config state (act config state command).1
   pub requests : (request : AskOrError) → (act config state (requesting request)).1.holdings ≡ state.holdings
   pub lines : (change : Change) → (act config state (changing change)).1.open_lists ≡ state.open_lists

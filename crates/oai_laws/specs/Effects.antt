@@ -9,11 +9,12 @@ use Rattle.oai_item.specs.Known.{has_format, has_known_fields}
 use Rattle.oai_item.specs.declared.deleted_record.DeletedRecord.TheVariants.{No, Transient}
 use Rattle.oai_args.specs.Asks.{AskOrError, asks}
 use Rattle.oai_args.specs.declared.requests.Ask.TheVariants as ask
-use Rattle.oai_repo.specs.Changes.{drops_format, is_one_too_many, set_refusal, stamp_at, with_new}
-use Rattle.oai_settings.specs.Config.{Config}
-use Rattle.oai_repo.specs.Kept.{AreKept, is_well_kept}
+use Rattle.oai_holdings.specs.Changes.{drops_format, is_one_too_many, set_refusal, stamp_at, with_new}
+use Rattle.oai_settings.specs.Config.{RepositoryConfig}
+use Rattle.oai_holdings.specs.Kept.{AreKept, is_well_kept}
 use Rattle.oai_repo.specs.Listing.{wait_at, with_carried_on, with_new_list}
-use Rattle.oai_repo.specs.State.{FrozenList, NamedSet, RepoState}
+use Rattle.oai_holdings.specs.Holdings.{NamedSet}
+use Rattle.oai_repo.specs.State.{FrozenList, RepoState}
 
 -- ---- what is done to a state
 
@@ -38,7 +39,7 @@ abbrev pub goes_below : ℤ → ItemState → Bool
 goes_below limit item = not item.live && int_lt item.stamp limit
 
 -- the state afterwards
-abbrev pub effected : Config → RepoState → Effect → RepoState
+abbrev pub effected : RepositoryConfig → RepoState → Effect → RepoState
 effected config state unchanged = state
 effected config state (item_put item) = holding state (with_new item state.holdings.items)
 effected config state (item_taken identifier) = holding state (without identifier state.holdings.items)
@@ -51,7 +52,7 @@ effected config state (list_opened list) = record state { open_lists = with_new_
 
 -- the item is the tombstone of a live one with its identifier that is there: the same sets and prefixes, no fields, and
 -- its own datestamp. There is no such item if the policy is to keep no deleted records (section 2.5.1)
-pub record IsLeftOver (config : Config) (state : RepoState) (item : ItemState) : Type 0 where
+pub record IsLeftOver (config : RepositoryConfig) (state : RepoState) (item : ItemState) : Type 0 where
   pub policy : config.deleted ≢ No
   pub before : ItemState
   pub there : item_named item.identifier state.holdings.items ≡ Some before
@@ -61,7 +62,7 @@ pub record IsLeftOver (config : Config) (state : RepoState) (item : ItemState) :
 -- an item is put: it has the datestamp of the clock and satisfies the repository's invariants; it has a record in each
 -- format in which the replaced item has one; if it replaces none there is room for it; and a deleted one is the
 -- tombstone of a live one
-pub record IsPut (config : Config) (state : RepoState) (item : ItemState) : Type 0 where
+pub record IsPut (config : RepositoryConfig) (state : RepoState) (item : ItemState) : Type 0 where
   pub dated : item.stamp ≡ stamp_at config state.clock
   pub well : is_well_kept config state.holdings.sets item ≡ true
   pub formats : drops_format (item_named item.identifier state.holdings.items) item.formats ≡ false
@@ -69,29 +70,29 @@ pub record IsPut (config : Config) (state : RepoState) (item : ItemState) : Type
   pub dead : item.live ≡ false → IsLeftOver config state item
 
 -- each record of the item is in a format of the repository and has no field but that format's
-abbrev pub has_known_records : Config → ItemState → Bool
+abbrev pub has_known_records : RepositoryConfig → ItemState → Bool
 has_known_records config item = list_all (has_format config.formats) item.formats && list_all (has_known_fields config.formats) item.formats
 
 -- each item of the list's snapshot has only records that the repository can show
-abbrev pub is_formed : Config → FrozenList → Bool
+abbrev pub is_formed : RepositoryConfig → FrozenList → Bool
 is_formed config list = list_all (has_known_records config) list.items
 
 -- and the list is of a format of the repository
-abbrev pub is_of_format : Config → FrozenList → Bool
-is_of_format config list = is_some (format_named list.prefix config.formats)
+abbrev pub is_frozen_of_format : RepositoryConfig → FrozenList → Bool
+is_frozen_of_format config list = is_some (format_named list.prefix config.formats)
 
 -- a list is opened: nothing keeps it waiting, it gets the next number, it is open for its lifetime, and it satisfies
 -- the above
-pub record IsOpened (config : Config) (state : RepoState) (list : FrozenList) : Type 0 where
+pub record IsOpened (config : RepositoryConfig) (state : RepoState) (list : FrozenList) : Type 0 where
   pub admitted : wait_at config state.clock state.open_lists ≡ None
   pub number : list.number ≡ state.open_lists.next
   pub lasting : list.end ≡ state.clock +ℤ pos config.lifetime
   pub formed : is_formed config list ≡ true
-  pub known : is_of_format config list ≡ true
+  pub known : is_frozen_of_format config list ≡ true
 
 -- it can be done. An item is removed without a tombstone only if the policy is to keep no deleted records (section
 -- 2.5.1)
-abbrev pub IsPossible : Config → RepoState → Effect → Type 0
+abbrev pub IsPossible : RepositoryConfig → RepoState → Effect → Type 0
 IsPossible config state unchanged = Unit {0}
 IsPossible config state (item_put item) = IsPut config state item
 IsPossible config state (item_taken identifier) = config.deleted ≡ No
@@ -101,7 +102,7 @@ IsPossible config state (list_carried_on number next) = Unit {0}
 IsPossible config state (list_opened list) = IsOpened config state list
 
 -- the second state is the first after something that can be done to it
-pub record IsEffected (config : Config) (old new : RepoState) : Type 0 where
+pub record IsEffected (config : RepositoryConfig) (old new : RepoState) : Type 0 where
   pub effect : Effect
   pub possible : IsPossible config old effect
   pub done : new ≡ effected config old effect
@@ -127,10 +128,10 @@ is_live item = item.live
 -- what is held satisfies a repository's invariants, without deleted items if the policy is to keep no deleted records
 -- (section 2.5.1); each open list has a number that was given, items that the repository can show, and a format of the
 -- repository; and the last number of 64 bits was not given
-pub record IsSound (config : Config) (state : RepoState) : Type 0 where
+pub record IsSound (config : RepositoryConfig) (state : RepoState) : Type 0 where
   pub kept : AreKept config state.holdings
   pub live : config.deleted ≡ No → list_all is_live state.holdings.items ≡ true
   pub given : list_all (is_given state.open_lists.next) state.open_lists.lists ≡ true
   pub formed : list_all (is_formed config) state.open_lists.lists ≡ true
-  pub known : list_all (is_of_format config) state.open_lists.lists ≡ true
+  pub known : list_all (is_frozen_of_format config) state.open_lists.lists ≡ true
   pub few : state.open_lists.next ≤ LAST_NUMBER

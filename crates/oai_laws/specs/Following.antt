@@ -11,28 +11,28 @@ use Rattle.oai_item.specs.declared.formats.Format.{Format}
 use Rattle.oai_args.specs.Asks.{asks}
 use Rattle.oai_args.specs.Verbs.{is_of_records}
 use Rattle.oai_args.specs.declared.requests.Ask.TheVariants as ask
-use Rattle.oai_answers.specs.Answers.{Answer, Continuation, Page, completes, fails, gives_record, identifies, lists_formats, lists_headers, lists_records, lists_sets, remains, whole}
+use Rattle.oai_answers.specs.Answers.{Continuation, Page, VerbAnswer, completes, fails, gives_record, identifies, lists_formats, lists_headers, lists_records, lists_sets, remains, whole}
 use Rattle.oai_answers.specs.declared.errors.ErrorCode.{ErrorCode}
 use Rattle.oai_answers.specs.declared.errors.ErrorCode.TheVariants.{BadResumptionToken}
 use Rattle.oai_answers.specs.declared.tokens.Extent.{Extent}
 use Rattle.oai_repo.specs.Answers.{filter_of}
-use Rattle.oai_settings.specs.Config.{Config}
+use Rattle.oai_settings.specs.Config.{RepositoryConfig}
 use Rattle.oai_repo.specs.Listing.{answer_by_verb}
 use Rattle.oai_repo.specs.Machine.{Command, Outcome, accepted, act, requesting, documented, later, refused_with}
-use Rattle.oai_laws.specs.Runs.{Exchange, IsPart}
+use Rattle.oai_laws.specs.Runs.{IsPart, Transition}
 use Rattle.oai_repo.specs.State.{RepoState}
 
 -- ---- what is read off an answer
 
 -- the answer, if the outcome is one
-abbrev pub answer_in : Outcome → Option Answer
+abbrev pub answer_in : Outcome → Option VerbAnswer
 answer_in (documented document) = Some document.answer
 answer_in (later seconds) = None
 answer_in (accepted stamp) = None
 answer_in (refused_with cause) = None
 
 -- the part of a list, or the whole list, that an answer has, if it has one
-abbrev pub page_in : Answer → Option Page
+abbrev pub page_in : VerbAnswer → Option Page
 page_in (lists_headers page) = Some page
 page_in (lists_records format page) = Some page
 page_in (fails code) = None
@@ -71,7 +71,7 @@ extent_in whole = None
 -- ---- a chain of requests
 
 -- what a list request asks for: the verb and its arguments
-pub record ListRequest : Type 0 where
+pub record ListQuery : Type 0 where
   pub verb : ListVerb
   pub prefix : List ℕ
   pub from : Option (List ℕ)
@@ -79,7 +79,7 @@ pub record ListRequest : Type 0 where
   pub set : Option (List ℕ)
 
 -- the list request
-abbrev pub first_request : ListRequest → Command
+abbrev pub first_request : ListQuery → Command
 first_request list_request = requesting (asks (ask.List list_request.verb list_request.prefix list_request.from list_request.until list_request.set))
 
 -- the request of that verb with a token
@@ -87,11 +87,11 @@ abbrev pub next_request : ListVerb → List ℕ → Command
 next_request verb token = requesting (asks (ask.Resume verb token))
 
 -- the records that the list request selects in a state (section 2.7)
-abbrev pub selection_in : RepoState → ListRequest → List ItemState
+abbrev pub selection_in : RepoState → ListQuery → List ItemState
 selection_in state list_request = selected (filter_of list_request.prefix list_request.from list_request.until list_request.set) state.holdings.items
 
 -- the second exchange asks, by that verb, with the token that the page of the first offers, and before this expires
-pub record IsNextRequest (verb : ListVerb) (before after : Exchange) : Type 0 where
+pub record IsNextRequest (verb : ListVerb) (before after : Transition) : Type 0 where
   pub page : Page
   pub offer : TokenOffer
   pub told : page_shown before.outcome ≡ Some page
@@ -100,13 +100,13 @@ pub record IsNextRequest (verb : ListVerb) (before after : Exchange) : Type 0 wh
   pub unexpired : int_lt after.found.clock offer.expires ≡ true
 
 -- each exchange asks with the token of the one before it
-abbrev pub AreNext : ListVerb → Exchange → List Exchange → Type 0
+abbrev pub AreNext : ListVerb → Transition → List Transition → Type 0
 AreNext verb before [] = Unit {0}
 AreNext verb before (next ∷ exchanges) = IsNextRequest verb before next × AreNext verb next exchanges
 
 -- a chain among the exchanges of a repository: a request for a list that is too long for one page, and that need not
 -- wait; and then, whatever else is asked and deposited between, those that follow it by its tokens
-pub record IsChain (config : Config) (exchanges : List Exchange) (list_request : ListRequest) (first : Exchange) (others : List Exchange) : Type 0 where
+pub record IsChain (config : RepositoryConfig) (exchanges : List Transition) (list_request : ListQuery) (first : Transition) (others : List Transition) : Type 0 where
   pub among : IsPart (first ∷ others) exchanges
   pub verb : is_of_records list_request.verb ≡ true
   pub asked : first.command ≡ first_request list_request
@@ -122,24 +122,24 @@ joined pages = flat_map (λ (page : Page). page.items) pages
 
 -- a page of a list with that many records, and that many before it: it says so; it has at least one record, and `chunk`
 -- of them if it offers a token; and its datestamps have the repository's granularity
-pub record IsPageAt (config : Config) (size before : ℕ) (page : Page) : Type 0 where
+pub record IsPageAt (config : RepositoryConfig) (size before : ℕ) (page : Page) : Type 0 where
   pub extent : extent_in page.continuation ≡ Some (record { size = size; cursor = before })
   pub some : page.items ≢ []
   pub full : is_none (offer_in page.continuation) ≡ false → length page.items ≡ config.chunk
   pub dated : page.granularity ≡ config.granularity
 
 -- each page follows those before it
-abbrev pub ArePagesAt : Config → ℕ → ℕ → List Page → Type 0
+abbrev pub ArePagesAt : RepositoryConfig → ℕ → ℕ → List Page → Type 0
 ArePagesAt config size before [] = Unit {0}
 ArePagesAt config size before (page ∷ pages) = IsPageAt config size before page × ArePagesAt config size (before + length page.items) pages
 
 -- a token expires when the list that it continues ends: its lifetime after the clock at which the page was requested
-abbrev pub IsLasting : Config → Exchange → Page → Type 0
+abbrev pub IsLasting : RepositoryConfig → Transition → Page → Type 0
 IsLasting config exchange page =
     (offer : TokenOffer) → offer_in page.continuation ≡ Some offer → offer.expires ≡ exchange.found.clock +ℤ pos config.lifetime
 
 -- each page is lasting, as the answer to the exchange at its position
-abbrev pub AreLasting : Config → List Exchange → List Page → Type 0
+abbrev pub AreLasting : RepositoryConfig → List Transition → List Page → Type 0
 AreLasting config [] [] = Unit {0}
 AreLasting config (exchange ∷ exchanges) (page ∷ pages) = IsLasting config exchange page × AreLasting config exchanges pages
 AreLasting config exchanges pages = ⊥
@@ -155,10 +155,10 @@ BeginsList front all = (others : List ItemState) × (front ++ others ≡ all)
 -- the exchanges are answered with these pages of the selection: each by the verb, and in the format, of the request;
 -- each page says its position, and its token lasts for the lifetime of a list; their records, joined, are a prefix of
 -- the selection, and all of it once a page has the empty token; each record once, in order
-pub record IsFollowedThrough (config : Config) (list_request : ListRequest) (selection : List ItemState) (exchanges : List Exchange) (pages : List Page) : Type 0 where
+pub record IsFollowedThrough (config : RepositoryConfig) (list_request : ListQuery) (selection : List ItemState) (exchanges : List Transition) (pages : List Page) : Type 0 where
   pub format : Format
   pub known : format_named list_request.prefix config.formats ≡ Some format
-  pub told : map (λ (exchange : Exchange). answer_in exchange.outcome) exchanges ≡ map (λ (page : Page). Some (answer_by_verb list_request.verb format page)) pages
+  pub told : map (λ (exchange : Transition). answer_in exchange.outcome) exchanges ≡ map (λ (page : Page). Some (answer_by_verb list_request.verb format page)) pages
   pub placed : ArePagesAt config (length selection) 0 pages
   pub lasting : AreLasting config exchanges pages
   pub begun : BeginsList (joined pages) selection
@@ -181,7 +181,7 @@ pub record IsOffered (token : List ℕ) (outcome : Outcome) : Type 0 where
   pub same : offer.token ≡ token
 
 -- one of these exchanges was answered so
-abbrev pub WasOffered : List ℕ → List Exchange → Type 0
+abbrev pub WasOffered : List ℕ → List Transition → Type 0
 WasOffered token [] = ⊥
 WasOffered token (exchange ∷ exchanges) = IsOffered token exchange.outcome ⊎ WasOffered token exchanges
 
@@ -189,7 +189,7 @@ WasOffered token (exchange ∷ exchanges) = IsOffered token exchange.outcome ⊎
 
 -- a list request is answered with its whole selection: by its verb and in its format, in one page without a token, and
 -- the state is unchanged
-pub record IsAnsweredWhole (config : Config) (state : RepoState) (list_request : ListRequest) : Type 0 where
+pub record IsAnsweredWhole (config : RepositoryConfig) (state : RepoState) (list_request : ListQuery) : Type 0 where
   pub format : Format
   pub known : format_named list_request.prefix config.formats ≡ Some format
   pub page : Page
@@ -200,7 +200,7 @@ pub record IsAnsweredWhole (config : Config) (state : RepoState) (list_request :
   pub left : (act config state (first_request list_request)).1 ≡ state
 
 -- it is answered with an error, and the state is unchanged
-pub record IsAnsweredNone (config : Config) (state : RepoState) (list_request : ListRequest) : Type 0 where
+pub record IsAnsweredNone (config : RepositoryConfig) (state : RepoState) (list_request : ListQuery) : Type 0 where
   pub code : ErrorCode
   pub told : answer_in (act config state (first_request list_request)).0 ≡ Some (fails code)
   pub left : (act config state (first_request list_request)).1 ≡ state

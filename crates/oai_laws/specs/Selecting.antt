@@ -8,8 +8,8 @@ use Rattle.oai_time.specs.Stamp.{stamp_of}
 use Rattle.oai_time.specs.declared.bound.Bound.{Bound}
 use Rattle.oai_item.specs.Item.{ItemState, has_record}
 use Rattle.oai_item.specs.Order.{are_in_order}
-use Rattle.oai_settings.specs.Config.{Config}
-use Rattle.oai_laws.specs.Following.{ListRequest}
+use Rattle.oai_settings.specs.Config.{RepositoryConfig}
+use Rattle.oai_laws.specs.Following.{ListQuery}
 
 -- ---- what the request asks for
 
@@ -27,7 +27,7 @@ IsInSet set specs = (spec : List ℕ) × Contains specs spec × Covers set spec
 
 -- the request asks for the item, live or deleted: it has a record in the metadataPrefix; and if `from`, `until` or
 -- `set` is given, its datestamp is not before the one, not after the other, and it is in the set
-pub record IsAskedFor (list_request : ListRequest) (item : ItemState) : Type 0 where
+pub record IsAskedFor (list_request : ListQuery) (item : ItemState) : Type 0 where
   pub prefix : has_record list_request.prefix item.formats ≡ true
   pub from : IfSome list_request.from (λ text. IsFrom text item.stamp)
   pub until : IfSome list_request.until (λ text. IsUntil text item.stamp)
@@ -35,7 +35,7 @@ pub record IsAskedFor (list_request : ListRequest) (item : ItemState) : Type 0 w
 
 -- the selection has exactly those of the items that are asked for, each once, in the order of their datestamps and
 -- identifiers
-pub record IsSelection (list_request : ListRequest) (items selection : List ItemState) : Type 0 where
+pub record IsSelection (list_request : ListQuery) (items selection : List ItemState) : Type 0 where
   pub members : (item : ItemState) → Contains selection item ↔ (Contains items item × IsAskedFor list_request item)
   pub ordered : are_in_order selection ≡ true
 
@@ -43,6 +43,6 @@ pub record IsSelection (list_request : ListRequest) (items selection : List Item
 
 -- the item's datestamp is not before earliestDatestamp (section 4.2), not after the clock, and has the repository's
 -- granularity
-abbrev pub has_granular_stamp : Config → ℤ → ItemState → Bool
+abbrev pub has_granular_stamp : RepositoryConfig → ℤ → ItemState → Bool
 has_granular_stamp config clock item =
     int_le config.earliest item.stamp && int_le item.stamp clock && int_eq (stamp_of config.granularity item.stamp) item.stamp

@@ -8,14 +8,14 @@ use Rattle.oai_item.specs.Item.{ItemState}
 use Rattle.oai_item.specs.declared.changes.Change.TheVariants as change
 use Rattle.oai_answers.specs.Answers.{Page}
 use Rattle.oai_item.specs.declared.deleted_record.DeletedRecord.TheVariants.{Persistent}
-use Rattle.oai_settings.specs.Config.{Config}
-use Rattle.oai_laws.specs.Following.{IsChain, ListRequest, first_request, joined, next_request, page_shown}
+use Rattle.oai_settings.specs.Config.{RepositoryConfig}
+use Rattle.oai_laws.specs.Following.{IsChain, ListQuery, first_request, joined, next_request, page_shown}
 use Rattle.oai_repo.specs.Machine.{Command, changing}
-use Rattle.oai_laws.specs.Runs.{Exchange, Timed, run}
+use Rattle.oai_laws.specs.Runs.{Timed, Transition, run}
 use Rattle.oai_repo.specs.State.{empty_state}
 
 -- an archive with two records a page, one open list at a time, and lists that stay open for a minute
-abbrev pub worked_config : Config
+abbrev pub worked_config : RepositoryConfig
 worked_config = record {
   base = codes "http://host.example/oai/a";
   repository_name = codes "Archive A";
@@ -42,11 +42,11 @@ abbrev pub delete : List ℕ → Command
 delete identifier = changing (change.Delete identifier)
 
 -- all records in Dublin Core
-abbrev pub all_records : ListRequest
+abbrev pub all_records : ListQuery
 all_records = record { verb = list.Records; prefix = codes "oai_dc"; from = None; until = None; set = None }
 
 -- all headers
-abbrev pub all_headers : ListRequest
+abbrev pub all_headers : ListQuery
 all_headers = record all_records { verb = list.Identifiers }
 
 -- Five items are deposited. A list of headers is opened at the first second and never followed; it ends a minute later.
@@ -74,7 +74,7 @@ worked_commands =
     ∷ []
 
 -- what the archive answers
-abbrev pub worked_run : List Exchange
+abbrev pub worked_run : List Transition
 worked_run = run worked_config (empty_state worked_config) worked_commands
 
 -- the identifiers of items
@@ -83,9 +83,9 @@ identifiers items = map (λ (item : ItemState). item.identifier) items
 
 -- these exchanges are a chain of the run, and their three pages give the five records that there were at its first
 -- request, in order
-pub record IsWorked (first : Exchange) (others : List Exchange) : Type 0 where
+pub record IsWorked (first : Transition) (others : List Transition) : Type 0 where
   pub chain : IsChain worked_config worked_run all_records first others
   pub pages : List Page
-  pub told : map (λ (exchange : Exchange). page_shown exchange.outcome) (first ∷ others) ≡ map (λ (page : Page). Some page) pages
+  pub told : map (λ (exchange : Transition). page_shown exchange.outcome) (first ∷ others) ≡ map (λ (page : Page). Some page) pages
   pub three : length pages ≡ 3
   pub records : identifiers (joined pages) ≡ codes "oai:a:1" ∷ codes "oai:a:2" ∷ codes "oai:a:3" ∷ codes "oai:a:4" ∷ codes "oai:a:5" ∷ []

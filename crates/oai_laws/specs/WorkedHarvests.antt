@@ -4,16 +4,16 @@ use Rattle.oai_names.specs.declared.list_verbs.ListVerb.TheVariants as list
 use Rattle.oai_time.specs.TimeTexts.{datestamp_text}
 use Rattle.oai_time.specs.declared.granularity.Granularity.TheVariants.{Second}
 use Rattle.oai_item.specs.Item.{ItemState}
-use Rattle.oai_settings.specs.Config.{Config}
+use Rattle.oai_settings.specs.Config.{RepositoryConfig}
 use Rattle.oai_repo.specs.State.{empty_state}
 use Rattle.oai_laws.specs.Following.{first_request, next_request}
-use Rattle.oai_laws.specs.Runs.{Exchange, Timed, run}
+use Rattle.oai_laws.specs.Runs.{Timed, Transition, run}
 use Rattle.oai_laws.specs.Worked.{after, delete, deposit, worked_config}
 use Rattle.oai_copy.specs.Copies.{caught_up_with}
 use Rattle.oai_laws.specs.Harvests.{AreSuccessive, Harvest, harvested, records_since}
 
 -- another archive beside that of the law of following, configured alike
-abbrev pub archive_b : Config
+abbrev pub archive_b : RepositoryConfig
 archive_b = record worked_config { base = codes "http://host.example/oai/b"; repository_name = codes "Archive B" }
 
 abbrev pub prefix : List ℕ
@@ -40,7 +40,7 @@ harvest_commands =
     ∷ []
 
 -- what the archive answers
-abbrev pub harvest_run : List Exchange
+abbrev pub harvest_run : List Transition
 harvest_run = run archive_b (empty_state archive_b) harvest_commands
 
 -- items in short: the identifier of each, and whether it is live

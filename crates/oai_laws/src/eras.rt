@@ -2,7 +2,7 @@
 
 ghost use Rattle.std.specs.Prelude.{◌≡◌, List, true};
 ghost use Rattle.std.specs.List.{AllByRecursion};
-ghost use Rattle.oai_settings.specs.Config.{Config, IsConfig};
+ghost use Rattle.oai_settings.specs.Config.{IsConfig, RepositoryConfig};
 ghost use Rattle.oai_repo.specs.State.{empty_state};
 ghost use Rattle.oai_laws.specs.Eras.{AreEnded, AreFollowed, Era, HaveNumbers, MissNothingWithin, all_exchanges, runs};
 ghost use Rattle.oai_laws.specs.Runs.{numbers_given, numbers_rise_strictly};
@@ -16,15 +16,15 @@ ghost use Rattle.oai_laws.specs.Runs.{numbers_given, numbers_rise_strictly};
 /// [`number_law`](crate::number_law) says of one. Where deleted records are kept, harvests miss nothing, if each is
 /// made within one era, whichever it is. A theorem, proved by an empty function.
 pub fn ended_lists_law()
-    ensures followed { (config : Config) (eras : List Era) → IsConfig config
+    ensures followed { (config : RepositoryConfig) (eras : List Era) → IsConfig config
         → HaveNumbers config (empty_state config) eras
         → AllByRecursion (AreFollowed config) (runs config (empty_state config) eras) }
-    ensures refused { (config : Config) (eras : List Era) → IsConfig config
+    ensures refused { (config : RepositoryConfig) (eras : List Era) → IsConfig config
         → HaveNumbers config (empty_state config) eras
         → AreEnded (runs config (empty_state config) eras) }
-    ensures rising { (config : Config) (eras : List Era) → HaveNumbers config (empty_state config) eras
+    ensures rising { (config : RepositoryConfig) (eras : List Era) → HaveNumbers config (empty_state config) eras
         → numbers_rise_strictly (numbers_given (all_exchanges (runs config (empty_state config) eras))) ≡ true }
-    ensures harvests { (config : Config) (eras : List Era) → IsConfig config
+    ensures harvests { (config : RepositoryConfig) (eras : List Era) → IsConfig config
         → HaveNumbers config (empty_state config) eras
         → MissNothingWithin config (runs config (empty_state config) eras) }
 {}

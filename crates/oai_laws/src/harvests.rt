@@ -1,7 +1,7 @@
 //! Successive harvests: they miss nothing.
 ghost use Rattle.std.specs.Prelude.{◌≡◌, ℕ, List, [], ◌∷◌, map};
 ghost use Rattle.oai_item.specs.declared.deleted_record.DeletedRecord.TheVariants.{Persistent};
-ghost use Rattle.oai_settings.specs.Config.{Config, IsConfig};
+ghost use Rattle.oai_settings.specs.Config.{IsConfig, RepositoryConfig};
 ghost use Rattle.oai_repo.specs.State.{empty_state};
 ghost use Rattle.oai_laws.specs.Runs.{Timed, run};
 ghost use Rattle.oai_copy.specs.Copies.{caught_up_with};
@@ -16,7 +16,7 @@ ghost use Rattle.oai_laws.specs.WorkedHarvests.{AreWorkedHarvests, archive_b};
 /// of them, one after the other, holds exactly the items, live and deleted, that had a record in that metadataPrefix
 /// when the last one began. A theorem, proved by an empty function.
 pub fn harvest_law()
-    ensures copied { (config : Config) (commands : List Timed) (prefix : List ℕ) (first : Harvest)
+    ensures copied { (config : RepositoryConfig) (commands : List Timed) (prefix : List ℕ) (first : Harvest)
         (others : List Harvest) → IsConfig config → config.deleted ≡ Persistent
         → AreSuccessive config (run config (empty_state config) commands) prefix first others
         → IsWholeCopy prefix (last_harvest first others).first.found

@@ -9,14 +9,14 @@ ghost use Rattle.oai_item.specs.declared.changes.Change.{Change};
 ghost use Rattle.oai_answers.specs.Answers.{Document, Page};
 ghost use Rattle.oai_answers.specs.Documents.{document};
 ghost use Rattle.oai_answers.specs.Seen.{document_seen};
-ghost use Rattle.oai_settings.specs.Config.{Config, IsConfig};
+ghost use Rattle.oai_settings.specs.Config.{IsConfig, RepositoryConfig};
 ghost use Rattle.oai_laws.specs.Changing.{DoesChange};
 ghost use Rattle.oai_laws.specs.Commands.{ActsOn, StaysSound};
 ghost use Rattle.oai_laws.specs.Effects.{IsSound};
 ghost use Rattle.oai_args.specs.Verbs.{is_of_records};
-ghost use Rattle.oai_laws.specs.Following.{IsChain, IsFollowedThrough, IsAnsweredNone, IsAnsweredWhole, ListRequest, WasOffered, next_request, page_shown, selection_in};
+ghost use Rattle.oai_laws.specs.Following.{IsChain, IsFollowedThrough, IsAnsweredNone, IsAnsweredWhole, ListQuery, WasOffered, next_request, page_shown, selection_in};
 ghost use Rattle.oai_repo.specs.Machine.{Command, accepted, act, changing, refused_with};
-ghost use Rattle.oai_laws.specs.Runs.{Exchange, Throughout, Timed, are_never_last, numbers_rise_strictly, numbers_given, run};
+ghost use Rattle.oai_laws.specs.Runs.{Transition, Throughout, Timed, are_never_last, numbers_rise_strictly, numbers_given, run};
 ghost use Rattle.oai_laws.specs.Selecting.{IsSelection, has_granular_stamp};
 ghost use Rattle.oai_laws.specs.Shown.{IsFollowedList, IsSomeAnswer, bytes_written, is_followed_to_its_end, selection_seen};
 ghost use Rattle.oai_repo.specs.Listing.{wait_at};
@@ -36,9 +36,9 @@ ghost use Rattle.oai_laws.specs.Worked.{IsWorked, worked_config};
 /// since as many are open as may be or no number is left. It leaves the state, and the time is at least a second; if
 /// the table was full, a list has ended by then, and none before. A theorem, proved by an empty function.
 pub fn effect_law()
-    ensures sound { (config : Config) → StaysSound config }
-    ensures acts { (config : Config) (state : RepoState) → ActsOn config state }
-    ensures retry_after { (config : Config) (clock seconds : ℤ) (open_lists : OpenLists) → IsConfig config
+    ensures sound { (config : RepositoryConfig) → StaysSound config }
+    ensures acts { (config : RepositoryConfig) (state : RepoState) → ActsOn config state }
+    ensures retry_after { (config : RepositoryConfig) (clock seconds : ℤ) (open_lists : OpenLists) → IsConfig config
         → wait_at config clock (still_open clock open_lists) ≡ Some seconds
         → IsWait config clock (still_open clock open_lists) seconds }
 {}
@@ -49,10 +49,10 @@ pub fn effect_law()
 /// policy on deleted records; a purge removes exactly the deleted items with earlier datestamps than its bound; and a
 /// set is added. Nothing else is changed; a refused line changes nothing. A theorem, proved by an empty function.
 pub fn change_law()
-    ensures accepted { (config : Config) (state : RepoState) (change : Change) (stamp : ℤ)
+    ensures accepted { (config : RepositoryConfig) (state : RepoState) (change : Change) (stamp : ℤ)
         → (let done = act config state (changing change) in
         done.0 ≡ accepted stamp → DoesChange config change state done.1 stamp) }
-    ensures refused { (config : Config) (state : RepoState) (command : Command) (cause : Cause)
+    ensures refused { (config : RepositoryConfig) (state : RepoState) (command : Command) (cause : Cause)
         → (let done = act config state command in done.0 ≡ refused_with cause → done.1 ≡ state) }
 {}
 
@@ -60,12 +60,12 @@ pub fn change_law()
 /// command finds a sound state and leaves one; the numbers of the lists that are opened rise, so none is given twice;
 /// and 18446744073709551615 is never given. A theorem, proved by an empty function.
 pub fn number_law()
-    ensures sound { (config : Config) (commands : List Timed)
-        → Throughout (λ (exchange : Exchange). IsSound config exchange.found
+    ensures sound { (config : RepositoryConfig) (commands : List Timed)
+        → Throughout (λ (exchange : Transition). IsSound config exchange.found
         × IsSound config exchange.left) (run config (empty_state config) commands) }
-    ensures rising { (config : Config) (commands : List Timed)
+    ensures rising { (config : RepositoryConfig) (commands : List Timed)
         → numbers_rise_strictly (numbers_given (run config (empty_state config) commands)) ≡ true }
-    ensures never_last { (config : Config) (commands : List Timed)
+    ensures never_last { (config : RepositoryConfig) (commands : List Timed)
         → are_never_last (numbers_given (run config (empty_state config) commands)) ≡ true }
 {}
 
@@ -77,11 +77,11 @@ pub fn number_law()
 /// repository's granularity, and is not before earliestDatestamp and not after the clock. A theorem, proved by an empty
 /// function.
 pub fn selected_law()
-    ensures selected { (config : Config) (commands : List Timed) (list_request : ListRequest) → IsConfig config
-        → Throughout (λ (exchange : Exchange). IsSelection list_request exchange.found.holdings.items
+    ensures selected { (config : RepositoryConfig) (commands : List Timed) (list_request : ListQuery) → IsConfig config
+        → Throughout (λ (exchange : Transition). IsSelection list_request exchange.found.holdings.items
         (selection_in exchange.found list_request)) (run config (empty_state config) commands) }
-    ensures dated { (config : Config) (commands : List Timed) → IsConfig config
-        → Throughout (λ (exchange : Exchange). list_all (has_granular_stamp config exchange.left.clock)
+    ensures dated { (config : RepositoryConfig) (commands : List Timed) → IsConfig config
+        → Throughout (λ (exchange : Transition). list_all (has_granular_stamp config exchange.left.clock)
         exchange.left.holdings.items ≡ true) (run config (empty_state config) commands) }
 {}
 
@@ -95,16 +95,16 @@ pub fn selected_law()
 /// answered with all of them, and opens no list; one that selects none, with an error. A theorem, proved by an empty
 /// function.
 pub fn following_law()
-    ensures followed { (config : Config) (commands : List Timed) (list_request : ListRequest)
-        (first : Exchange) (others : List Exchange) → IsConfig config
+    ensures followed { (config : RepositoryConfig) (commands : List Timed) (list_request : ListQuery)
+        (first : Transition) (others : List Transition) → IsConfig config
         → IsChain config (run config (empty_state config) commands) list_request first others
         → (pages : List Page)
         × IsFollowedThrough config list_request (selection_in first.found list_request) (first ∷ others) pages }
-    ensures short { (config : Config) (state : RepoState) (list_request : ListRequest) → IsSound config state
+    ensures short { (config : RepositoryConfig) (state : RepoState) (list_request : ListQuery) → IsSound config state
         → is_of_records list_request.verb ≡ true → selection_in state list_request ≢ []
         → length (selection_in state list_request) ≤ config.chunk
         → IsAnsweredWhole config state list_request }
-    ensures none { (config : Config) (state : RepoState) (list_request : ListRequest)
+    ensures none { (config : RepositoryConfig) (state : RepoState) (list_request : ListQuery)
         → selection_in state list_request ≡ [] → IsAnsweredNone config state list_request }
 {}
 
@@ -113,8 +113,8 @@ pub fn following_law()
 /// that this repository answered. It begins with the number of its list, which no other list has or had
 /// ([`number_law`]); so that page was one of the same list. A theorem, proved by an empty function.
 pub fn token_law()
-    ensures { (config : Config) (commands : List Timed) (before after : List Exchange)
-        (exchange : Exchange) (verb : ListVerb) (token : List ℕ) (page : Page) → IsConfig config
+    ensures { (config : RepositoryConfig) (commands : List Timed) (before after : List Transition)
+        (exchange : Transition) (verb : ListVerb) (token : List ℕ) (page : Page) → IsConfig config
         → before ++ exchange ∷ after ≡ run config (empty_state config) commands
         → exchange.command ≡ next_request verb token → page_shown exchange.outcome ≡ Some page
         → WasOffered token before }
@@ -125,7 +125,7 @@ pub fn token_law()
 /// one by its verb and one at its end.
 pub fn worked_law()
     ensures config { IsConfig worked_config }
-    ensures chain { (first : Exchange) × (others : List Exchange) × IsWorked first others }
+    ensures chain { (first : Transition) × (others : List Transition) × IsWorked first others }
 {}
 
 /// Equal bytes show equal records (OAI-PMH 2.0, sections 2.5 and 3). Two documents of repositories that are equal byte
@@ -133,10 +133,10 @@ pub fn worked_law()
 /// followed to its end, then the selections at their first requests show equal headers and records: what a harvester
 /// reads determines what was selected. A theorem, proved by an empty function.
 pub fn shown_law()
-    ensures documents { (config other : Config) (a b : Document) → IsSomeAnswer config a
+    ensures documents { (config other : RepositoryConfig) (a b : Document) → IsSomeAnswer config a
         → IsSomeAnswer other b → document a ≡ document b → document_seen a ≡ document_seen b }
-    ensures lists { (config other : Config) (list_request its : ListRequest) (first its_first : Exchange)
-        (others its_others : List Exchange) → IsFollowedList config list_request first others
+    ensures lists { (config other : RepositoryConfig) (list_request its : ListQuery) (first its_first : Transition)
+        (others its_others : List Transition) → IsFollowedList config list_request first others
         → IsFollowedList other its its_first its_others
         → is_followed_to_its_end (first ∷ others) ≡ true
         → bytes_written config (first ∷ others) ≡ bytes_written other (its_first ∷ its_others)

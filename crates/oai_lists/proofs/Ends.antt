@@ -12,8 +12,8 @@ use Rattle.std.proofs.lemmas.List.Quantifiers.{position-Some}
 use Rattle.std.proofs.lemmas.List.Sums.{AllPass-from_list_all, list_all-from_AllPass, position_or_len_is}
 use Rattle.oai_lists.specs.HeldTable.{IsHeldTable, earlier}
 use Rattle.oai_lists.specs.OpenLists.{IsEarliest, IsListOpening, Table, number_or_fault, are_numbered_lists, has_ended, is_open, list_numbered, list_number, open_fault, open_ones, with_opened}
-use Rattle.oai_lists.specs.declared.lists.OpenFault.{OpenFault}
-use Rattle.oai_lists.specs.declared.lists.OpenFault.TheVariants.{Full, NumbersSpent}
+use Rattle.oai_lists.specs.declared.lists.OpenListFault.{OpenListFault}
+use Rattle.oai_lists.specs.declared.lists.OpenListFault.TheVariants.{Full, NumbersSpent}
 use Rattle.oai_lists.specs.declared.open_lists.OpenList.{OpenList}
 use Rattle.oai_lists.specs.declared.lists.TheConstants.{LAST_NUMBER}
 use Rattle.oai_names.specs.Numbered.{is_lower}
@@ -256,17 +256,17 @@ held_removed limit next (x ∷ lists) earliest at within held = held_at (record 
 
 -- ---- opening that is refused
 
-faults_of : (full spent : Bool) (fault : OpenFault) (next : ℕ) → Err fault ≡ number_or_fault (cond full (Some Full) (cond spent (Some NumbersSpent) None)) next → (fault ≡ Full) × (cond full (Some Full) (cond spent (Some NumbersSpent) None) ≡ Some Full) ⊎ (fault ≡ NumbersSpent) × (cond full (Some Full) (cond spent (Some NumbersSpent) None) ≡ Some NumbersSpent)
+faults_of : (full spent : Bool) (fault : OpenListFault) (next : ℕ) → Err fault ≡ number_or_fault (cond full (Some Full) (cond spent (Some NumbersSpent) None)) next → (fault ≡ Full) × (cond full (Some Full) (cond spent (Some NumbersSpent) None) ≡ Some Full) ⊎ (fault ≡ NumbersSpent) × (cond full (Some Full) (cond spent (Some NumbersSpent) None) ≡ Some NumbersSpent)
 faults_of true spent fault next h = inl (cc, refl)
 faults_of false true fault next h = inr (cc, refl)
 faults_of false false fault next h = cc
 
-pub opening_refused : (old : Table) (now : ℤ) (list : OpenList) (fault : OpenFault) → Err fault ≡ number_or_fault (open_fault old now) old.next → IsListOpening old now list (Err fault) old
+pub opening_refused : (old : Table) (now : ℤ) (list : OpenList) (fault : OpenListFault) → Err fault ≡ number_or_fault (open_fault old now) old.next → IsListOpening old now list (Err fault) old
 unfolding open_fault
 opening_refused old now list fault h =
     elim (faults_of (nat_le old.limit (length (open_ones now old.lists))) (eqb old.next LAST_NUMBER) fault old.next h) [
-      | inl full ↦ subst (λ (f : OpenFault). IsListOpening old now list (Err f) old) (sym full.0) (full.1, refl)
-      | inr spent ↦ subst (λ (f : OpenFault). IsListOpening old now list (Err f) old) (sym spent.0) (spent.1, refl)
+      | inl full ↦ subst (λ (f : OpenListFault). IsListOpening old now list (Err f) old) (sym full.0) (full.1, refl)
+      | inr spent ↦ subst (λ (f : OpenListFault). IsListOpening old now list (Err f) old) (sym spent.0) (spent.1, refl)
     ]
 
 -- opening that is not refused

@@ -6,8 +6,8 @@ use Rattle.oai_names.specs.Numbered.{numbers_rise}
 use Rattle.oai_item.specs.Selection.{Filter}
 use Rattle.oai_lists.specs.declared.open_lists.Mark.{Mark}
 use Rattle.oai_lists.specs.declared.open_lists.OpenList.{OpenList}
-use Rattle.oai_lists.specs.declared.lists.OpenFault.{OpenFault}
-use Rattle.oai_lists.specs.declared.lists.OpenFault.TheVariants.{Full, NumbersSpent, NoMemory}
+use Rattle.oai_lists.specs.declared.lists.OpenListFault.{OpenListFault}
+use Rattle.oai_lists.specs.declared.lists.OpenListFault.TheVariants.{Full, NumbersSpent, NoMemory}
 
 -- the lists that are held, in the order in which they were opened, how many may be open, and the next number
 pub record Table : Type 0 where
@@ -47,14 +47,14 @@ open_numbered number now lists = find (λ list. has_list_number number list && i
 
 -- why no list may be opened at that moment: the first cause. The table is full, or no number is left (the last one of
 -- 64 bits is never used)
-unfoldable pub open_fault : Table → ℤ → Option OpenFault
+unfoldable pub open_fault : Table → ℤ → Option OpenListFault
 open_fault table now =
     if nat_le table.limit (length (open_ones now table.lists)) then Some Full
     else (if table.next == 18_446_744_073_709_551_615 then Some NumbersSpent
     else None)
 
 -- the number that the next list gets, or why none may be opened
-abbrev pub number_or_fault : Option OpenFault → ℕ → Result ℕ OpenFault
+abbrev pub number_or_fault : Option OpenListFault → ℕ → Result ℕ OpenListFault
 number_or_fault None next = Ok next
 number_or_fault (Some fault) next = Err fault
 
@@ -77,7 +77,7 @@ next_list table verb filter version size end first = record {
 
 -- the result of opening the list at that moment, and the table afterwards: it is the last one, or the first cause that
 -- applies is returned and the table is unchanged. Out of memory is possible if no cause applies
-abbrev pub IsListOpening : Table → ℤ → OpenList → Result ℕ OpenFault → Table → Type 0
+abbrev pub IsListOpening : Table → ℤ → OpenList → Result ℕ OpenListFault → Table → Type 0
 IsListOpening old now list (Ok number) new =
     (open_fault old now ≡ None) × (number ≡ old.next) × (new ≡ with_opened old list)
 IsListOpening old now list (Err NoMemory) new = (open_fault old now ≡ None) × (new ≡ old)

@@ -17,7 +17,7 @@ pub const LAST_NUMBER: u64 = 18_446_744_073_709_551_615;
 
 /// Why no list was opened, in the order in which the causes are tested.
 #[derive(Clone, Copy, Debug, PartialEq, Eq, Error)]
-pub enum OpenFault {
+pub enum OpenListFault {
     /// As many lists are open as the limit allows.
     #[error("too many lists are open")]
     Full,
@@ -68,21 +68,21 @@ impl Lists {
     /// The number that `open` would return at `now`, in seconds from 1970 on, or its error, except `NoMemory`.
     /// Allocates nothing. It scans the lists only if as many are held as may be open, and one of them may have ended.
     #[tactic(auto, unfolding(crate::specs::OpenLists::open_fault))]
-    pub fn next(&self, now: i64) -> Result<u64, OpenFault>
+    pub fn next(&self, now: i64) -> Result<u64, OpenListFault>
         ensures { result ≡ number_or_fault (open_fault self.now now) self.now.next }
     {
         if self.is_full(now) {
-            return Err(OpenFault::Full);
+            return Err(OpenListFault::Full);
         }
         if self.next == LAST_NUMBER {
-            return Err(OpenFault::NumbersSpent);
+            return Err(OpenListFault::NumbersSpent);
         }
         Ok(self.next)
     }
 
     /// Opens a list at `now` and returns its number, which is the next one. The list has `size` records of that
     /// version, ends at `end`, and has no mark; `first` is the highest cursor given in a token of it. Both moments are
-    /// in seconds from 1970 on. The error is the first cause of `OpenFault` that applies, and the lists are unchanged.
+    /// in seconds from 1970 on. The error is the first cause of `OpenListFault` that applies, and the lists are unchanged.
     /// It scans the lists only if `next` does, and allocates space for one more list.
     pub fn open(
         &mut self,
@@ -93,7 +93,7 @@ impl Lists {
         size: u64,
         end: i64,
         first: u64,
-    ) -> Result<u64, OpenFault>
+    ) -> Result<u64, OpenListFault>
         ensures opened { let list = next_list self.old verb filter version size end first in
             IsListOpening self.old now list result self.new }
         ensures valid { IsListTable self.old }
@@ -114,7 +114,7 @@ impl Lists {
         };
         match self.lists.push(list) {
             Ok(()) => {}
-            Err(_) => return Err(OpenFault::NoMemory),
+            Err(_) => return Err(OpenListFault::NoMemory),
         }
         self.next = number + 1;
         self.earliest = self.earliest.min(end);

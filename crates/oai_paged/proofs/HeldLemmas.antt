@@ -6,7 +6,7 @@ use Rattle.std.proofs.lemmas.Bool.{cases_lt}
 use Rattle.std.proofs.lemmas.List.Elements.{Contains-append_cases}
 use Rattle.std.proofs.lemmas.List.Sums.{sum_by-cons}
 use Rattle.std.proofs.lemmas.Option.{none-some}
-use Rattle.oai_catalogue.specs.Store.{Lists, list_at}
+use Rattle.oai_catalogue.specs.Store.{VersionLists, list_at}
 use Rattle.oai_item.specs.Item.{ItemState}
 use Rattle.oai_pool.specs.Counts.{count_of, used_of}
 use Rattle.oai_pool.specs.Names.{times}
@@ -15,7 +15,7 @@ use Rattle.oai_places.specs.Directory.{IsDirectory}
 use Rattle.oai_places.specs.Pages.{FitAlone}
 use Rattle.oai_places.specs.Places.{FitPages, IsSoundPlace, Pages, PlaceState, items_at, items_on, named_in, page_numbers}
 use Rattle.oai_paged.specs.Shelves.{AreShelved, Directories, StandsOnPages, calls_left, directory_at, items_below, lists_on, most_of, named_at, named_by_all}
-use Rattle.oai_paged.specs.Versions.{AreShared, Shelves, Versions, directories_named, number_at, places_of}
+use Rattle.oai_paged.specs.Versions.{AreShared, DirectoryNumbers, Shelves, directories_named, directory_number_at, places_of}
 use Rattle.oai_paged.proofs.FewLemmas.{used_few}
 use Rattle.oai_places.proofs.NameLemmas.{named_in-cons, named_own, times-append, times-nil}
 use Rattle.oai_places.proofs.PlaceLemmas.{items_on-cons, items_on-nil}
@@ -96,7 +96,7 @@ no_directory : (pages : Pages) (slot : Option (List PlaceState)) → option_map 
 no_directory pages None h = refl
 no_directory pages (Some places) h = absurd (none-some (items_on pages places) (sym h))
 
-pub used_below : (counts : List ℕ) (pages : Pages) (versions : Versions) (shelves : Shelves) (limit : ℕ)
+pub used_below : (counts : List ℕ) (pages : Pages) (versions : DirectoryNumbers) (shelves : Shelves) (limit : ℕ)
     → AreShelved counts pages (places_of shelves) → AreShared versions shelves
     → ((v : ℕ) → limit ≤ v → lists_on pages (directories_named versions shelves) v ≡ None)
     → used_of counts ≤ 65 * items_below limit (lists_on pages (directories_named versions shelves))
@@ -165,12 +165,12 @@ held_by : (counts : List ℕ) (pages : Pages) (shelves : Shelves) (item : ItemSt
 held_by counts pages shelves item h None among = absurd (let within = among.1 in omega (arith, within))
 held_by counts pages shelves item h (Some d) among = held_in counts pages (places_of shelves) d item h (directory_at (places_of shelves) d) refl among
 
-pub held : (counts : List ℕ) (pages : Pages) (versions : Versions) (shelves : Shelves) (v : ℕ) (item : ItemState)
+pub held : (counts : List ℕ) (pages : Pages) (versions : DirectoryNumbers) (shelves : Shelves) (v : ℕ) (item : ItemState)
     → AreShelved counts pages (places_of shelves)
     → Contains (list_at (lists_on pages (directories_named versions shelves)) v) item → StandsOnPages counts pages item
 held counts pages versions shelves v item h among =
-    held_by counts pages shelves item h (number_at versions v)
-    (subst (λ (lists : Lists). Contains (list_at lists v) item) (lists-named pages versions shelves) among)
+    held_by counts pages shelves item h (directory_number_at versions v)
+    (subst (λ (lists : VersionLists). Contains (list_at lists v) item) (lists-named pages versions shelves) among)
 
 -- ---- a store of no version
 

@@ -3,7 +3,7 @@ use Rattle.std.proofs.Common.{◌≡◌, ◌≢◌, ◌∙◌, ◌+◌, ◌<◌,
 use Rattle.std.specs.Prelude.{Ok, Err, option_map}
 use Rattle.std.proofs.lemmas.Bool.{cases_Bool, cases_eq, cond-false, cond-true, eqb-false, eqb-true}
 use Rattle.std.proofs.lemmas.Option.{none-some, same_Some}
-use Rattle.oai_catalogue.specs.Store.{ChangesOnly, Lists, list_at, with_list, without_list}
+use Rattle.oai_catalogue.specs.Store.{ChangesOnly, VersionLists, list_at, with_list, without_list}
 use Rattle.oai_catalogue.proofs.ListsLemmas.{same_lists}
 use Rattle.oai_item.specs.Item.{ItemState}
 use Rattle.oai_item.specs.Order.{are_in_order}
@@ -279,7 +279,7 @@ module _ {P : Type 0} (g : Ghosts P) (v : ℕ) (old new : Directories) (before a
 -- ---- what a change of one directory is to the store
 
 -- of the lists, where it ended well, that one alone may be another; where not, none is
-pub record AreTurned {A : Type 0} (v : ℕ) (result : Result A Fault) (old new : Lists) : Type 0 where
+pub record AreTurned {A : Type 0} (v : ℕ) (result : Result A Fault) (old new : VersionLists) : Type 0 where
   pub ok : OnOk result (ChangesOnly v old new)
   pub err : OnErr result (new ≡ old)
 

@@ -5,7 +5,7 @@ use Rattle.oai_catalogue.specs.Store.{AreInOrder, list_at}
 use Rattle.oai_item.specs.Order.{are_in_order}
 use Rattle.oai_places.specs.Places.{Pages, PlaceState, items_on}
 use Rattle.oai_paged.specs.Shelves.{AreShelved, directory_at, lists_on}
-use Rattle.oai_paged.specs.Versions.{Shelves, Versions, directories_named, directory_named, places_of}
+use Rattle.oai_paged.specs.Versions.{DirectoryNumbers, Shelves, directories_named, directory_named, places_of}
 
 module _ (counts : List ℕ) (pages : Pages) (shelves : Shelves) (h : AreShelved counts pages (places_of shelves)) where
   in_order_at : (d : ℕ) (o : Option (List PlaceState)) → directory_at (places_of shelves) d ≡ o
@@ -17,7 +17,7 @@ module _ (counts : List ℕ) (pages : Pages) (shelves : Shelves) (h : AreShelved
   in_order_named None = refl
   in_order_named (Some d) = in_order_at d (directory_at (places_of shelves) d) refl
 
-  pub named_in_order : (versions : Versions) → AreInOrder (lists_on pages (directories_named versions shelves))
+  pub named_in_order : (versions : DirectoryNumbers) → AreInOrder (lists_on pages (directories_named versions shelves))
   named_in_order [] zero = refl
   named_in_order [] (suc v) = refl
   named_in_order (o ∷ versions) zero = in_order_named o

@@ -1,7 +1,7 @@
 -- The directories of all versions of a store, over the pages of one pool.
 use Rattle.std.specs.Prelude.{◌≡◌, ◌+◌, ◌-◌, ◌<◌, ◌/◌, ℕ, zero, suc, List, [], ◌∷◌, Option, None, Some, length, map, max, min, option_map, sum_by, slice_index_or}
 use Rattle.std.specs.List.{Contains}
-use Rattle.oai_catalogue.specs.Store.{Lists, list_at}
+use Rattle.oai_catalogue.specs.Store.{VersionLists, list_at}
 use Rattle.oai_item.specs.Item.{ItemState}
 use Rattle.oai_pool.specs.Counts.{count_of}
 use Rattle.oai_pool.specs.Names.{times}
@@ -19,7 +19,7 @@ abbrev pub directory_at : Directories → ℕ → Option (List PlaceState)
 directory_at slots v = slice_index_or slots v None
 
 -- the lists of items that they hold
-abbrev pub lists_on : Pages → Directories → Lists
+abbrev pub lists_on : Pages → Directories → VersionLists
 lists_on pages slots v = option_map (items_on pages) (directory_at slots v)
 
 -- how often the leaves of a slot reference a number
@@ -51,7 +51,7 @@ abbrev pub calls_left : ℕ → List ℕ → ℕ
 calls_left pages_left counts = min (pages_left / MAX_ADDED) (MAX_PAGES - most_of counts)
 
 -- how many items all lists below that number have together
-unfoldable pub items_below : ℕ → Lists → ℕ
+unfoldable pub items_below : ℕ → VersionLists → ℕ
 items_below zero lists = 0
 items_below (suc v) lists = length (list_at lists v) + items_below v lists
 

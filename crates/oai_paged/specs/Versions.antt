@@ -13,12 +13,12 @@ abbrev pub Shelves : Type 0
 Shelves = List (Option DirectoryState)
 
 -- the number of a directory at each version that is in use
-abbrev pub Versions : Type 0
-Versions = List (Option ℕ)
+abbrev pub DirectoryNumbers : Type 0
+DirectoryNumbers = List (Option ℕ)
 
 -- the number to which a version refers
-abbrev pub number_at : Versions → ℕ → Option ℕ
-number_at versions v = slice_index_or versions v None
+abbrev pub directory_number_at : DirectoryNumbers → ℕ → Option ℕ
+directory_number_at versions v = slice_index_or versions v None
 
 -- the directory at a number
 abbrev pub shelf_at : Shelves → ℕ → Option DirectoryState
@@ -38,7 +38,7 @@ directory_named shelves None = None
 directory_named shelves (Some d) = directory_at (places_of shelves) d
 
 -- for each version its directory
-abbrev pub directories_named : Versions → Shelves → Directories
+abbrev pub directories_named : DirectoryNumbers → Shelves → Directories
 directories_named versions shelves = map (directory_named shelves) versions
 
 -- how often a version refers to the directory
@@ -47,8 +47,8 @@ names_at d None = 0
 names_at d (Some number) = if d == number then 1 else 0
 
 -- how many versions refer to the directory
-unfoldable pub names_of : ℕ → Versions → ℕ
-names_of d versions = sum_by (names_at d) versions
+unfoldable pub references_to : ℕ → DirectoryNumbers → ℕ
+references_to d versions = sum_by (names_at d) versions
 
 -- the reference count of a directory, if there is one
 abbrev pub told_at : Option DirectoryState → ℕ
@@ -57,6 +57,6 @@ told_at (Some directory) = directory.versions
 
 -- the reference count of each directory is the number of versions that refer to it, at least one; each version refers
 -- to a directory
-pub record AreShared (versions : Versions) (shelves : Shelves) : Type 0 where
-  pub counted : (d : ℕ) → names_of d versions ≡ told_at (shelf_at shelves d)
+pub record AreShared (versions : DirectoryNumbers) (shelves : Shelves) : Type 0 where
+  pub counted : (d : ℕ) → references_to d versions ≡ told_at (shelf_at shelves d)
   pub named : (d : ℕ) (directory : DirectoryState) → shelf_at shelves d ≡ Some directory → 0 < directory.versions

@@ -227,7 +227,7 @@ impl<P: PagePool + Drop> Versions for VersionsOver<P> {
 }
 
 impl<P: PagePool + Drop> VersionsOver<P> {
-    ghost use Rattle.oai_paged.specs.Store.{IsOwn, directories_of, named_by, named_times, places_at, pool_of};
+    ghost use Rattle.oai_paged.specs.Store.{IsUnshared, directories_of, named_by, named_times, places_at, pool_of};
 
     /// A store without versions, over a pool in which no page is referenced. Allocates nothing. It has room for one
     /// call for each 68 pages that the pool has room for.
@@ -281,7 +281,7 @@ impl<P: PagePool + Drop> VersionsOver<P> {
     /// alone. Any fault of `Directory::copy`; each version then keeps its directory.
     fn own(&mut self, v: u64) -> Result<usize, Fault>
         requires { IsSome (lists_on (P.pages (pool_of self.old)) (directories_of self.old) v) }
-        ensures own { IfOk result (λ number. IsOwn v number self.old self.new) }
+        ensures own { IfOk result (λ number. IsUnshared v number self.old self.new) }
         ensures lists { lists_on (P.pages (pool_of self.new)) (directories_of self.new) ≡ lists_on (P.pages (pool_of self.old)) (directories_of self.old) }
         ensures undone { OnErr result (Renames P.PagePool [] [] (pool_of self.old) (pool_of self.new)) }
         ensures fault { IfErr result (λ cause. IsShareFault (HasFull P.PagePool (page_numbers (places_at self.old v)) (pool_of self.old)) cause) }
@@ -302,7 +302,7 @@ impl<P: PagePool + Drop> VersionsOver<P> {
     fn move_to_copy(&mut self, v: u64, number: usize) -> Result<usize, Fault>
         requires named { named_by self.old v ≡ Some number }
         requires shared { 1 < named_times self.old number }
-        ensures own { IfOk result (λ number. IsOwn v number self.old self.new) }
+        ensures own { IfOk result (λ number. IsUnshared v number self.old self.new) }
         ensures lists { lists_on (P.pages (pool_of self.new)) (directories_of self.new) ≡ lists_on (P.pages (pool_of self.old)) (directories_of self.old) }
         ensures undone { OnErr result (Renames P.PagePool [] [] (pool_of self.old) (pool_of self.new)) }
         ensures fault { IfErr result (λ cause. IsShareFault (HasFull P.PagePool (page_numbers (places_at self.old v)) (pool_of self.old)) cause) }

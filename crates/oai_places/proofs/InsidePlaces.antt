@@ -13,7 +13,7 @@ use Rattle.oai_places.specs.Directory.{IsDirectory}
 use Rattle.oai_places.specs.Pages.{fit_one}
 use Rattle.oai_places.specs.Parts.{IsInside, IsKnown, IsPartTaken}
 use Rattle.oai_places.specs.Places.{AreSetCounts, IsSoundPlace, Pages, PlaceState, is_wanted, items_at, items_on, known_in}
-use Rattle.oai_sums.specs.Sums.{SetTotal, counted_in, number_in}
+use Rattle.oai_sums.specs.Sums.{SetTotal, count_in_set, counted_in}
 use Rattle.oai_places.specs.Searches.{BelongsAt}
 use Rattle.oai_places.specs.declared.sizes.TheConstants.{MAX_ENTRY_BYTES}
 use Rattle.oai_places.proofs.DirectoryLemmas.{item_at-cut, no_place, placed-cut}
@@ -56,7 +56,7 @@ most_items p items = omega (arith, fewer p (λ (x : ItemState). true) (λ x h. r
 -- so many are in the set, where one is given
 known_number : (pages : Pages) (q : PlaceState) (set : Option (List ℕ)) (n : ℕ) → IsSoundPlace pages q → known_in q set ≡ Some n
     → length (filter (λ (x : ItemState). is_in_given set x.sets) (items_at pages q)) ≡ n
-unfolding number_in
+unfolding count_in_set
 known_number pages q None n h is = ap length (all_of (items_at pages q)) ∙ h.counted ∙ some_one q.len n is
 known_number pages q (Some set) n h is = by_sets q.sets h.sets is where
   by_sets : (sets : Option (List SetTotal)) → AreSetCounts sets (items_at pages q) → option_map (counted_in set) sets ≡ Some n

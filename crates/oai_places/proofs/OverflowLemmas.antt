@@ -9,7 +9,7 @@ use Rattle.oai_device.specs.declared.devices.TheConstants.{PAGE_BYTES}
 use Rattle.oai_item.specs.Encoding.{encoded, encoded_count}
 use Rattle.oai_item.specs.Item.{ItemState}
 use Rattle.oai_item.proofs.Lengths.{length-encoded_count}
-use Rattle.oai_places.specs.Pages.{AreStorable, FitAlone, FitPage, IsPage, entries_of, filled, fit_one, joined, overflow_of, page_spelling, pages_of, size_of, spread, written}
+use Rattle.oai_places.specs.Pages.{AreStorable, FitAlone, FitPage, IsPage, entries_of, filled, fit_one, joined_pages, overflow_of, page_spelling, pages_of, size_of, spread, written}
 use Rattle.oai_places.specs.Places.{FitPages, Pages, bytes_on, page_at}
 use Rattle.oai_places.specs.declared.sizes.TheConstants.{FRONT_BYTES, MAX_ENTRY_BYTES, MAX_OVERFLOW_PAGES, MAX_WHOLE_BYTES}
 use Rattle.oai_places.proofs.EntryLemmas.{size_of-one}
@@ -140,9 +140,9 @@ long_from (x ∷ []) storable (inr one) h =
 
 -- ---- joined again
 
-joined-more : (page bytes : List ℕ) (k : ℕ) → 0 < k → joined (page ∷ spread k bytes) ≡ take FRONT_BYTES page ++ all_of (spread k bytes)
-joined-more page bytes zero some = absurd (omega arith)
-joined-more page bytes (suc k) some = refl
+joined_pages-more : (page bytes : List ℕ) (k : ℕ) → 0 < k → joined_pages (page ∷ spread k bytes) ≡ take FRONT_BYTES page ++ all_of (spread k bytes)
+joined_pages-more page bytes zero some = absurd (omega arith)
+joined_pages-more page bytes (suc k) some = refl
 
 front-filled : (bytes : List ℕ) → FRONT_BYTES ≤ length bytes → take FRONT_BYTES (filled (take FRONT_BYTES bytes)) ≡ take FRONT_BYTES bytes
 unfolding filled
@@ -151,16 +151,16 @@ front-filled bytes long =
     let len : length front ≡ FRONT_BYTES = length-take-le FRONT_BYTES bytes long in
     take-append-le FRONT_BYTES front (zeros (PAGE_BYTES - length front)) (omega (arith, len)) ∙ take_all FRONT_BYTES front (omega (arith, len))
 
-pub joined-one : (items : List ItemState) → fit_one items ≡ true → joined (pages_of items) ≡ page_spelling MAX_ENTRY_BYTES items
+pub joined_pages-one : (items : List ItemState) → fit_one items ≡ true → joined_pages (pages_of items) ≡ page_spelling MAX_ENTRY_BYTES items
 unfolding page_spelling filled
-joined-one items h =
+joined_pages-one items h =
     let left : PAGE_BYTES - length (written items) ≡ MAX_ENTRY_BYTES - size_of items = omega (arith, length-written items) in
-    ap joined (pages-one items h) ∙ ap (λ n. written items ++ zeros n) left
+    ap joined_pages (pages-one items h) ∙ ap (λ n. written items ++ zeros n) left
 
-pub joined-long : (items : List ItemState) → fit_one items ≡ false → IsLong items
-    → joined (pages_of items) ≡ page_spelling (FRONT_BYTES - 4 + overflow_of items * PAGE_BYTES) items
+pub joined_pages-long : (items : List ItemState) → fit_one items ≡ false → IsLong items
+    → joined_pages (pages_of items) ≡ page_spelling (FRONT_BYTES - 4 + overflow_of items * PAGE_BYTES) items
 unfolding page_spelling
-joined-long items h long =
+joined_pages-long items h long =
     let k : ℕ = overflow_of items in
     let bytes : List ℕ = written items in
     let all : length bytes ≡ 4 + size_of items = length-written items in
@@ -169,8 +169,8 @@ joined-long items h long =
     let front = front-filled bytes (omega (arith, all, long.low)) in
     let others = spread_all k rest (omega (arith, behind, all, long.room)) in
     let left : k * PAGE_BYTES - length rest ≡ FRONT_BYTES - 4 + k * PAGE_BYTES - size_of items = omega (arith, behind, all, long.low, long.room) in
-    ap joined (pages-long items h)
-    ∙ joined-more (filled (take FRONT_BYTES bytes)) rest k long.some
+    ap joined_pages (pages-long items h)
+    ∙ joined_pages-more (filled (take FRONT_BYTES bytes)) rest k long.some
     ∙ (λ i. front i ++ others i)
     ∙ sym (append_assoc (take FRONT_BYTES bytes) rest (zeros (k * PAGE_BYTES - length rest)))
     ∙ (λ i. take-append-drop FRONT_BYTES bytes i ++ zeros (left i))
@@ -182,13 +182,13 @@ page_of_room bytes room items fits is fit =
     let long : length bytes - 4 ≡ room = omega (arith, fits, ap length is, length-append (written items) behind, length-written items, length-zeros (room - size_of items)) in
     record { spelling = is ∙ ap (λ n. written items ++ zeros (n - size_of items)) (sym long); fit = fit }
 
-pub joined-page : (items : List ItemState) → FitPage items → FitAlone items → IsPage (joined (pages_of items)) items
-joined-page items fit alone = by_cases (fit_one items) refl where
-  by_cases : (b : Bool) → fit_one items ≡ b → IsPage (joined (pages_of items)) items
-  by_cases true h = page_of_room (joined (pages_of items)) MAX_ENTRY_BYTES items (fit_parts items h).0 (joined-one items h) fit
+pub joined_pages-page : (items : List ItemState) → FitPage items → FitAlone items → IsPage (joined_pages (pages_of items)) items
+joined_pages-page items fit alone = by_cases (fit_one items) refl where
+  by_cases : (b : Bool) → fit_one items ≡ b → IsPage (joined_pages (pages_of items)) items
+  by_cases true h = page_of_room (joined_pages (pages_of items)) MAX_ENTRY_BYTES items (fit_parts items h).0 (joined_pages-one items h) fit
   by_cases false h =
       let long = long_from items fit.storable alone h in
-      page_of_room (joined (pages_of items)) (FRONT_BYTES - 4 + overflow_of items * PAGE_BYTES) items (omega (arith, long.room, long.low)) (joined-long items h long) fit
+      page_of_room (joined_pages (pages_of items)) (FRONT_BYTES - 4 + overflow_of items * PAGE_BYTES) items (omega (arith, long.room, long.low)) (joined_pages-long items h long) fit
 
 -- ---- pages that were added for items
 
@@ -238,7 +238,7 @@ fit_pages pages numbers items is storable alone = by_cases (fit_one items) refl 
 
 pub page_on : (pages : Pages) (numbers : List ℕ) (items : List ItemState) → map (page_at pages) numbers ≡ pages_of items → FitPage items → FitAlone items → IsPage (bytes_on pages numbers) items
 unfolding bytes_on
-page_on pages numbers items is fit alone = subst (λ (bytes : List ℕ). IsPage bytes items) (sym (ap joined is)) (joined-page items fit alone)
+page_on pages numbers items is fit alone = subst (λ (bytes : List ℕ). IsPage bytes items) (sym (ap joined_pages is)) (joined_pages-page items fit alone)
 
 -- ---- each of the pages, made of a number and entries
 

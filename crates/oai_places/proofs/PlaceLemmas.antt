@@ -5,7 +5,7 @@ use Rattle.std.specs.List.{AllByRecursion, list_all}
 use Rattle.std.proofs.lemmas.Grind.{flat_map-append}
 use Rattle.oai_item.specs.Item.{ItemState}
 use Rattle.oai_pool.specs.Names.{times}
-use Rattle.oai_places.specs.Pages.{IsPage, begins_at, fit_one, items_in, joined, pages_of, size_of}
+use Rattle.oai_places.specs.Pages.{IsPage, begins_at, fit_one, items_in, joined_pages, pages_of, size_of}
 use Rattle.oai_places.specs.Places.{AreSetCounts, FitPages, IsSoundPlace, Pages, PlaceState, bytes_on, have_records, items_at, items_on, named_in, page_at}
 use Rattle.oai_places.specs.declared.sizes.TheConstants.{FRONT_BYTES}
 use Rattle.oai_places.proofs.NameLemmas.{named_in-cons, named_own, times-cons, times-first, times-here}
@@ -49,7 +49,7 @@ pages_under-same old new (k ∷ numbers) kept =
 
 pub bytes_on-same : (old new : Pages) (numbers : List ℕ) → StayUnder old new numbers → bytes_on new numbers ≡ bytes_on old numbers
 unfolding bytes_on
-bytes_on-same old new numbers kept = ap joined (pages_under-same old new numbers kept)
+bytes_on-same old new numbers kept = ap joined_pages (pages_under-same old new numbers kept)
 
 pub items_at-same : (old new : Pages) (place : PlaceState) → StayUnder old new place.pages → items_at new place ≡ items_at old place
 unfolding items_at

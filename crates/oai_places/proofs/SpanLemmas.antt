@@ -7,9 +7,9 @@ use Rattle.std.proofs.lemmas.List.Filters.{length-filter_both}
 use Rattle.std.proofs.lemmas.Option.{none-some}
 use Rattle.oai_item.specs.Item.{ItemState}
 use Rattle.oai_item.specs.Membership.{is_in}
-use Rattle.oai_sums.specs.Sums.{CountsMore, SetTotal, SpansMore, number_in, span_in, widened}
+use Rattle.oai_sums.specs.Sums.{CountsMore, SetTotal, SpansMore, count_in_set, span_in, widened}
 use Rattle.oai_sums.specs.declared.spans.Span.{Span}
-use Rattle.oai_sums.proofs.NumberLemmas.{counts_more, counts_none, number_in-append, number_in-nil, unspanned_none}
+use Rattle.oai_sums.proofs.NumberLemmas.{count_in_set-append, count_in_set-nil, counts_more, counts_none, unspanned_none}
 use Rattle.oai_places.specs.Entries.{IsSpanOfOne, ending_by, ends_from}
 use Rattle.oai_places.specs.Pages.{between, entry_of, size_of}
 use Rattle.oai_places.specs.Places.{AreCountedWithin, IsSpan}
@@ -69,8 +69,8 @@ pub record StandBetween (set : List ℕ) (items : List ItemState) (span : Span) 
   pub within : end ≤ length items
   pub from : span.from ≡ size_of (take first items)
   pub to : span.to ≡ size_of (take end items)
-  pub before : number_in set (take first items) ≡ 0
-  pub behind : number_in set (drop end items) ≡ 0
+  pub before : count_in_set set (take first items) ≡ 0
+  pub behind : count_in_set set (drop end items) ≡ 0
 
 pub by_places : (set : List ℕ) (items : List ItemState) (span : Span) → IsSpan set items span → StandBetween set items span (ending_by span.from items) (ending_by span.to items)
 by_places set items span h = record {
@@ -90,8 +90,8 @@ by_bytes set items span first end h =
       order = omega (arith, h.from, h.to, size_of-between items first end h.order);
       from = h.from ∙ ap (λ n. size_of (take n items)) (sym is_first);
       to = h.to ∙ ap (λ n. size_of (take n items)) (sym is_end);
-      before = ap (λ n. number_in set (take n items)) is_first ∙ h.before;
-      behind = ap (λ n. number_in set (drop n items)) is_end ∙ h.behind;
+      before = ap (λ n. count_in_set set (take n items)) is_first ∙ h.before;
+      behind = ap (λ n. count_in_set set (drop n items)) is_end ∙ h.behind;
     }
 
 -- ---- one item more
@@ -104,9 +104,9 @@ pub record IsLast (items all : List ItemState) (span : Span) : Type 0 where
 pub last_one : (from at : ℕ) (items : List ItemState) (span : Span) → IsSpanOfOne from at items span → IsLast (between from at items) (between from (at + 1) items) span
 last_one from at items span one = record { from = one.from_byte; to = one.to_byte }
 
-number_in-out : (set : List ℕ) (item : ItemState) → is_in set item.sets ≡ false → number_in set (item ∷ []) ≡ 0
-unfolding number_in
-number_in-out set item out = ap (λ b. length (if b then item ∷ [] else [])) out
+count_in_set-out : (set : List ℕ) (item : ItemState) → is_in set item.sets ≡ false → count_in_set set (item ∷ []) ≡ 0
+unfolding count_in_set
+count_in_set-out set item out = ap (λ b. length (if b then item ∷ [] else [])) out
 
 front_of : (items : List ItemState) (item : ItemState) (n : ℕ) → n ≤ length items → take n (items ++ item ∷ []) ≡ take n items
 front_of items item n within = take-append-le n items (item ∷ []) within
@@ -118,10 +118,10 @@ span_kept set items item span out is = by_bytes set (items ++ item ∷ []) span 
   within = omega (arith, h.within, length-append items (item ∷ []));
   from = h.from ∙ ap size_of (sym (front_of items item first (omega (arith, h.order, h.within))));
   to = h.to ∙ ap size_of (sym (front_of items item end h.within));
-  before = ap (number_in set) (front_of items item first (omega (arith, h.order, h.within))) ∙ h.before;
+  before = ap (count_in_set set) (front_of items item first (omega (arith, h.order, h.within))) ∙ h.before;
   behind =
-      ap (number_in set) (drop-append-le end items (item ∷ []) h.within) ∙ number_in-append set (drop end items) (item ∷ [])
-      ∙ (λ i. h.behind i + number_in-out set item out i);
+      ap (count_in_set set) (drop-append-le end items (item ∷ []) h.within) ∙ count_in_set-append set (drop end items) (item ∷ [])
+      ∙ (λ i. h.behind i + count_in_set-out set item out i);
 }) where
   first : ℕ
   first = ending_by span.from items
@@ -132,8 +132,8 @@ span_kept set items item span out is = by_bytes set (items ++ item ∷ []) span 
   h : StandBetween set items span first end
   h = by_places set items span is
 
-none_behind : (set : List ℕ) (all : List ItemState) → number_in set (drop (length all) all) ≡ 0
-none_behind set all = ap (number_in set) (drop_all (length all) all (omega arith)) ∙ number_in-nil set
+none_behind : (set : List ℕ) (all : List ItemState) → count_in_set set (drop (length all) all) ≡ 0
+none_behind set all = ap (count_in_set set) (drop_all (length all) all (omega arith)) ∙ count_in_set-nil set
 
 -- one that is in it is the end of its span
 span_widened : (set : List ℕ) (items : List ItemState) (item : ItemState) (old one : Span) → IsLast items (items ++ item ∷ []) one → IsSpan set items old → IsSpan set (items ++ item ∷ []) (widened (Some old) one)
@@ -142,7 +142,7 @@ span_widened set items item old one last is = by_bytes set all (widened (Some ol
   within = omega arith;
   from = h.from ∙ ap size_of (sym (front_of items item first (omega (arith, h.order, h.within))));
   to = last.to ∙ ap size_of (sym (take_all (length all) all (omega arith)));
-  before = ap (number_in set) (front_of items item first (omega (arith, h.order, h.within))) ∙ h.before;
+  before = ap (count_in_set set) (front_of items item first (omega (arith, h.order, h.within))) ∙ h.before;
   behind = none_behind set all;
 }) where
   all : List ItemState
@@ -155,13 +155,13 @@ span_widened set items item old one last is = by_bytes set all (widened (Some ol
   h = by_places set items old is
 
 -- and where it is the first of them, the whole of its span
-span_begun : (set : List ℕ) (items : List ItemState) (item : ItemState) (one : Span) → IsLast items (items ++ item ∷ []) one → number_in set items ≡ 0 → IsSpan set (items ++ item ∷ []) one
+span_begun : (set : List ℕ) (items : List ItemState) (item : ItemState) (one : Span) → IsLast items (items ++ item ∷ []) one → count_in_set set items ≡ 0 → IsSpan set (items ++ item ∷ []) one
 span_begun set items item one last none = by_bytes set all one (length items) (length all) (record {
   order = omega (arith, length-append items (item ∷ []));
   within = omega arith;
   from = last.from ∙ ap size_of (sym front);
   to = last.to ∙ ap size_of (sym (take_all (length all) all (omega arith)));
-  before = ap (number_in set) front ∙ none;
+  before = ap (count_in_set set) front ∙ none;
   behind = none_behind set all;
 }) where
   all : List ItemState
@@ -170,7 +170,7 @@ span_begun set items item one last none = by_bytes set all one (length items) (l
   front : take (length items) all ≡ items
   front = front_of items item (length items) (omega arith) ∙ take_all (length items) items (omega arith)
 
-span_more : (set : List ℕ) (items : List ItemState) (item : ItemState) (one span : Span) (old : Option Span) → (old ≡ None → number_in set items ≡ 0) → ((was : Span) → old ≡ Some was → IsSpan set items was)
+span_more : (set : List ℕ) (items : List ItemState) (item : ItemState) (one span : Span) (old : Option Span) → (old ≡ None → count_in_set set items ≡ 0) → ((was : Span) → old ≡ Some was → IsSpan set items was)
     → IsLast items (items ++ item ∷ []) one → (b : Bool) → is_in set item.sets ≡ b → (if b then Some (widened old one) else old) ≡ Some span → IsSpan set (items ++ item ∷ []) span
 span_more set items item one span old none stands last false out is = span_kept set items item span out (stands span is)
 span_more set items item one span None none stands last true in_it is =

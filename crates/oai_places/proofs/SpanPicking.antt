@@ -10,7 +10,7 @@ use Rattle.oai_item.specs.Membership.{is_in}
 use Rattle.oai_item.specs.Selection.{Filter, is_in_given}
 use Rattle.oai_item.specs.declared.decodings.DecodeFault.{DecodeFault}
 use Rattle.oai_item.specs.declared.decodings.DecodeFault.TheVariants.{Damaged, NoMemory}
-use Rattle.oai_sums.specs.Sums.{SetTotal, number_in, span_in}
+use Rattle.oai_sums.specs.Sums.{SetTotal, count_in_set, span_in}
 use Rattle.oai_sums.specs.declared.spans.Span.{Span}
 use Rattle.oai_places.specs.Entries.{ending_by}
 use Rattle.oai_places.specs.Pages.{AreStorable, IsPage, between, entries_of, size_of}
@@ -51,8 +51,8 @@ span_known place (Some set) span items sets fits known = by_totals place.sets re
 -- ---- what is taken of them is taken of all
 
 -- where none of the items is in the set that is asked for, none is wanted
-none_wanted : (asked : Filter) (stamp : ℤ) (identifier set : List ℕ) (items : List ItemState) → asked.set ≡ Some set → number_in set items ≡ 0 → length (filter (is_wanted asked stamp identifier) items) ≡ 0
-unfolding number_in
+none_wanted : (asked : Filter) (stamp : ℤ) (identifier set : List ℕ) (items : List ItemState) → asked.set ≡ Some set → count_in_set set items ≡ 0 → length (filter (is_wanted asked stamp identifier) items) ≡ 0
+unfolding count_in_set
 none_wanted asked stamp identifier set items given none =
     let few = fewer (is_wanted asked stamp identifier) (λ (x : ItemState). is_in set x.sets)
     (λ x wanted. ap (λ (s : Option (List ℕ)). is_in_given s x.sets) (sym given) ∙ given_from asked stamp identifier x wanted) items in

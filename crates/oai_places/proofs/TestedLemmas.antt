@@ -14,14 +14,14 @@ use Rattle.oai_pool.specs.Calls as pools
 use Rattle.oai_pool.specs.declared.kinds.PageKind.{PageKind}
 use Rattle.oai_pool.specs.declared.kinds.PageKind.TheVariants.{Bytes, Items}
 use Rattle.oai_pool.specs.declared.pools.PagePool.{Ghosts}
-use Rattle.oai_pool.specs.Kinds.{has_items, is_of, number_in, spells_item, spells_items}
-use Rattle.oai_places.specs.Calls.{Forgets, ReadsPages}
+use Rattle.oai_pool.specs.Kinds.{has_items, is_of, leading_number, spells_item, spells_items}
+use Rattle.oai_places.specs.Calls.{Evicts, ReadsPages}
 use Rattle.oai_places.specs.Entries.{HasEntries, HasEntry}
-use Rattle.oai_places.specs.Pages.{AreStorable, FitAlone, IsPage, entries_of, entry_of, first_number, fit_one, joined, kind_for, overflow_of, page_spelling, pages_of, size_of}
+use Rattle.oai_places.specs.Pages.{AreStorable, FitAlone, IsPage, entries_of, entry_of, first_number, fit_one, joined_pages, kind_for, overflow_of, page_spelling, pages_of, size_of}
 use Rattle.oai_places.specs.Places.{Pages, page_at}
 use Rattle.oai_places.specs.declared.sizes.TheConstants.{MAX_ENTRY_BYTES}
 use Rattle.oai_places.proofs.InsidePlaces.{few_items}
-use Rattle.oai_places.proofs.OverflowLemmas.{joined-one, long_from, overflow-one, pages-one}
+use Rattle.oai_places.proofs.OverflowLemmas.{joined_pages-one, long_from, overflow-one, pages-one}
 use Rattle.oai_places.proofs.PageLemmas.{behind_number, entries_of-cons, entries_of-nil, entry_parts, length-entry, number_back, page_parts}
 use Rattle.oai_places.proofs.ReadLemmas.{has_entry, no_entries, one_more, page_read, some_from}
 use Rattle.oai_places.proofs.RecountLemmas.{spares_from, spares_none, spares_then}
@@ -30,11 +30,11 @@ use Rattle.oai_places.proofs.SpendingLemmas.{err_of, spends_freed_err}
 -- ---- what is read
 
 abbrev text_in : List ℕ → List ℕ
-text_in bytes = take (number_in bytes) (drop 4 bytes)
+text_in bytes = take (leading_number bytes) (drop 4 bytes)
 
-entry_told : (bytes : List ℕ) → spells_item bytes ≡ true → (nat_le (4 + number_in bytes) (length bytes) ≡ true) × (is_some (item_in (text_in bytes)) ≡ true)
+entry_told : (bytes : List ℕ) → spells_item bytes ≡ true → (nat_le (4 + leading_number bytes) (length bytes) ≡ true) × (is_some (item_in (text_in bytes)) ≡ true)
 unfolding spells_item
-entry_told bytes h = and_parts (nat_le (4 + number_in bytes) (length bytes)) (is_some (item_in (text_in bytes))) h
+entry_told bytes h = and_parts (nat_le (4 + leading_number bytes) (length bytes)) (is_some (item_in (text_in bytes))) h
 
 -- an entry that is known to spell an item is within the bytes
 pub entry_within : (bytes : List ℕ) → spells_item bytes ≡ true → 4 + first_number bytes ≤ length bytes
@@ -50,7 +50,7 @@ entry_known bytes fits h =
     has_entry bytes found.0 fits (omega (arith, within)) (omega (arith, within, length-drop 4 bytes)) found.1
 
 -- of a page of items
-pub entries_told : (bytes : List ℕ) → has_items bytes ≡ true → spells_items (number_in bytes) (drop 4 bytes) ≡ true
+pub entries_told : (bytes : List ℕ) → has_items bytes ≡ true → spells_items (leading_number bytes) (drop 4 bytes) ≡ true
 unfolding has_items
 entries_told bytes h = h
 
@@ -65,21 +65,21 @@ none_known bytes whole h = record {
   left = let all : whole - 0 ≡ whole = omega arith in ap (λ k. spells_items k bytes) all ∙ h;
 }
 
-left_parts : (whole count : ℕ) (bytes : List ℕ) → count < whole → spells_items (whole - count) bytes ≡ true → (spells_item bytes ≡ true) × (spells_items (whole - (count + 1)) (drop (4 + number_in bytes) bytes) ≡ true)
+left_parts : (whole count : ℕ) (bytes : List ℕ) → count < whole → spells_items (whole - count) bytes ≡ true → (spells_item bytes ≡ true) × (spells_items (whole - (count + 1)) (drop (4 + leading_number bytes) bytes) ≡ true)
 left_parts whole count bytes within h =
     let one : whole - count ≡ suc (whole - (count + 1)) = omega arith in
-    and_parts (spells_item bytes) (spells_items (whole - (count + 1)) (drop (4 + number_in bytes) bytes)) (ap (λ k. spells_items k bytes) (sym one) ∙ h)
+    and_parts (spells_item bytes) (spells_items (whole - (count + 1)) (drop (4 + leading_number bytes) bytes)) (ap (λ k. spells_items k bytes) (sym one) ∙ h)
 
 -- the next one is known to spell an item
 pub next_known : (bytes ends : List ℕ) (whole count size : ℕ) → AreKnown bytes ends whole count size → count < whole → spells_item (drop size bytes) ≡ true
 next_known bytes ends whole count size h within = (left_parts whole count (drop size bytes) within h.left).0
 
-pub more_known : (bytes ends : List ℕ) (whole count size len : ℕ) → AreKnown bytes ends whole count size → count < whole → HasEntry (drop size bytes) len → len ≡ 4 + number_in (drop size bytes)
+pub more_known : (bytes ends : List ℕ) (whole count size len : ℕ) → AreKnown bytes ends whole count size → count < whole → HasEntry (drop size bytes) len → len ≡ 4 + leading_number (drop size bytes)
     → AreKnown bytes (ends ++ (size + len) ∷ []) whole (count + 1) (size + len)
 more_known bytes ends whole count size len h within entry is = record {
   entries = one_more bytes ends count size len h.entries entry;
   left =
-      let behind : drop (size + len) bytes ≡ drop (4 + number_in (drop size bytes)) (drop size bytes) = sym (drop-drop len size bytes) ∙ ap (λ k. drop k (drop size bytes)) is in
+      let behind : drop (size + len) bytes ≡ drop (4 + leading_number (drop size bytes)) (drop size bytes) = sym (drop-drop len size bytes) ∙ ap (λ k. drop k (drop size bytes)) is in
       ap (spells_items (whole - (count + 1))) behind ∙ (left_parts whole count (drop size bytes) within h.left).1;
 }
 
@@ -87,21 +87,21 @@ more_known bytes ends whole count size len h within entry is = record {
 
 -- the entry of an item spells it
 written_entry : (item : ItemState) (rest : List ℕ) → Spells (encoded item) item
-    → (spells_item (entry_of item ++ rest) ≡ true) × (drop (4 + number_in (entry_of item ++ rest)) (entry_of item ++ rest) ≡ rest)
+    → (spells_item (entry_of item ++ rest) ≡ true) × (drop (4 + leading_number (entry_of item ++ rest)) (entry_of item ++ rest) ≡ rest)
 unfolding spells_item
 written_entry item rest s =
     let text : List ℕ = encoded item in
     let bytes : List ℕ = entry_of item ++ rest in
     let parts : bytes ≡ encoded_count (length text) ++ (text ++ rest) = entry_parts item rest in
-    let number : number_in bytes ≡ length text = ap number_in parts ∙ number_back (length text) (text ++ rest) (omega (arith, s.few)) in
+    let number : leading_number bytes ≡ length text = ap leading_number parts ∙ number_back (length text) (text ++ rest) (omega (arith, s.few)) in
     let behind : drop 4 bytes ≡ text ++ rest = ap (drop 4) parts ∙ behind_number (length text) (text ++ rest) in
     let front : text_in bytes ≡ text = ap (λ k. take k (drop 4 bytes)) number ∙ ap (take (length text)) behind ∙ take_at text rest (length text) refl in
-    let back : drop (4 + number_in bytes) bytes ≡ rest =
+    let back : drop (4 + leading_number bytes) bytes ≡ rest =
     ap (λ k. drop (4 + k) bytes) number ∙ sym (drop-drop (length text) 4 bytes) ∙ ap (drop (length text)) behind ∙ drop_at text rest (length text) refl
     in
     let some : is_some (item_in (text_in bytes)) ≡ true = ap (λ bs. is_some (item_in bs)) front ∙ ap is_some (item_in-spelled text item s) in
-    let room : 4 + number_in bytes ≤ length bytes = omega (arith, number, length-append (entry_of item) rest, length-entry item) in
-    let enough : nat_le (4 + number_in bytes) (length bytes) ≡ true = grind (arith, nat_tests) in
+    let room : 4 + leading_number bytes ≤ length bytes = omega (arith, number, length-append (entry_of item) rest, length-entry item) in
+    let enough : nat_le (4 + leading_number bytes) (length bytes) ≡ true = grind (arith, nat_tests) in
     (ap (λ b. b && is_some (item_in (text_in bytes))) enough ∙ some, back)
 
 written_entries : (items : List ItemState) (rest : List ℕ) → AreStorable items → spells_items (length items) (entries_of items ++ rest) ≡ true
@@ -111,7 +111,7 @@ written_entries (item ∷ items) rest h =
     let parts : entries_of (item ∷ items) ++ rest ≡ bytes = ap (λ bs. bs ++ rest) (entries_of-cons item items) ∙ append_assoc (entry_of item) (entries_of items) rest in
     let one = written_entry item (entries_of items ++ rest) h.0 in
     ap (spells_items (suc (length items))) parts
-    ∙ ap (λ b. b && spells_items (length items) (drop (4 + number_in bytes) bytes)) one.0
+    ∙ ap (λ b. b && spells_items (length items) (drop (4 + leading_number bytes) bytes)) one.0
     ∙ ap (spells_items (length items)) one.1 ∙ written_entries items rest h.1
 
 -- the page of items is known to be one
@@ -120,7 +120,7 @@ unfolding has_items
 has_items-spelled room items few h =
     let zeros : List ℕ = replicate (room - size_of items) 0 in
     let parts = page_parts room items in
-    let number : number_in (page_spelling room items) ≡ length items = ap number_in parts ∙ number_back (length items) (entries_of items ++ zeros) few in
+    let number : leading_number (page_spelling room items) ≡ length items = ap leading_number parts ∙ number_back (length items) (entries_of items ++ zeros) few in
     let behind : drop 4 (page_spelling room items) ≡ entries_of items ++ zeros = ap (drop 4) parts ∙ behind_number (length items) (entries_of items ++ zeros) in
     (λ k. spells_items (number k) (behind k)) ∙ written_entries items zeros h
 
@@ -148,7 +148,7 @@ kind_fits items n at page kind is many within there storable alone = by_cases (f
   by_cases : (b : Bool) → fit_one items ≡ b → is_of kind page ≡ true
   by_cases true h =
       let first : at ≡ 0 = omega (arith, within, ap length (pages-one items h)) in
-      let own : page ≡ page_spelling MAX_ENTRY_BYTES items = there ∙ (λ k. get_or (pages-one items h k) (first k) []) ∙ ap joined (sym (pages-one items h)) ∙ joined-one items h in
+      let own : page ≡ page_spelling MAX_ENTRY_BYTES items = there ∙ (λ k. get_or (pages-one items h k) (first k) []) ∙ ap joined_pages (sym (pages-one items h)) ∙ joined_pages-one items h in
       let few : length items < 2 ^ 32 = let most = few_items items h in omega (arith, most) in
       let whole : kind ≡ Items = is ∙ kind_of_none n (many ∙ overflow-one items h) in
       (λ k. is_of (whole k) (own k)) ∙ has_items-spelled MAX_ENTRY_BYTES items few storable
@@ -159,18 +159,18 @@ kind_fits items n at page kind is many within there storable alone = by_cases (f
 
 -- ---- pages that are kept no more
 
-pub reads_forgotten : {P A B : Type 0} (g : Ghosts P) (fault : Fault) (p q r : P) → ReadsPages g (err_of A fault) p q → Forgets g q r → ReadsPages g (err_of B fault) p r
+pub reads_forgotten : {P A B : Type 0} (g : Ghosts P) (fault : Fault) (p q r : P) → ReadsPages g (err_of A fault) p q → Evicts g q r → ReadsPages g (err_of B fault) p r
 reads_forgotten g fault p q r h k = record {
   counts = k.counts ∙ h.counts;
   same = k.same ∙ h.same;
   pool = spends_freed_err g 0 fault p q r h.pool k.pool;
 }
 
-pub forgets_none : {P : Type 0} (g : Ghosts P) (p : P) → Forgets g p p
+pub forgets_none : {P : Type 0} (g : Ghosts P) (p : P) → Evicts g p p
 forgets_none g p = record { counts = refl; same = refl; pool = spares_none g p }
 
-pub forgets_more : {P : Type 0} (g : Ghosts P) (p q r : P) → Forgets g p q → g.counts r ≡ g.counts q → g.pages r ≡ g.pages q
-    → pools.SparesNumbers g.room g.failures g.cache_size g.honest q r → Forgets g p r
+pub forgets_more : {P : Type 0} (g : Ghosts P) (p q r : P) → Evicts g p q → g.counts r ≡ g.counts q → g.pages r ≡ g.pages q
+    → pools.SparesNumbers g.room g.failures g.cache_size g.honest q r → Evicts g p r
 forgets_more g p q r h counts same pool = record {
   counts = counts ∙ h.counts;
   same = same ∙ h.same;

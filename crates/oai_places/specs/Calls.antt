@@ -28,7 +28,7 @@ pub record Renames {P : Type 0} (g : Ghosts P) (before after : List PlaceState) 
   pub kept : (n : ℕ) → named_in before n < count_of (g.counts old) n → g.pages new n ≡ g.pages old n
 
 -- pages are dropped from memory, and nothing else changes
-pub record Forgets {P : Type 0} (g : Ghosts P) (old new : P) : Type 0 where
+pub record Evicts {P : Type 0} (g : Ghosts P) (old new : P) : Type 0 where
   pub counts : g.counts new ≡ g.counts old
   pub same : g.pages new ≡ g.pages old
   pub pool : Spares g.room g.failures g.honest old new

@@ -93,10 +93,10 @@ kind_for zero = Items
 kind_for (suc n) = Bytes
 
 -- the bytes of pages: those of one; or, of several, the first bytes of the first and then the others
-abbrev pub joined : List (List ℕ) → List ℕ
-joined [] = []
-joined (page ∷ []) = page
-joined (page ∷ next ∷ others) = take FRONT_BYTES page ++ (next ++ flat_map (λ other. other) others)
+abbrev pub joined_pages : List (List ℕ) → List ℕ
+joined_pages [] = []
+joined_pages (page ∷ []) = page
+joined_pages (page ∷ next ∷ others) = take FRONT_BYTES page ++ (next ++ flat_map (λ other. other) others)
 
 -- ---- how it is read
 

@@ -9,10 +9,10 @@ use Rattle.oai_item.specs.Item.{ItemState, has_record}
 use Rattle.oai_item.specs.Order.{place_cmp}
 use Rattle.oai_item.specs.Selection.{Filter, passes}
 use Rattle.oai_pool.specs.Names.{times}
-use Rattle.oai_sums.specs.Sums.{AreCounts, SetTotal, counted_in, number_in, span_in}
+use Rattle.oai_sums.specs.Sums.{AreCounts, SetTotal, count_in_set, counted_in, span_in}
 use Rattle.oai_sums.specs.declared.spans.Span.{Span}
 use Rattle.oai_places.specs.Entries.{ending_by}
-use Rattle.oai_places.specs.Pages.{IsPage, begins_at, fit_one, items_in, joined, pages_of, size_of}
+use Rattle.oai_places.specs.Pages.{IsPage, begins_at, fit_one, items_in, joined_pages, pages_of, size_of}
 use Rattle.oai_places.specs.declared.sizes.TheConstants.{FRONT_BYTES, MAX_ENTRY_BYTES, MAX_OVERFLOW_PAGES}
 
 -- a leaf: the numbers of its pages, the datestamp and the identifier of its first item, how many items there are and
@@ -39,7 +39,7 @@ page_at pages n = unwrap_or (pages n) []
 
 -- the bytes of the pages with these numbers, of which the first has the entries, and the others are its overflow pages
 unfoldable pub bytes_on : Pages → List ℕ → List ℕ
-bytes_on pages numbers = joined (map (page_at pages) numbers)
+bytes_on pages numbers = joined_pages (map (page_at pages) numbers)
 
 -- the items of a leaf
 unfoldable pub items_at : Pages → PlaceState → List ItemState
@@ -59,8 +59,8 @@ pub record IsSpan (set : List ℕ) (items : List ItemState) (span : Span) : Type
   pub order : span.from ≤ span.to
   pub from : span.from ≡ size_of (take (ending_by span.from items) items)
   pub to : span.to ≡ size_of (take (ending_by span.to items) items)
-  pub before : number_in set (take (ending_by span.from items) items) ≡ 0
-  pub behind : number_in set (drop (ending_by span.to items) items) ≡ 0
+  pub before : count_in_set set (take (ending_by span.from items) items) ≡ 0
+  pub behind : count_in_set set (drop (ending_by span.to items) items) ≡ 0
 
 -- each set has as many of the items as are counted in it; and if the entries of all have at most MAX_ENTRY_BYTES bytes,
 -- its items are within its span

@@ -69,7 +69,7 @@ abbrev pub AreGroups : List PlaceState → List GroupState → Type 0
 AreGroups places groups = AllByRecursion (IsSoundGroup places) groups
 
 -- that many leaves replaced those from `at` on
-pub record AreExchanged (at len count : ℕ) (before after : List PlaceState) : Type 0 where
+pub record AreReplaced (at len count : ℕ) (before after : List PlaceState) : Type 0 where
   pub added : List PlaceState
   pub many : length added ≡ count
   pub within : at + len ≤ length before

@@ -5,7 +5,7 @@ ghost use Rattle.oai_device.specs.declared.devices.TheConstants.{PAGE_BYTES};
 ghost use Rattle.oai_item.specs.Encoding.{Spells, encoded};
 ghost use Rattle.oai_item.specs.Item.{ItemState, has_record};
 ghost use Rattle.oai_item.specs.declared.sizes.TheConstants.{MAX_ITEM_BYTES};
-ghost use Rattle.oai_pool.specs.Kinds.{number_in, spells_item, spells_items};
+ghost use Rattle.oai_pool.specs.Kinds.{leading_number, spells_item, spells_items};
 ghost use Rattle.oai_places.specs.Entries.{HasEntries, HasEntry, IsEntryReading};
 ghost use Rattle.oai_places.specs.Pages.{AreStorable, entries_of, entry_of, filled, first_number};
 
@@ -149,7 +149,7 @@ fn spelled_len(bytes: &[u8]) -> usize
     requires { spells_item bytes.now ≡ true }
     ensures entry { HasEntry bytes.now result }
     ensures within { result ≤ length bytes.now }
-    ensures behind { result ≡ 4 + number_in bytes.now }
+    ensures behind { result ≡ 4 + leading_number bytes.now }
 {
     NUMBER_BYTES + first_number(bytes)
 }

@@ -2,7 +2,7 @@
 //! leaves.
 ghost use Rattle.std.specs.Prelude.{◌≡◌, ◌+◌, ◌<◌, ◌≤◌, List, [], None, length, drop, IfOk, IfSome, IsTrue};
 ghost use Rattle.oai_places.specs.Places.{PlaceState};
-ghost use Rattle.oai_places.specs.Sums.{AreExchanged, AreGroups, IsStretch, IsSoundGroup, IsSumInside};
+ghost use Rattle.oai_places.specs.Sums.{AreReplaced, AreGroups, IsStretch, IsSoundGroup, IsSumInside};
 
 use crate::places::SharedPlace;
 use crate::sums::SharedSum;
@@ -93,7 +93,7 @@ impl Groups {
     /// Invalidates the statistics of the groups that contain one of the `len` leaves from `at` on, which were replaced
     /// by `count` others. The groups behind are moved.
     pub fn exchange(&mut self, at: usize, len: usize, count: usize)
-        ensures { (before after : List PlaceState) → AreExchanged at len count before after
+        ensures { (before after : List PlaceState) → AreReplaced at len count before after
             → AreGroups before self.old → AreGroups after self.new }
     {
         'groups: for near in 0..self.groups.len() {
@@ -229,7 +229,7 @@ impl Group {
     /// Invalidates the statistics of the group if `len` leaves from `at` on were changed, some of them its own, and
     /// replaced by `count` others: these belong to the group of the first of the old ones.
     fn exchange(&mut self, at: usize, len: usize, count: usize)
-        ensures { (before after : List PlaceState) → AreExchanged at len count before after
+        ensures { (before after : List PlaceState) → AreReplaced at len count before after
             → IsSoundGroup before self.old → IsSoundGroup after self.new }
     {
         if self.ends_by(at) {

@@ -4,7 +4,7 @@ ghost use Rattle.oai_catalogue.specs.Store.{Spares};
 ghost use Rattle.oai_item.specs.declared.faults.Fault.TheVariants as fault;
 ghost use Rattle.oai_pool.specs.Counts.{count_of};
 ghost use Rattle.oai_pool.specs.Names.{times};
-ghost use Rattle.oai_places.specs.Calls.{Forgets, IsShareFault, Renames};
+ghost use Rattle.oai_places.specs.Calls.{Evicts, IsShareFault, Renames};
 ghost use Rattle.oai_places.specs.Places.{named_in, page_numbers};
 ghost use Rattle.oai_places.specs.Recounts.{HasFull, Recounts};
 
@@ -38,7 +38,7 @@ pub fn drop_numbers<P: PagePool>(pages: &mut P, numbers: &[PageNo])
 
 /// Drops the pages from memory. It allocates nothing and cannot fail.
 pub(crate) fn forget_all<P: PagePool>(pages: &mut P, numbers: &[PageNo])
-    ensures { Forgets P.PagePool pages.old pages.new }
+    ensures { Evicts P.PagePool pages.old pages.new }
 {
     for number in numbers {
         pages.forget(*number);

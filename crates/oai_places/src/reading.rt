@@ -7,7 +7,7 @@ ghost use Rattle.oai_item.specs.Items.{item_at};
 ghost use Rattle.oai_item.specs.Order.{are_in_order};
 ghost use Rattle.oai_pool.specs.Counts.{count_of};
 ghost use Rattle.oai_pool.specs.Names.{times};
-ghost use Rattle.oai_places.specs.Calls.{Forgets, ReadsPages};
+ghost use Rattle.oai_places.specs.Calls.{Evicts, ReadsPages};
 ghost use Rattle.oai_places.specs.Directory.{StandsIn};
 ghost use Rattle.oai_places.specs.Finding.{IsFinding};
 ghost use Rattle.oai_places.specs.Pages.{FitPage, IsPage, begins_at, fit_one, items_in, size_of};
@@ -277,7 +277,7 @@ fn find_at<P: PagePool>(
 
 /// If the fault is `Damaged`, drops the pages of the leaf from memory, so that each is read from the device again.
 pub(crate) fn forget_damaged<P: PagePool>(pages: &mut P, place: &SharedPlace, fault: Fault)
-    ensures { Forgets P.PagePool pages.old pages.new }
+    ensures { Evicts P.PagePool pages.old pages.new }
 {
     if fault == Fault::Damaged {
         forget_all(pages, place.pages());

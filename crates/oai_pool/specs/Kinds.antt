@@ -6,21 +6,21 @@ use Rattle.oai_pool.specs.declared.kinds.PageKind.{PageKind}
 use Rattle.oai_pool.specs.declared.kinds.PageKind.TheVariants.{Items, Bytes}
 
 -- the number in the first four of the bytes
-abbrev pub number_in : List ℕ → ℕ
-number_in bytes = from_be_bytes w32 (take 4 bytes)
+abbrev pub leading_number : List ℕ → ℕ
+leading_number bytes = from_be_bytes w32 (take 4 bytes)
 
 -- the bytes begin with an entry that encodes an item: the number of its other bytes, in four bytes, and these
 unfoldable pub spells_item : List ℕ → Bool
-spells_item bytes = nat_le (4 + number_in bytes) (length bytes) && is_some (item_in (take (number_in bytes) (drop 4 bytes)))
+spells_item bytes = nat_le (4 + leading_number bytes) (length bytes) && is_some (item_in (take (leading_number bytes) (drop 4 bytes)))
 
 -- the bytes begin with that many such entries
 abbrev pub spells_items : ℕ → List ℕ → Bool
 spells_items zero bytes = true
-spells_items (suc n) bytes = spells_item bytes && spells_items n (drop (4 + number_in bytes) bytes)
+spells_items (suc n) bytes = spells_item bytes && spells_items n (drop (4 + leading_number bytes) bytes)
 
 -- the bytes begin with a number and that many such entries, whatever follows
 unfoldable pub has_items : List ℕ → Bool
-has_items bytes = spells_items (number_in bytes) (drop 4 bytes)
+has_items bytes = spells_items (leading_number bytes) (drop 4 bytes)
 
 -- the bytes are of that kind
 abbrev pub is_of : PageKind → List ℕ → Bool
@@ -30,7 +30,7 @@ is_of Bytes bytes = true
 -- the entry at the start of the bytes, with that length, encodes an item
 pub record IsItemEntry (bytes : List ℕ) (len : ℕ) : Type 0 where
   pub spells : spells_item bytes ≡ true
-  pub long : len ≡ 4 + number_in bytes
+  pub long : len ≡ 4 + leading_number bytes
   pub within : len ≤ length bytes
 
 -- the result for the entry at the start of bytes: its length; or that the bytes begin with none that encodes an item

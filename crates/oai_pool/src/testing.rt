@@ -1,6 +1,6 @@
 //! Validates a page of items.
 ghost use Rattle.std.specs.Prelude.{◌≡◌, ◌≤◌, length, IfOk};
-ghost use Rattle.oai_pool.specs.Kinds.{IsEntryTest, has_items, is_of, number_in};
+ghost use Rattle.oai_pool.specs.Kinds.{IsEntryTest, has_items, is_of, leading_number};
 
 use crate::kinds::PageKind;
 use oai_item::is_spelling;
@@ -57,7 +57,7 @@ fn entry_len(alloc: Global, bytes: &[u8]) -> Result<Option<usize>, AllocError>
 /// The number at the start of the bytes.
 fn number_in(bytes: &[u8]) -> usize
     requires { 4 ≤ length bytes.now }
-    ensures { result ≡ number_in bytes.now }
+    ensures { result ≡ leading_number bytes.now }
 {
     let mut number = [0; NUMBER_BYTES];
     number.copy_from_slice(&bytes[..NUMBER_BYTES]);

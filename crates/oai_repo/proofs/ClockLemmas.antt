@@ -5,10 +5,9 @@ use Rattle.std.proofs.lemmas.Int.{ints}
 use Rattle.oai_time.specs.Clock.{tick}
 use Rattle.oai_time.specs.Stamp.{IsWritable, stamp_of}
 use Rattle.std.specs.Ordering.{int_eq}
-use Rattle.oai_item.specs.Item.{IsStamp}
-use Rattle.oai_settings.specs.Config.{Config, IsConfig, is_date, is_in_years}
+use Rattle.oai_settings.specs.Config.{IsConfig, RepositoryConfig, is_date, is_in_years}
 
-pub in_years-config : (config : Config) → IsConfig config → is_in_years config.earliest ≡ true
+pub in_years-config : (config : RepositoryConfig) → IsConfig config → is_in_years config.earliest ≡ true
 unfolding is_date
 in_years-config config c =
     (and_parts (is_in_years config.earliest) (int_eq (stamp_of config.granularity config.earliest) config.earliest) c.dated).0
@@ -24,11 +23,4 @@ pub years_fit : (clock : ℤ) → is_in_years clock ≡ true → FitsSigned w64 
 years_fit clock h =
     let below : clock <ℤ pos 9_223_372_036_854_775_808 = grind (arith, ints) in
     let above : neg_ℤ (pos 9_223_372_036_854_775_808) ≤ℤ clock = grind (arith, ints) in
-    search (rules, below, above)
-
--- and so is a datestamp
-pub stamp_fits : (stamp : ℤ) → IsStamp stamp → FitsSigned w64 stamp
-stamp_fits stamp h =
-    let below : stamp <ℤ pos 9_223_372_036_854_775_808 = grind (arith, ints) in
-    let above : neg_ℤ (pos 9_223_372_036_854_775_808) ≤ℤ stamp = grind (arith, ints) in
     search (rules, below, above)

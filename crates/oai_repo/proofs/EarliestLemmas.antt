@@ -4,7 +4,7 @@ use Rattle.std.specs.Int.{int_min}
 use Rattle.std.specs.List.{list_all}
 use Rattle.std.proofs.lemmas.List.Sums.{AllPass-from_list_all}
 use Rattle.std.proofs.lemmas.Int.{ints}
-use Rattle.oai_catalogue.specs.Store.{Lists}
+use Rattle.oai_catalogue.specs.Store.{VersionLists}
 use Rattle.oai_lists.specs.OpenLists.{IsEarliest}
 use Rattle.oai_lists.specs.declared.open_lists.OpenList.{OpenList}
 use Rattle.oai_repo.specs.Fields.{frozen_in}
@@ -29,10 +29,10 @@ itself a = grind (arith, ints)
 
 -- ---- the earliest of the ends
 
-first_end : (all : Lists) (x : OpenList) (lists : List OpenList) → ℤ
+first_end : (all : VersionLists) (x : OpenList) (lists : List OpenList) → ℤ
 first_end all x lists = earliest_end (frozen_in all x) (map (frozen_in all) lists)
 
-none_earlier : (all : Lists) (x : OpenList) (lists : List OpenList) (k : ℕ) (d : OpenList) → k < length (x ∷ lists) → first_end all x lists ≤ℤ (get_or (x ∷ lists) k d).end
+none_earlier : (all : VersionLists) (x : OpenList) (lists : List OpenList) (k : ℕ) (d : OpenList) → k < length (x ∷ lists) → first_end all x lists ≤ℤ (get_or (x ∷ lists) k d).end
 unfolding first_end
 none_earlier all x [] zero d within = itself x.end
 none_earlier all x [] (suc k) d within = absurd (omega (arith, within))
@@ -40,13 +40,13 @@ none_earlier all x (y ∷ lists) zero d within = min_first x.end (first_end all 
 none_earlier all x (y ∷ lists) (suc k) d within =
     min_second x.end (first_end all y lists) (get_or (y ∷ lists) k d).end (none_earlier all y lists k d (omega (arith, within)))
 
-not_later : (all : Lists) (x : OpenList) (lists : List OpenList) (e : ℤ) → ((k : ℕ) (d : OpenList) → k < length (x ∷ lists) → e ≤ℤ (get_or (x ∷ lists) k d).end) → e ≤ℤ first_end all x lists
+not_later : (all : VersionLists) (x : OpenList) (lists : List OpenList) (e : ℤ) → ((k : ℕ) (d : OpenList) → k < length (x ∷ lists) → e ≤ℤ (get_or (x ∷ lists) k d).end) → e ≤ℤ first_end all x lists
 unfolding first_end
 not_later all x [] e h = h 0 x (omega arith)
 not_later all x (y ∷ lists) e h =
     min_above e x.end (first_end all y lists) (h 0 x (omega arith)) (not_later all y lists e (λ k d within. h (suc k) d (omega (arith, within))))
 
-earliest_is : (all : Lists) (x : OpenList) (lists : List OpenList) (e : ℤ) → IsEarliest (x ∷ lists) (Some e) → first_end all x lists ≡ e
+earliest_is : (all : VersionLists) (x : OpenList) (lists : List OpenList) (e : ℤ) → IsEarliest (x ∷ lists) (Some e) → first_end all x lists ≡ e
 earliest_is all x lists e is =
     let one = is.0 in
     let place = one.1 in
@@ -54,7 +54,7 @@ earliest_is all x lists e is =
     (subst (λ (m : ℤ). first_end all x lists ≤ℤ m) (ap (λ (list : OpenList). list.end) place.2 ∙ one.2) (none_earlier all x lists place.0 one.0 place.1))
     (not_later all x lists e is.1)
 
-pub seconds_is : (all : Lists) (now e : ℤ) (lists : List OpenList) → IsEarliest lists (Some e) → seconds_to_end now (map (frozen_in all) lists) ≡ e -ℤ now
+pub seconds_is : (all : VersionLists) (now e : ℤ) (lists : List OpenList) → IsEarliest lists (Some e) → seconds_to_end now (map (frozen_in all) lists) ≡ e -ℤ now
 unfolding first_end
 seconds_is all now e [] is = absurd (omega (arith, is.0.1.1))
 seconds_is all now e (x ∷ lists) is = ap (λ (m : ℤ). m -ℤ now) (earliest_is all x lists e is)

@@ -6,7 +6,7 @@ use Rattle.std.specs.List.{list_all, position_or_len}
 use Rattle.std.proofs.lemmas.Bool.{and_from, and_parts, cases_Bool, cond-true, cond-false, eq-eqb, eqb-true, false_from_ne_true, ltb-false, ltb-true, not-true, not_from_false, or_from, or_left, or_parts}
 use Rattle.std.proofs.lemmas.Int.{ints}
 use Rattle.std.proofs.lemmas.List.{length-map, length_push}
-use Rattle.oai_catalogue.specs.Store.{Lists}
+use Rattle.oai_catalogue.specs.Store.{VersionLists}
 use Rattle.oai_lists.specs.OpenLists.{Table, changed_one, has_ended, is_open, open_ones, with_change, without_ended}
 use Rattle.oai_lists.specs.declared.open_lists.OpenList.{OpenList}
 use Rattle.oai_repo.specs.Fields.{AreInUse, KeepsOthers, are_different, has, versions_in}
@@ -120,7 +120,7 @@ first_of : (found : Option OpenList) (v : ℕ) → Some v ≡ option_map (λ (li
 first_of None v h = cc
 first_of (Some y) v h = (y, refl, cc)
 
-pub ended_used : (now : ℤ) (table : Table) (all : Lists) (v : ℕ) → AreInUse (versions_in table) all → Some v ≡ version_ended now table → IsSome (all v)
+pub ended_used : (now : ℤ) (table : Table) (all : VersionLists) (v : ℕ) → AreInUse (versions_in table) all → Some v ≡ version_ended now table → IsSome (all v)
 ended_used now table all v stands h =
     let y = first_of (find (has_ended now) table.lists) v h in
     let rest : List ℕ = versions (without_ended now table.lists) in
@@ -228,7 +228,7 @@ abbrev pub ended_of : Option OpenList → Option ℕ
 ended_of found = option_map (λ (list : OpenList). list.version) found
 
 -- those that are not dropped have the lists that they had
-left_by : (now : ℤ) (v : ℕ) (lists : List OpenList) (all : Lists) (found : Option OpenList) → find (has_ended now) lists ≡ found → are_different (v ∷ versions lists) ≡ true
+left_by : (now : ℤ) (v : ℕ) (lists : List OpenList) (all : VersionLists) (found : Option OpenList) → find (has_ended now) lists ≡ found → are_different (v ∷ versions lists) ≡ true
     → (n : ℕ) → has (v ∷ versions (without_ended now lists)) n ≡ true → without_version (ended_of found) all n ≡ all n
 left_by now v lists all None is apart n there = refl
 left_by now v lists all (Some y) is apart n there =
@@ -243,11 +243,11 @@ left_by now v lists all (Some y) is apart n there =
           false_from_ne_true (eqb n y.version) (λ same. clash (has rest n) among (ap (has rest) (eqb-true n y.version same) ∙ (apart_rest now lists y is parts.1).1))
     ])
 
-pub left_same : (now : ℤ) (v : ℕ) (table : Table) (all : Lists) → are_different (v ∷ versions_in table) ≡ true
+pub left_same : (now : ℤ) (v : ℕ) (table : Table) (all : VersionLists) → are_different (v ∷ versions_in table) ≡ true
     → (n : ℕ) → has (v ∷ versions (without_ended now table.lists)) n ≡ true → without_version (version_ended now table) all n ≡ all n
 left_same now v table all apart n there = left_by now v table.lists all (find (has_ended now) table.lists) refl apart n there
 
-pub in_use_dropped : (now : ℤ) (v : ℕ) (table : Table) (all : Lists) → AreInUse (v ∷ versions_in table) all
+pub in_use_dropped : (now : ℤ) (v : ℕ) (table : Table) (all : VersionLists) → AreInUse (v ∷ versions_in table) all
     → AreInUse (v ∷ versions (without_ended now table.lists)) (without_version (version_ended now table) all)
 in_use_dropped now v table all stands =
     let lists : List OpenList = table.lists in
@@ -269,7 +269,7 @@ in_use_dropped now v table all stands =
     }
 
 -- the other lists stay, and the version that is dropped is in use no more
-kept_by : (now : ℤ) (v : ℕ) (lists : List OpenList) (all : Lists) (found : Option OpenList) → find (has_ended now) lists ≡ found
+kept_by : (now : ℤ) (v : ℕ) (lists : List OpenList) (all : VersionLists) (found : Option OpenList) → find (has_ended now) lists ≡ found
     → KeepsOthers (v ∷ versions lists) all (v ∷ versions (without_ended now lists)) (without_version (ended_of found) all)
 kept_by now v lists all None is =
     subst (λ (ls : List OpenList). KeepsOthers (v ∷ versions lists) all (v ∷ versions ls) all) (sym (none_taken now lists is)) (kept_same (v ∷ versions lists) all)
@@ -292,6 +292,6 @@ kept_by now v lists all (Some y) is =
           clash (has (v ∷ left) n) is_new (or_from (eqb v n) (has left n) out.0 (rest_lacks now lists n out.1));
     }
 
-pub kept_dropped : (now : ℤ) (v : ℕ) (table : Table) (all : Lists)
+pub kept_dropped : (now : ℤ) (v : ℕ) (table : Table) (all : VersionLists)
     → KeepsOthers (v ∷ versions_in table) all (v ∷ versions (without_ended now table.lists)) (without_version (version_ended now table) all)
 kept_dropped now v table all = kept_by now v table.lists all (find (has_ended now) table.lists) refl

@@ -1,15 +1,11 @@
 pub mod ClockLemmas
-pub mod KeptLemmas
-pub mod ChangeLemmas
 pub mod StepLemmas
 pub mod SelectionLemmas
-pub mod IndexLemmas
 pub mod NumberLemmas
 pub mod EndLemmas
 pub mod OpenListLemmas
 pub mod MoveLemmas
 pub mod PartLemmas
-pub mod PurgeLemmas
 pub mod EarliestLemmas
 pub mod ListReplyLemmas
 pub mod MarkLemmas
@@ -20,3 +16,4 @@ pub mod ReplayLemmas
 pub mod PassLemmas
 pub mod RestoreLemmas
 pub mod SavedLemmas
+pub mod NewLemmas

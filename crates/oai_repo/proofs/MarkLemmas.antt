@@ -20,7 +20,7 @@ use Rattle.oai_item.specs.declared.faults.Fault.{Fault}
 use Rattle.oai_item.proofs.Around.{around_item}
 use Rattle.oai_item.proofs.OrderLemmas.{is_at-Equal, not_above-at, not_above-below}
 use Rattle.oai_item.proofs.Selecting.{in_order-selected}
-use Rattle.oai_catalogue.specs.Store.{AreInOrder, Lists, list_at}
+use Rattle.oai_catalogue.specs.Store.{AreInOrder, VersionLists, list_at}
 use Rattle.oai_lists.specs.declared.open_lists.Mark.{Mark}
 use Rattle.oai_lists.specs.declared.open_lists.OpenList.{OpenList}
 use Rattle.oai_repo.specs.Fields.{ends_at, is_marked, is_place_in, items_frozen}
@@ -175,7 +175,7 @@ after_mark asked items mark order place =
     selected_after asked mark.stamp mark.identifier items ∙ behind_place mark.stamp mark.identifier mark.cursor (selected asked items) (in_order-selected asked items order) place
 
 -- what the store gives behind the item of a list's mark
-pub part_after_mark : (result : Result (List ItemState) Fault) (Honest : Type 0) (all : Lists) (list : OpenList) (mark : Mark) (most cursor : ℕ) → list.mark ≡ Some mark → mark.cursor ≡ cursor
+pub part_after_mark : (result : Result (List ItemState) Fault) (Honest : Type 0) (all : VersionLists) (list : OpenList) (mark : Mark) (most cursor : ℕ) → list.mark ≡ Some mark → mark.cursor ≡ cursor
     → (Honest → is_marked all list ≡ true) → AreInOrder all
     → IfOk result (λ items. Honest → items ≡ take most (selected list.filter (items_after mark.stamp mark.identifier (list_at all list.version))))
     → IfOk result (λ items. Honest → items ≡ take most (drop cursor (items_frozen all list)))

@@ -12,43 +12,45 @@ use Rattle.oai_names.proofs.Lists.{all-weaker, find_none}
 use Rattle.oai_names.specs.Numbered.{is_lower}
 use Rattle.oai_item.specs.Item.{ItemState}
 use Rattle.oai_item.specs.Selection.{selected}
-use Rattle.oai_catalogue.specs.Store.{Lists, list_at, with_list}
+use Rattle.oai_catalogue.specs.Store.{VersionLists, list_at, with_list}
 use Rattle.oai_catalogue.proofs.ListsLemmas.{list_at-with}
 use Rattle.oai_lists.proofs.Changes.{change-last, changed_twice, unchanged_lists}
 use Rattle.oai_lists.specs.HeldTable.{no_list_numbered}
 use Rattle.oai_lists.specs.OpenLists.{IsListTable, Table, are_numbered_lists, changed_one, given_too, has_list_number, is_open, list_number, list_numbered, open_numbered, open_ones, open_until, with_change, with_mark, with_opened as opening, without_ended}
 use Rattle.oai_lists.specs.declared.open_lists.Mark.{Mark}
 use Rattle.oai_lists.specs.declared.open_lists.OpenList.{OpenList}
-use Rattle.oai_settings.specs.Config.{Config}
-use Rattle.oai_repo.specs.Fields.{AreInUse, IndexAgrees, IsIndexed, KeepsOthers, ItemIndex, TableAgrees, are_different, open_lists_of, frozen_in, has, is_counted, is_marked, is_place_in, items_frozen, has_writable_stamp, versions_in}
-use Rattle.oai_repo.specs.Kept.{AreKept}
+use Rattle.oai_settings.specs.Config.{RepositoryConfig}
+use Rattle.oai_holdings.specs.Index.{IndexAgrees, IsIndexed, ItemIndex, has_writable_stamp}
+use Rattle.oai_repo.specs.Fields.{AreInUse, KeepsOthers, TableAgrees, are_different, open_lists_of, frozen_in, has, is_counted, is_marked, is_place_in, items_frozen, versions_in}
+use Rattle.oai_holdings.specs.Kept.{AreKept}
 use Rattle.oai_repo.specs.Listing.{carried_on, carried_on_at, is_of_number, with_carried_on, with_new_list}
-use Rattle.oai_repo.specs.State.{FrozenList, NamedSet, OpenLists, is_open_at, still_open}
+use Rattle.oai_holdings.specs.Holdings.{NamedSet}
+use Rattle.oai_repo.specs.State.{FrozenList, OpenLists, is_open_at, still_open}
 use Rattle.oai_repo.specs.Tables.{IsKeptTable, IsLeftOpen, dropped_at, has_end, is_of_format, kept_open, version_ended, without_version}
 use Rattle.oai_repo.proofs.EndLemmas.{left_same, open_here, open_later, open_same, rest_all, versions}
 use Rattle.oai_repo.proofs.NumberLemmas.{clash, in_use_end, kept_end, kept_same, same_number, turned, unused_lacks}
 
 -- ---- what a version holds is all that counts
 
-frozen_same : (a b : Lists) (list : OpenList) → b list.version ≡ a list.version → frozen_in b list ≡ frozen_in a list
+frozen_same : (a b : VersionLists) (list : OpenList) → b list.version ≡ a list.version → frozen_in b list ≡ frozen_in a list
 frozen_same a b list same =
     let made : Option (List ItemState) → FrozenList = λ o. record { number = list.number; verb = list.verb; prefix = list.filter.prefix; items = selected list.filter (unwrap_or o []); end = list.end; given = list.given } in
     ap made same
 
 -- what is asked of a list and of the items of its selection
-abbrev pub agrees_by : (OpenList → List ItemState → Bool) → Lists → OpenList → Bool
+abbrev pub agrees_by : (OpenList → List ItemState → Bool) → VersionLists → OpenList → Bool
 agrees_by q lists list = q list (items_frozen lists list)
 
-agrees_at : (q : OpenList → List ItemState → Bool) (a b : Lists) (list : OpenList) → b list.version ≡ a list.version → agrees_by q b list ≡ agrees_by q a list
+agrees_at : (q : OpenList → List ItemState → Bool) (a b : VersionLists) (list : OpenList) → b list.version ≡ a list.version → agrees_by q b list ≡ agrees_by q a list
 agrees_at q a b list same = ap (λ (o : Option (List ItemState)). q list (selected list.filter (unwrap_or o []))) same
 
-map_frozen : (a b : Lists) (lists : List OpenList) → ((n : ℕ) → has (versions lists) n ≡ true → b n ≡ a n) → map (frozen_in b) lists ≡ map (frozen_in a) lists
+map_frozen : (a b : VersionLists) (lists : List OpenList) → ((n : ℕ) → has (versions lists) n ≡ true → b n ≡ a n) → map (frozen_in b) lists ≡ map (frozen_in a) lists
 map_frozen a b [] same = refl
 map_frozen a b (x ∷ lists) same =
     ap (λ (list : FrozenList). list ∷ map (frozen_in b) lists) (frozen_same a b x (same x.version (or_left (eqb x.version x.version) (has (versions lists) x.version) (same_number x.version))))
     ∙ ap (λ ls. frozen_in a x ∷ ls) (map_frozen a b lists (λ n there. same n (or_right (eqb x.version n) (has (versions lists) n) there)))
 
-pub all_agree : (q : OpenList → List ItemState → Bool) (a b : Lists) (lists : List OpenList) → ((n : ℕ) → has (versions lists) n ≡ true → b n ≡ a n) → list_all (agrees_by q a) lists ≡ true → list_all (agrees_by q b) lists ≡ true
+pub all_agree : (q : OpenList → List ItemState → Bool) (a b : VersionLists) (lists : List OpenList) → ((n : ℕ) → has (versions lists) n ≡ true → b n ≡ a n) → list_all (agrees_by q a) lists ≡ true → list_all (agrees_by q b) lists ≡ true
 all_agree q a b [] same h = refl
 all_agree q a b (x ∷ lists) same h =
     let parts = and_parts (agrees_by q a x) (list_all (agrees_by q a) lists) h in
@@ -64,7 +66,7 @@ abbrev pub by_mark : OpenList → List ItemState → Bool
 by_mark list items = is_place_in items list.mark
 
 -- a table agrees with other lists that hold the same under its numbers
-pub table_agrees_same : (table : Table) (a b : Lists) → ((n : ℕ) → has (versions_in table) n ≡ true → b n ≡ a n) → TableAgrees table a → TableAgrees table b
+pub table_agrees_same : (table : Table) (a b : VersionLists) → ((n : ℕ) → has (versions_in table) n ≡ true → b n ≡ a n) → TableAgrees table a → TableAgrees table b
 table_agrees_same table a b same agrees = record {
   counted = all_agree by_size a b table.lists same agrees.counted;
   marked = all_agree by_mark a b table.lists same agrees.marked;
@@ -84,7 +86,7 @@ open_there now (x ∷ lists) n there =
       | inr over ↦ or_right (eqb x.version n) (has (versions lists) n) (open_there now lists n (ap (λ ls. has (versions ls) n) (sym (open_later now x lists over)) ∙ there))
     ]
 
-pub open_lists_same : (clock : ℤ) (table : Table) (a b : Lists) → ((n : ℕ) → has (versions_in table) n ≡ true → b n ≡ a n) → open_lists_of clock table b ≡ open_lists_of clock table a
+pub open_lists_same : (clock : ℤ) (table : Table) (a b : VersionLists) → ((n : ℕ) → has (versions_in table) n ≡ true → b n ≡ a n) → open_lists_of clock table b ≡ open_lists_of clock table a
 open_lists_same clock table a b same =
     let made : List FrozenList → OpenLists = λ lists. record { lists = lists; next = table.next } in
     ap made (map_frozen a b (open_ones clock table.lists) (λ n there. same n (open_there clock table.lists n there)))
@@ -94,7 +96,7 @@ open_lists_same clock table a b same =
 open_before : (c now : ℤ) (list : OpenList) → c ≤ℤ now → is_open c list ≡ false → is_open now list ≡ false
 open_before c now list later h = let e : not (is_open now list) ≡ true = grind (arith, ints) in not-true (is_open now list) e
 
-filtered : (c now : ℤ) (all : Lists) (lists : List OpenList) → c ≤ℤ now
+filtered : (c now : ℤ) (all : VersionLists) (lists : List OpenList) → c ≤ℤ now
     → filter (is_open_at now) (map (frozen_in all) (open_ones c lists)) ≡ map (frozen_in all) (open_ones now lists)
 filtered c now all [] later = refl
 filtered c now all (x ∷ lists) later =
@@ -118,14 +120,14 @@ filtered c now all (x ∷ lists) later =
           ∙ ap (map (frozen_in all)) (sym (open_later now x lists (open_before c now x later gone)))
     ]
 
-pub still_same : (c now : ℤ) (table : Table) (all : Lists) → c ≤ℤ now → still_open now (open_lists_of c table all) ≡ open_lists_of now table all
+pub still_same : (c now : ℤ) (table : Table) (all : VersionLists) → c ≤ℤ now → still_open now (open_lists_of c table all) ≡ open_lists_of now table all
 still_same c now table all later =
     let made : List FrozenList → OpenLists = λ lists. record { lists = lists; next = table.next } in
     ap made (filtered c now all table.lists later)
 
 -- ---- the first that has ended is dropped
 
-pub open_lists_dropped : (now : ℤ) (v : ℕ) (table : Table) (all : Lists) → are_different (v ∷ versions_in table) ≡ true
+pub open_lists_dropped : (now : ℤ) (v : ℕ) (table : Table) (all : VersionLists) → are_different (v ∷ versions_in table) ≡ true
     → open_lists_of now (dropped_at now table) (without_version (version_ended now table) all) ≡ open_lists_of now table all
 open_lists_dropped now v table all apart =
     let made : List FrozenList → OpenLists = λ lists. record { lists = lists; next = table.next } in
@@ -134,7 +136,7 @@ open_lists_dropped now v table all apart =
     (λ n there. left_same now v table all apart n (or_right (eqb v n) (has (versions left) n) (open_there now left n there)))
     ∙ ap (map (frozen_in all)) (open_same now table.lists))
 
-all_dropped : (q : OpenList → List ItemState → Bool) (now : ℤ) (v : ℕ) (table : Table) (all : Lists) → are_different (v ∷ versions_in table) ≡ true → list_all (agrees_by q all) table.lists ≡ true
+all_dropped : (q : OpenList → List ItemState → Bool) (now : ℤ) (v : ℕ) (table : Table) (all : VersionLists) → are_different (v ∷ versions_in table) ≡ true → list_all (agrees_by q all) table.lists ≡ true
     → list_all (agrees_by q (without_version (version_ended now table) all)) (without_ended now table.lists) ≡ true
 all_dropped q now v table all apart h =
     let left : List OpenList = without_ended now table.lists in
@@ -142,14 +144,14 @@ all_dropped q now v table all apart h =
     (λ n there. left_same now v table all apart n (or_right (eqb v n) (has (versions left) n) there))
     (rest_all (agrees_by q all) now table.lists h)
 
-pub table_agrees_dropped : (now : ℤ) (v : ℕ) (table : Table) (all : Lists) → are_different (v ∷ versions_in table) ≡ true → TableAgrees table all
+pub table_agrees_dropped : (now : ℤ) (v : ℕ) (table : Table) (all : VersionLists) → are_different (v ∷ versions_in table) ≡ true → TableAgrees table all
     → TableAgrees (dropped_at now table) (without_version (version_ended now table) all)
 table_agrees_dropped now v table all apart agrees = record {
   counted = all_dropped by_size now v table all apart agrees.counted;
   marked = all_dropped by_mark now v table all apart agrees.marked;
 }
 
-pub table_dropped : (config : Config) (now : ℤ) (table : Table) → IsKeptTable config table → IsKeptTable config (dropped_at now table)
+pub table_dropped : (config : RepositoryConfig) (now : ℤ) (table : Table) → IsKeptTable config table → IsKeptTable config (dropped_at now table)
 table_dropped config now table kept = record {
   limit = kept.limit;
   ends = rest_all has_end now table.lists kept.ends;
@@ -157,19 +159,19 @@ table_dropped config now table kept = record {
 }
 
 -- the items stand as they did
-pub items_dropped : (now : ℤ) (v : ℕ) (table : Table) (all : Lists) → are_different (v ∷ versions_in table) ≡ true → without_version (version_ended now table) all v ≡ all v
+pub items_dropped : (now : ℤ) (v : ℕ) (table : Table) (all : VersionLists) → are_different (v ∷ versions_in table) ≡ true → without_version (version_ended now table) all v ≡ all v
 items_dropped now v table all apart = left_same now v table all apart v (or_left (eqb v v) (has (versions (without_ended now table.lists)) v) (same_number v))
 
 -- ---- the items of a repository, where its version has not changed
 
-pub indexed_at : (config : Config) (index : ItemIndex) (sets : List NamedSet) (a b : Lists) → list_at b index.version ≡ list_at a index.version → IsIndexed config index sets a → IsIndexed config index sets b
+pub indexed_at : (config : RepositoryConfig) (index : ItemIndex) (sets : List NamedSet) (a b : VersionLists) → list_at b index.version ≡ list_at a index.version → IsIndexed config index sets a → IsIndexed config index sets b
 indexed_at config index sets a b items held = record {
   agrees = subst (λ (xs : List ItemState). IndexAgrees index.entries xs) (sym items) held.agrees;
   kept = subst (λ (xs : List ItemState). AreKept config (record { items = xs; sets = sets })) (sym items) held.kept;
   dated = ap (list_all has_writable_stamp) items ∙ held.dated;
 }
 
-pub indexed_same : (config : Config) (index : ItemIndex) (sets : List NamedSet) (a b : Lists) → b index.version ≡ a index.version → IsIndexed config index sets a → IsIndexed config index sets b
+pub indexed_same : (config : RepositoryConfig) (index : ItemIndex) (sets : List NamedSet) (a b : VersionLists) → b index.version ≡ a index.version → IsIndexed config index sets a → IsIndexed config index sets b
 indexed_same config index sets a b same held = indexed_at config index sets a b (ap (λ (o : Option (List ItemState)). unwrap_or o []) same) held
 
 -- ---- the list that a token continues
@@ -218,7 +220,7 @@ numbered_there number now (y ∷ lists) x found =
     ]
 
 -- the same list, as the state has it
-pub found_frozen : (number : ℕ) (now : ℤ) (all : Lists) (lists : List OpenList)
+pub found_frozen : (number : ℕ) (now : ℤ) (all : VersionLists) (lists : List OpenList)
     → find (is_of_number number) (map (frozen_in all) (open_ones now lists)) ≡ option_map (frozen_in all) (open_numbered number now lists)
 unfolding open_numbered
 found_frozen number now all [] = refl
@@ -248,7 +250,7 @@ kept_stays : (now end : ℤ) (next : Option ℕ) (mark : Option Mark) (number : 
 kept_stays now end next mark number x later lasts =
     cond_both (has_list_number number x) (kept_open end next mark x) x (λ (list : OpenList). is_open now list ≡ true) (λ _. later) (λ _. lasts)
 
-kept_frozen : (config : Config) (now end : ℤ) (next : Option ℕ) (mark : Option Mark) (number : ℕ) (all : Lists) (x : OpenList) → end ≡ now +ℤ pos config.lifetime
+kept_frozen : (config : RepositoryConfig) (now end : ℤ) (next : Option ℕ) (mark : Option Mark) (number : ℕ) (all : VersionLists) (x : OpenList) → end ≡ now +ℤ pos config.lifetime
     → frozen_in all (changed_one number (kept_open end next mark) x) ≡ carried_on_at config now number next (frozen_in all x)
 kept_frozen config now end next mark number all x is =
     elim (cases_Bool (has_list_number number x)) [
@@ -273,7 +275,7 @@ kept_over now end next mark number x alone over =
       | inr other ↦ ap (is_open now) (cond-false (has_list_number number x) (kept_open end next mark x) x other) ∙ over
     ]
 
-kept_lists : (config : Config) (now end : ℤ) (next : Option ℕ) (mark : Option Mark) (number : ℕ) (all : Lists) (lists : List OpenList) → end ≡ now +ℤ pos config.lifetime → int_lt now end ≡ true
+kept_lists : (config : RepositoryConfig) (now end : ℤ) (next : Option ℕ) (mark : Option Mark) (number : ℕ) (all : VersionLists) (lists : List OpenList) → end ≡ now +ℤ pos config.lifetime → int_lt now end ≡ true
     → list_all (is_open_as now number) lists ≡ true
     → map (frozen_in all) (open_ones now (with_change number (kept_open end next mark) lists)) ≡ map (carried_on_at config now number next) (map (frozen_in all) (open_ones now lists))
 kept_lists config now end next mark number all [] is later alone = refl
@@ -370,14 +372,14 @@ one_changed now number q change (y ∷ lists) x rising found changed h =
           )
     ]
 
-pub open_lists_kept : (config : Config) (now end : ℤ) (next : Option ℕ) (mark : Option Mark) (number : ℕ) (table : Table) (all : Lists) (x : OpenList) → end ≡ now +ℤ pos config.lifetime → int_lt now end ≡ true → IsListTable table → open_numbered number now table.lists ≡ Some x
+pub open_lists_kept : (config : RepositoryConfig) (now end : ℤ) (next : Option ℕ) (mark : Option Mark) (number : ℕ) (table : Table) (all : VersionLists) (x : OpenList) → end ≡ now +ℤ pos config.lifetime → int_lt now end ≡ true → IsListTable table → open_numbered number now table.lists ≡ Some x
     → open_lists_of now (kept_table end next mark number table) all ≡ with_carried_on config now number next (open_lists_of now table all)
 open_lists_kept config now end next mark number table all x is later numbers found =
     let made : List FrozenList → OpenLists = λ lists. record { lists = lists; next = table.next } in
     ap made (kept_lists config now end next mark number all table.lists is later (one_changed now number (λ _. true) (kept_open end next mark) table.lists x numbers.numbered found refl (all_true table.lists)).1)
 
 -- the list of the number has a place among its items for a mark
-pub table_agrees_kept : (now end : ℤ) (next : Option ℕ) (mark : Option Mark) (number : ℕ) (table : Table) (all : Lists) (x : OpenList) → IsListTable table → open_numbered number now table.lists ≡ Some x
+pub table_agrees_kept : (now end : ℤ) (next : Option ℕ) (mark : Option Mark) (number : ℕ) (table : Table) (all : VersionLists) (x : OpenList) → IsListTable table → open_numbered number now table.lists ≡ Some x
     → is_place_in (items_frozen all x) mark ≡ true → TableAgrees table all → TableAgrees (kept_table end next mark number table) all
 table_agrees_kept now end next mark number table all x numbers found place agrees =
     let change : OpenList → OpenList = kept_open end next mark in
@@ -386,7 +388,7 @@ table_agrees_kept now end next mark number table all x numbers found place agree
       marked = (one_changed now number (is_marked all) change table.lists x numbers.numbered found place agrees.marked).0;
     }
 
-pub table_kept : (config : Config) (end : ℤ) (next : Option ℕ) (mark : Option Mark) (number : ℕ) (table : Table) → int_le end (pos 253_402_300_799) ≡ true → IsKeptTable config table → IsKeptTable config (kept_table end next mark number table)
+pub table_kept : (config : RepositoryConfig) (end : ℤ) (next : Option ℕ) (mark : Option Mark) (number : ℕ) (table : Table) → int_le end (pos 253_402_300_799) ≡ true → IsKeptTable config table → IsKeptTable config (kept_table end next mark number table)
 table_kept config end next mark number table fits kept = record {
   limit = kept.limit;
   ends = changed_all has_end number (kept_open end next mark) table.lists (λ x h. fits) kept.ends;
@@ -394,10 +396,10 @@ table_kept config end next mark number table fits kept = record {
 }
 
 -- a table with the same numbers as another
-pub in_use_same : (v : ℕ) (a b : List ℕ) (all : Lists) → b ≡ a → AreInUse (v ∷ a) all → AreInUse (v ∷ b) all
+pub in_use_same : (v : ℕ) (a b : List ℕ) (all : VersionLists) → b ≡ a → AreInUse (v ∷ a) all → AreInUse (v ∷ b) all
 in_use_same v a b all same stands = subst (λ (ns : List ℕ). AreInUse (v ∷ ns) all) (sym same) stands
 
-pub left_kept : (config : Config) (now end : ℤ) (next : Option ℕ) (mark : Option Mark) (number v : ℕ) (table : Table) (all : Lists) → int_le end (pos 253_402_300_799) ≡ true → IsKeptTable config table → AreInUse (v ∷ versions_in table) all
+pub left_kept : (config : RepositoryConfig) (now end : ℤ) (next : Option ℕ) (mark : Option Mark) (number v : ℕ) (table : Table) (all : VersionLists) → int_le end (pos 253_402_300_799) ≡ true → IsKeptTable config table → AreInUse (v ∷ versions_in table) all
     → IsSome (open_numbered number now table.lists) → IsLeftOpen config now v table all (kept_table end next mark number table) all
 left_kept config now end next mark number v table all fits kept stands opened =
     let same : versions_in (kept_table end next mark number table) ≡ versions_in table = kept_versions end next mark number table.lists in
@@ -410,7 +412,7 @@ left_kept config now end next mark number v table all fits kept stands opened =
     }
 
 -- what is left where nothing is opened
-pub left_same_table : (config : Config) (now : ℤ) (v : ℕ) (table : Table) (all : Lists) → IsKeptTable config table → AreInUse (v ∷ versions_in table) all → IsLeftOpen config now v table all table all
+pub left_same_table : (config : RepositoryConfig) (now : ℤ) (v : ℕ) (table : Table) (all : VersionLists) → IsKeptTable config table → AreInUse (v ∷ versions_in table) all → IsLeftOpen config now v table all table all
 left_same_table config now v table all kept stands = record { asked = inl refl; kept = kept; stands = stands; others = kept_same (v ∷ versions_in table) all; items = refl }
 
 -- ---- a list that begins
@@ -421,17 +423,17 @@ open_end now lists x lasts = filter-append (is_open now) lists (x ∷ []) ∙ ap
 versions_end : (lists : List OpenList) (x : OpenList) → versions (lists ++ x ∷ []) ≡ versions lists ++ x.version ∷ []
 versions_end lists x = map-append (λ (list : OpenList). list.version) lists (x ∷ [])
 
-other_lists : (v : ℕ) (table : Table) (w : ℕ) (items : List ItemState) (all : Lists) → AreInUse (v ∷ versions_in table) all → all w ≡ None → (n : ℕ) → has (versions_in table) n ≡ true → with_list w items all n ≡ all n
+other_lists : (v : ℕ) (table : Table) (w : ℕ) (items : List ItemState) (all : VersionLists) → AreInUse (v ∷ versions_in table) all → all w ≡ None → (n : ℕ) → has (versions_in table) n ≡ true → with_list w items all n ≡ all n
 other_lists v table w items all stands free n there =
     cond-false (eqb n w) (Some items) (all n)
     (false_from_ne_true (eqb n w)
     (λ same. clash (has (v ∷ versions_in table) w) (or_right (eqb v w) (has (versions_in table) w) (subst (λ (m : ℕ). has (versions_in table) m ≡ true) (eqb-true n w same) there))
     (unused_lacks (v ∷ versions_in table) all w stands.used free)))
 
-pub open_lists_opened : (now : ℤ) (v : ℕ) (table : Table) (all : Lists) (list : OpenList) (items : List ItemState) → AreInUse (v ∷ versions_in table) all → all list.version ≡ None → is_open now list ≡ true
+pub open_lists_opened : (now : ℤ) (v : ℕ) (table : Table) (all : VersionLists) (list : OpenList) (items : List ItemState) → AreInUse (v ∷ versions_in table) all → all list.version ≡ None → is_open now list ≡ true
     → open_lists_of now (opening table list) (with_list list.version items all) ≡ with_new_list (record { number = list.number; verb = list.verb; prefix = list.filter.prefix; items = selected list.filter items; end = list.end; given = list.given }) (open_lists_of now table all)
 open_lists_opened now v table all list items stands free lasts =
-    let after : Lists = with_list list.version items all in
+    let after : VersionLists = with_list list.version items all in
     let made : List FrozenList → OpenLists = λ lists. record { lists = lists; next = table.next + 1 } in
     let frozen : List ItemState → FrozenList = λ xs. record { number = list.number; verb = list.verb; prefix = list.filter.prefix; items = selected list.filter xs; end = list.end; given = list.given } in
     ap made (ap (map (frozen_in after)) (open_end now table.lists list lasts)
@@ -464,26 +466,26 @@ all_end : (p : OpenList → Bool) (lists : List OpenList) (x : OpenList) → lis
 all_end p [] x h there = and_from (p x) true there refl
 all_end p (y ∷ lists) x h there = let parts = and_parts (p y) (list_all p lists) h in and_from (p y) (list_all p (lists ++ x ∷ [])) parts.0 (all_end p lists x parts.1 there)
 
-opened_agrees : (q : OpenList → List ItemState → Bool) (v : ℕ) (table : Table) (all : Lists) (list : OpenList) (items : List ItemState) → AreInUse (v ∷ versions_in table) all → all list.version ≡ None
+opened_agrees : (q : OpenList → List ItemState → Bool) (v : ℕ) (table : Table) (all : VersionLists) (list : OpenList) (items : List ItemState) → AreInUse (v ∷ versions_in table) all → all list.version ≡ None
     → list_all (agrees_by q all) table.lists ≡ true → q list (selected list.filter items) ≡ true → list_all (agrees_by q (with_list list.version items all)) (table.lists ++ list ∷ []) ≡ true
 opened_agrees q v table all list items stands free h own =
-    let after : Lists = with_list list.version items all in
+    let after : VersionLists = with_list list.version items all in
     all_end (agrees_by q after) table.lists list
     (all_agree q all after table.lists (λ n there. other_lists v table list.version items all stands free n there) h)
     (ap (λ (xs : List ItemState). q list (selected list.filter xs)) (list_at-with list.version items all) ∙ own)
 
-pub table_agrees_opened : (v : ℕ) (table : Table) (all : Lists) (list : OpenList) (items : List ItemState) → AreInUse (v ∷ versions_in table) all → all list.version ≡ None
+pub table_agrees_opened : (v : ℕ) (table : Table) (all : VersionLists) (list : OpenList) (items : List ItemState) → AreInUse (v ∷ versions_in table) all → all list.version ≡ None
     → list.size ≡ length (selected list.filter items) → is_place_in (selected list.filter items) list.mark ≡ true → TableAgrees table all → TableAgrees (opening table list) (with_list list.version items all)
 table_agrees_opened v table all list items stands free size place agrees = record {
   counted = opened_agrees by_size v table all list items stands free agrees.counted (eq-eqb list.size (length (selected list.filter items)) size);
   marked = opened_agrees by_mark v table all list items stands free agrees.marked place;
 }
 
-pub left_opened : (config : Config) (now : ℤ) (v : ℕ) (table : Table) (all : Lists) (list : OpenList) (items : List ItemState) → IsKeptTable config table → AreInUse (v ∷ versions_in table) all → all list.version ≡ None
+pub left_opened : (config : RepositoryConfig) (now : ℤ) (v : ℕ) (table : Table) (all : VersionLists) (list : OpenList) (items : List ItemState) → IsKeptTable config table → AreInUse (v ∷ versions_in table) all → all list.version ≡ None
     → int_le list.end (pos 253_402_300_799) ≡ true → is_of_format config list ≡ true → list.number ≡ table.next → length (open_ones now table.lists) < table.limit
     → IsLeftOpen config now v table all (opening table list) (with_list list.version items all)
 left_opened config now v table all list items kept stands free fits known numbered few =
-    let after : Lists = with_list list.version items all in
+    let after : VersionLists = with_list list.version items all in
     let same : versions_in (opening table list) ≡ versions_in table ++ list.version ∷ [] = versions_end table.lists list in
     record {
       asked = inr (inr (list, numbered, few, refl));

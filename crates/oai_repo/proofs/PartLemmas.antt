@@ -2,19 +2,19 @@
 use Rattle.std.proofs.Common.{◌≡◌, ◌∙◌, ℕ, ℤ, ◌+◌, List, length, ap}
 use Rattle.oai_item.specs.Item.{ItemState}
 use Rattle.oai_answers.specs.Answers.{Page}
-use Rattle.oai_settings.specs.Config.{Config}
+use Rattle.oai_settings.specs.Config.{RepositoryConfig}
 use Rattle.oai_repo.specs.Listing.{continued_at, items_from, part_from}
 use Rattle.oai_repo.specs.State.{FrozenList}
 
 -- the part with these items, of the list of that number, end and size
-abbrev pub part_with : Config → ℕ → ℤ → ℕ → ℕ → List ItemState → Page
+abbrev pub part_with : RepositoryConfig → ℕ → ℤ → ℕ → ℕ → List ItemState → Page
 part_with config number end size cursor items = record {
   items = items;
   granularity = config.granularity;
   continuation = continued_at number end (record { size = size; cursor = cursor }) (cursor + length items);
 }
 
-pub part_is : (config : Config) (list : FrozenList) (items : List ItemState) (number size cursor : ℕ) (end : ℤ)
+pub part_is : (config : RepositoryConfig) (list : FrozenList) (items : List ItemState) (number size cursor : ℕ) (end : ℤ)
     → number ≡ list.number → size ≡ length list.items → end ≡ list.end → items ≡ items_from config list cursor
     → part_with config number end size cursor items ≡ part_from config list cursor
 unfolding part_from

@@ -13,7 +13,7 @@ use Rattle.oai_args.specs.Arguments.{arguments_in, given}
 use Rattle.oai_args.specs.Pairs.{decoded_pairs, values_of}
 use Rattle.oai_args.specs.Requests.{asked_verb, request_in, request_of}
 use Rattle.oai_args.specs.declared.requests.Ask.TheVariants as ask
-use Rattle.oai_settings.specs.Config.{Config}
+use Rattle.oai_settings.specs.Config.{RepositoryConfig}
 use Rattle.oai_repo.specs.Calls.{changes_lists}
 use Rattle.oai_repo.specs.Machine.{act, act_at, requesting}
 use Rattle.oai_repo.specs.Listing.{Response, complete_answer, cursor_behind, new_list, next_cursor, opens_list, selection_response, wait_at, with_answer}
@@ -21,7 +21,7 @@ use Rattle.oai_repo.specs.State.{FrozenList, OpenLists, RepoState, moved}
 use Rattle.oai_repo.proofs.ListReplyLemmas.{selection_opens}
 
 -- no more than a part has
-pub selection_few : (config : Config) (clock : ℤ) (open_lists : OpenLists) (verb : ListVerb) (format : Format) (items : List ItemState) → length items ≤ config.chunk
+pub selection_few : (config : RepositoryConfig) (clock : ℤ) (open_lists : OpenLists) (verb : ListVerb) (format : Format) (items : List ItemState) → length items ≤ config.chunk
     → (selection_response config clock open_lists verb format items).1 ≡ open_lists
 unfolding selection_response
 selection_few config clock open_lists verb format items h =
@@ -30,7 +30,7 @@ selection_few config clock open_lists verb format items h =
     (le-leb (length items) config.chunk h))
 
 -- more, and a list begins or the client is to wait
-pub selection_many : (config : Config) (clock : ℤ) (open_lists : OpenLists) (verb : ListVerb) (format : Format) (items : List ItemState) (wait : Option ℤ) → config.chunk < length items → wait_at config clock open_lists ≡ wait
+pub selection_many : (config : RepositoryConfig) (clock : ℤ) (open_lists : OpenLists) (verb : ListVerb) (format : Format) (items : List ItemState) (wait : Option ℤ) → config.chunk < length items → wait_at config clock open_lists ≡ wait
     → (selection_response config clock open_lists verb format items).1 ≡ (opens_list config open_lists format (new_list config clock open_lists verb format.prefix items) wait).1
 selection_many config clock open_lists verb format items wait many is =
     ap (λ (r : Response × OpenLists). r.1)
@@ -38,7 +38,7 @@ selection_many config clock open_lists verb format items wait many is =
     ∙ ap (opens_list config open_lists format (new_list config clock open_lists verb format.prefix items)) is)
 
 -- the cursor of the token, by the size of the list alone
-pub next_by_size : (config : Config) (list : FrozenList) (size cursor : ℕ) → size ≡ length list.items → cursor_behind size (cursor + min config.chunk (size - cursor)) ≡ next_cursor config list cursor
+pub next_by_size : (config : RepositoryConfig) (list : FrozenList) (size cursor : ℕ) → size ≡ length list.items → cursor_behind size (cursor + min config.chunk (size - cursor)) ≡ next_cursor config list cursor
 next_by_size config list size cursor is =
     ap (λ (n : ℕ). cursor_behind n (cursor + min config.chunk (n - cursor))) is
     ∙ ap (λ (n : ℕ). cursor_behind (length list.items) (cursor + n))
@@ -46,7 +46,7 @@ next_by_size config list size cursor is =
 
 -- ---- requests that only move the clock
 
-pub ticks : (config : Config) (state : RepoState) (moment : ℤ) (request : AskOrError) → changes_lists request ≡ false → (act_at config state moment (requesting request)).1 ≡ moved moment state
+pub ticks : (config : RepositoryConfig) (state : RepoState) (moment : ℤ) (request : AskOrError) → changes_lists request ≡ false → (act_at config state moment (requesting request)).1 ≡ moved moment state
 unfolding act
 ticks config state moment bad_verb is = refl
 ticks config state moment bad_argument is = refl

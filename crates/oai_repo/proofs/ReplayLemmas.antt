@@ -13,22 +13,24 @@ use Rattle.oai_answers.specs.declared.errors.ErrorCode.TheVariants.{CannotDissem
 use Rattle.oai_answers.specs.declared.tokens.Extent.{Extent}
 use Rattle.oai_args.specs.Verbs.{is_of_records}
 use Rattle.oai_lists.specs.Tokens.{token_text}
-use Rattle.oai_settings.specs.Config.{Config}
+use Rattle.oai_settings.specs.Config.{RepositoryConfig}
 use Rattle.oai_repo.specs.Answers.{disseminated, formats_answer, item_formats_answer, record_answer, sets_answer}
 use Rattle.oai_repo.specs.Listing.{Response, answer_by_verb, complete_answer, continued_at, part_answer, part_from, with_answer}
-use Rattle.oai_catalogue.specs.Store.{Lists}
+use Rattle.oai_catalogue.specs.Store.{VersionLists}
 use Rattle.oai_catalogue.specs.declared.versions.Versions.{Ghosts}
 use Rattle.oai_lists.specs.OpenLists.{Table}
-use Rattle.oai_repo.specs.Fields.{RepoFields, holdings_of, state_of}
+use Rattle.oai_holdings.specs.Index.{holdings_of}
+use Rattle.oai_repo.specs.Fields.{RepoFields, state_of}
 use Rattle.oai_repo.specs.Replays.{AreAsBefore, IsReplayed, at_clock, is_part, is_request, is_resumable}
-use Rattle.oai_repo.specs.State.{FrozenList, NamedSet, OpenLists, RepoState, moved}
+use Rattle.oai_holdings.specs.Holdings.{NamedSet}
+use Rattle.oai_repo.specs.State.{FrozenList, OpenLists, RepoState, moved}
 use Rattle.oai_repo.specs.State as states
 use Rattle.oai_repo.specs.declared.responses.Replay.{Replay}
 use Rattle.oai_repo.specs.declared.responses.Replay.TheVariants.{Nothing, Tick, Request}
 use Rattle.oai_repo.proofs.OpenListLemmas.{still_same}
 
 abbrev at_the : RepoState → ℤ → RepoState
-at_the state clock = states.at_clock clock state
+at_the state clock = states.state_at_clock clock state
 
 -- ---- responses that are none
 
@@ -36,31 +38,31 @@ pub part_sets : (sets : List NamedSet) → is_part (with_answer (sets_answer set
 part_sets [] = refl
 part_sets (set ∷ sets) = refl
 
-part_found : (config : Config) (item : ItemState) (format : Format) (has : Bool) → has_record format.prefix item.formats ≡ has → is_part (with_answer (disseminated config item (Some format))) ≡ false
+part_found : (config : RepositoryConfig) (item : ItemState) (format : Format) (has : Bool) → has_record format.prefix item.formats ≡ has → is_part (with_answer (disseminated config item (Some format))) ≡ false
 part_found config item format true is = rw is refl
 part_found config item format false is = rw is refl
 
-part_disseminated : (config : Config) (item : ItemState) (format : Option Format) → is_part (with_answer (disseminated config item format)) ≡ false
+part_disseminated : (config : RepositoryConfig) (item : ItemState) (format : Option Format) → is_part (with_answer (disseminated config item format)) ≡ false
 part_disseminated config item None = refl
 part_disseminated config item (Some format) = part_found config item format (has_record format.prefix item.formats) refl
 
-pub part_record : (config : Config) (item : Option ItemState) (prefix : List ℕ) → is_part (with_answer (record_answer config item prefix)) ≡ false
+pub part_record : (config : RepositoryConfig) (item : Option ItemState) (prefix : List ℕ) → is_part (with_answer (record_answer config item prefix)) ≡ false
 part_record config None prefix = refl
 part_record config (Some item) prefix = part_disseminated config item (format_named prefix config.formats)
 
-part_live : (config : Config) (item : ItemState) (live : Bool) → item.live ≡ live → is_part (with_answer (item_formats_answer config (Some item))) ≡ false
+part_live : (config : RepositoryConfig) (item : ItemState) (live : Bool) → item.live ≡ live → is_part (with_answer (item_formats_answer config (Some item))) ≡ false
 part_live config item true is = rw is refl
 part_live config item false is = rw is refl
 
-pub part_item_formats : (config : Config) (item : Option ItemState) → is_part (with_answer (item_formats_answer config item)) ≡ false
+pub part_item_formats : (config : RepositoryConfig) (item : Option ItemState) → is_part (with_answer (item_formats_answer config item)) ≡ false
 part_item_formats config None = refl
 part_item_formats config (Some item) = part_live config item item.live refl
 
-pub part_formats : (config : Config) (items : List ItemState) (identifier : Option (List ℕ)) → is_part (with_answer (formats_answer config items identifier)) ≡ false
+pub part_formats : (config : RepositoryConfig) (items : List ItemState) (identifier : Option (List ℕ)) → is_part (with_answer (formats_answer config items identifier)) ≡ false
 part_formats config items None = refl
 part_formats config items (Some identifier) = part_item_formats config (item_named identifier items)
 
-pub part_complete : (config : Config) (verb : ListVerb) (format : Format) (items : List ItemState) → is_part (with_answer (complete_answer config verb format items)) ≡ false
+pub part_complete : (config : RepositoryConfig) (verb : ListVerb) (format : Format) (items : List ItemState) → is_part (with_answer (complete_answer config verb format items)) ≡ false
 part_complete config verb format [] = refl
 part_complete config list.Identifiers format (item ∷ items) = refl
 part_complete config list.Records format (item ∷ items) = refl
@@ -77,12 +79,12 @@ part_by_verb list.Identifiers format page of_records is = is
 part_by_verb list.Records format page of_records is = is
 part_by_verb list.Sets format page of_records is = absurd (cc)
 
-pub part_opened : (config : Config) (verb : ListVerb) (format : Format) (its : FrozenList) (cursor : ℕ) → is_of_records verb ≡ true → is_part (with_answer (answer_by_verb verb format (part_from config its cursor))) ≡ true
+pub part_opened : (config : RepositoryConfig) (verb : ListVerb) (format : Format) (its : FrozenList) (cursor : ℕ) → is_of_records verb ≡ true → is_part (with_answer (answer_by_verb verb format (part_from config its cursor))) ≡ true
 unfolding part_from
 part_opened config verb format its cursor of_records =
     part_by_verb verb format (part_from config its cursor) of_records (resumable _ _ _ _ _ refl)
 
-pub part_continued : (config : Config) (verb : ListVerb) (format : Option Format) (its : FrozenList) (cursor : ℕ) → is_some format ≡ true → is_of_records verb ≡ true
+pub part_continued : (config : RepositoryConfig) (verb : ListVerb) (format : Option Format) (its : FrozenList) (cursor : ℕ) → is_some format ≡ true → is_of_records verb ≡ true
     → is_part (with_answer (part_answer verb format (part_from config its cursor))) ≡ true
 part_continued config verb None its cursor known of_records = absurd (cc)
 part_continued config verb (Some format) its cursor known of_records = part_opened config verb format its cursor of_records
@@ -115,7 +117,7 @@ replayed g moment false Tick before after old store new left same h stands = h s
 replayed g moment false Request before after old store new left same h stands = tt
 
 -- the lists of a repository are open at its clock
-pub stands_open : (clock : ℤ) (repo : RepoFields) (lists : Lists) → clock ≡ repo.clock → at_the (state_of repo lists) clock ≡ state_of repo lists
+pub stands_open : (clock : ℤ) (repo : RepoFields) (lists : VersionLists) → clock ≡ repo.clock → at_the (state_of repo lists) clock ≡ state_of repo lists
 stands_open clock repo lists is =
     ap (at_the (state_of repo lists)) is
     ∙ ap (λ (open_ones : OpenLists). record { clock = repo.clock; holdings = holdings_of repo.index repo.sets lists; open_lists = open_ones }) (still_same repo.clock repo.clock repo.table lists (≤ℤ_refl repo.clock))

@@ -12,11 +12,12 @@ use Rattle.oai_item.specs.Order.{are_in_order, item_cmp, precedes}
 use Rattle.oai_item.proofs.Around.{in_order-append, placed-around}
 use Rattle.oai_item.proofs.OrderLemmas.{placed-nil}
 use Rattle.oai_names.proofs.Lists.{all-weaker, filter_all}
-use Rattle.oai_settings.specs.Config.{Config}
-use Rattle.oai_repo.specs.Changes.{with_new}
-use Rattle.oai_repo.specs.Kept.{AreKept}
-use Rattle.oai_repo.specs.Saved.{Part, ended, has_item, has_named_set, parts_of, with_parts}
-use Rattle.oai_repo.specs.State.{Holdings, NamedSet, OpenLists, RepoState, no_holdings}
+use Rattle.oai_settings.specs.Config.{RepositoryConfig}
+use Rattle.oai_holdings.specs.Changes.{with_new}
+use Rattle.oai_holdings.specs.Kept.{AreKept}
+use Rattle.oai_repo.specs.Saved.{SavedPartState, ended, has_item, has_named_set, parts_of, with_parts}
+use Rattle.oai_holdings.specs.Holdings.{Holdings, NamedSet, no_holdings}
+use Rattle.oai_repo.specs.State.{OpenLists, RepoState}
 
 -- the state that holds these
 abbrev holding : ℤ → OpenLists → List NamedSet → List ItemState → RepoState
@@ -24,7 +25,7 @@ holding clock open_lists sets items = record { clock = clock; holdings = record 
 
 -- ---- sets
 
-sets_restored : (clock : ℤ) (open_lists : OpenLists) (front sets : List NamedSet) (items : List ItemState) (rest : List Part)
+sets_restored : (clock : ℤ) (open_lists : OpenLists) (front sets : List NamedSet) (items : List ItemState) (rest : List SavedPartState)
     → with_parts (holding clock open_lists front items) (map has_named_set sets ++ rest) ≡ with_parts (holding clock open_lists (front ++ sets) items) rest
 sets_restored clock open_lists front [] items rest = ap (λ (all : List NamedSet). with_parts (holding clock open_lists all items) rest) (sym (append-nil front))
 sets_restored clock open_lists front (set ∷ sets) items rest =
@@ -70,11 +71,11 @@ items_restored clock open_lists sets front (item ∷ items) ordered apart =
 
 -- ---- a state
 
-pub restored : (config : Config) (state start : RepoState) (raise : ℕ) → AreKept config state.holdings → start.holdings ≡ no_holdings
+pub restored : (config : RepositoryConfig) (state start : RepoState) (raise : ℕ) → AreKept config state.holdings → start.holdings ≡ no_holdings
     → with_parts start (parts_of (ended raise state)) ≡ ended raise state
 restored config state start raise kept none =
     let ended_lists : OpenLists = (ended raise state).open_lists in
-    let rest : List Part = map has_named_set state.holdings.sets ++ map has_item state.holdings.items in
+    let rest : List SavedPartState = map has_named_set state.holdings.sets ++ map has_item state.holdings.items in
     ap (λ (held : Holdings). with_parts (record { clock = state.clock; holdings = held; open_lists = ended_lists }) rest) none
     ∙ sets_restored state.clock ended_lists [] state.holdings.sets [] (map has_item state.holdings.items)
     ∙ items_restored state.clock ended_lists state.holdings.sets [] state.holdings.items kept.ordered kept.apart

@@ -14,9 +14,9 @@ use Rattle.oai_item.specs.Known.{has_format}
 use Rattle.oai_item.specs.Membership.{is_in}
 use Rattle.oai_item.specs.Selection.{Filter, is_in_given, passes, selected}
 use Rattle.oai_repo.specs.Answers.{filter_of}
-use Rattle.oai_settings.specs.Config.{Config}
-use Rattle.oai_repo.specs.Kept.{AreKept, is_well_kept}
-use Rattle.oai_repo.specs.State.{Holdings, NamedSet}
+use Rattle.oai_settings.specs.Config.{RepositoryConfig}
+use Rattle.oai_holdings.specs.Kept.{AreKept, is_well_kept}
+use Rattle.oai_holdings.specs.Holdings.{Holdings, NamedSet}
 
 -- what fails a test that all have to pass is not selected
 none_selected : (asked : Filter) (p : ItemState → Bool) → ((item : ItemState) → p item ≡ true → passes asked item ≡ false)
@@ -28,7 +28,7 @@ none_selected asked p fails (x ∷ items) h =
     cond-false (passes asked x) (x ∷ filter (passes asked) items) (filter (passes asked) items) (fails x parts.0) ∙ none_selected asked p fails items parts.1
 
 -- an item has no record in a format that the repository lacks
-no_record : (config : Config) (prefix : List ℕ) (records : List Metadata) → format_named prefix config.formats ≡ None → list_all (has_format config.formats) records ≡ true
+no_record : (config : RepositoryConfig) (prefix : List ℕ) (records : List Metadata) → format_named prefix config.formats ≡ None → list_all (has_format config.formats) records ≡ true
     → has_record prefix records ≡ false
 unfolding record_named
 no_record config prefix [] lacks known = refl
@@ -38,14 +38,14 @@ no_record config prefix (r ∷ records) lacks known =
     (false_from_ne_true (bytes_eq r.0 prefix) (λ same. true≢false (sym parts.0 ∙ ap (λ (p : List ℕ). is_some (format_named p config.formats)) ((bytes_eq-Decides r.0 prefix).0 same) ∙ ap is_some lacks))))
     ∙ no_record config prefix records lacks parts.1
 
-well_formats : (config : Config) (sets : List NamedSet) (item : ItemState) → is_well_kept config sets item ≡ true → list_all (has_format config.formats) item.formats ≡ true
+well_formats : (config : RepositoryConfig) (sets : List NamedSet) (item : ItemState) → is_well_kept config sets item ≡ true → list_all (has_format config.formats) item.formats ≡ true
 well_formats config sets item h =
     let size = and_parts _ _ h in
     let in_sets = and_parts _ (list_all (has_set sets) item.sets) size.0 in
     let fields = and_parts _ _ in_sets.0 in
     (and_parts (has_record (codes "oai_dc") item.formats) (list_all (has_format config.formats) item.formats) fields.0).1
 
-well_sets : (config : Config) (sets : List NamedSet) (item : ItemState) → is_well_kept config sets item ≡ true → list_all (has_set sets) item.sets ≡ true
+well_sets : (config : RepositoryConfig) (sets : List NamedSet) (item : ItemState) → is_well_kept config sets item ≡ true → list_all (has_set sets) item.sets ≡ true
 well_sets config sets item h =
     let size = and_parts _ _ h in
     (and_parts _ (list_all (has_set sets) item.sets) size.0).1
@@ -54,7 +54,7 @@ first_fails : (a b c d : Bool) → a ≡ false → (a && b && c && d) ≡ false
 first_fails a b c d h = rw h refl
 
 -- a format that the repository lacks selects nothing
-pub unknown_format : (config : Config) (holdings : Holdings) (prefix : List ℕ) (from until set : Option (List ℕ)) → AreKept config holdings
+pub unknown_format : (config : RepositoryConfig) (holdings : Holdings) (prefix : List ℕ) (from until set : Option (List ℕ)) → AreKept config holdings
     → format_named prefix config.formats ≡ None → selected (filter_of prefix from until set) holdings.items ≡ []
 unknown_format config holdings prefix from until set kept lacks =
     none_selected (filter_of prefix from until set) (is_well_kept config holdings.sets)
@@ -71,7 +71,7 @@ in_none sets set (spec ∷ specs) above lacks there =
     rw apart (in_none sets set specs above lacks parts.1)
 
 -- a set that the repository lacks selects nothing
-pub unknown_set : (config : Config) (holdings : Holdings) (prefix : List ℕ) (from until : Option (List ℕ)) (set : List ℕ) → AreKept config holdings
+pub unknown_set : (config : RepositoryConfig) (holdings : Holdings) (prefix : List ℕ) (from until : Option (List ℕ)) (set : List ℕ) → AreKept config holdings
     → HasSetsAbove holdings.sets → has_set holdings.sets set ≡ false → selected (filter_of prefix from until (Some set)) holdings.items ≡ []
 unknown_set config holdings prefix from until set kept above lacks =
     none_selected (filter_of prefix from until (Some set)) (is_well_kept config holdings.sets)

@@ -9,11 +9,11 @@ use Rattle.oai_args.specs.Verbs.{is_of_records}
 use Rattle.oai_item.specs.Formats.{format_named}
 use Rattle.oai_answers.specs.Answers.{fails}
 use Rattle.oai_answers.specs.declared.errors.ErrorCode.TheVariants.{BadResumptionToken}
-use Rattle.oai_catalogue.specs.Store.{Lists}
+use Rattle.oai_catalogue.specs.Store.{VersionLists}
 use Rattle.oai_lists.specs.OpenLists.{Table, open_numbered}
 use Rattle.oai_lists.specs.declared.open_lists.OpenList.{OpenList}
 use Rattle.oai_lists.specs.declared.tokens.Token.{Token}
-use Rattle.oai_settings.specs.Config.{Config}
+use Rattle.oai_settings.specs.Config.{RepositoryConfig}
 use Rattle.oai_repo.specs.Fields.{are_counted, open_lists_of, frozen_in, is_counted}
 use Rattle.oai_repo.specs.Listing.{continued_response, is_continued, is_handed_out, is_same_verb, is_valid_cursor, list_continued, next_cursor, part_from, part_answer, prolonged, with_answer, token_response, where_continued, with_carried_on}
 use Rattle.oai_repo.specs.State.{FrozenList, OpenLists}
@@ -73,19 +73,19 @@ token_found now chunk verb lists (Some token) list cursor h =
 
 -- ---- the list of the state
 
-counted_size : (all : Lists) (list : OpenList) → is_counted all list ≡ true → list.size ≡ length (frozen_in all list).items
+counted_size : (all : VersionLists) (list : OpenList) → is_counted all list ≡ true → list.size ≡ length (frozen_in all list).items
 counted_size all list h = eqb-true list.size (length (frozen_in all list).items) h
 
 -- the test of the state is that of the table
-same_test : (chunk : ℕ) (verb : ListVerb) (token : Token) (all : Lists) (list : OpenList) → is_counted all list ≡ true
+same_test : (chunk : ℕ) (verb : ListVerb) (token : Token) (all : VersionLists) (list : OpenList) → is_counted all list ≡ true
     → is_continued chunk verb token list.verb (length (frozen_in all list).items) list.given ≡ is_continued chunk verb token list.verb list.size list.given
 same_test chunk verb token all list h = ap (λ (n : ℕ). is_continued chunk verb token list.verb n list.given) (sym (counted_size all list h))
 
-continued_as : (config : Config) (now : ℤ) (verb : ListVerb) (token : Token) (table : Table) (all : Lists)
+continued_as : (config : RepositoryConfig) (now : ℤ) (verb : ListVerb) (token : Token) (table : Table) (all : VersionLists)
     → list_continued config (open_lists_of now table all) verb token ≡ where_continued config verb token (option_map (frozen_in all) (open_numbered token.list now table.lists))
 continued_as config now verb token table all = ap (where_continued config verb token) (found_frozen token.list now all table.lists)
 
-pub goes_on : (config : Config) (now : ℤ) (verb : ListVerb) (table : Table) (all : Lists) (list : OpenList) (cursor : ℕ) (asked : Option Token) (token : Token) → asked ≡ Some token
+pub goes_on : (config : RepositoryConfig) (now : ℤ) (verb : ListVerb) (table : Table) (all : VersionLists) (list : OpenList) (cursor : ℕ) (asked : Option Token) (token : Token) → asked ≡ Some token
     → IsContinued now config.chunk verb table.lists list cursor token → are_counted table all ≡ true
     → token_response config now (open_lists_of now table all) verb asked
     ≡ (with_answer (part_answer verb (format_named list.filter.prefix config.formats) (part_from config (prolonged config now (frozen_in all list)) cursor)), with_carried_on config now list.number (next_cursor config (frozen_in all list) cursor) (open_lists_of now table all))
@@ -107,7 +107,7 @@ goes_on config now verb table all list cursor asked token is h counted =
     ∙ ap (continued_response config now open_lists verb token.cursor) found
     ∙ ap (λ (k : ℕ). continued_response config now open_lists verb k (Some frozen)) (sym h.at)
 
-stops_where : (config : Config) (verb : ListVerb) (token : Token) (all : Lists) (found : Option OpenList) → ((list : OpenList) → found ≡ Some list → is_counted all list ≡ true) → None ≡ table_where config.chunk verb token found
+stops_where : (config : RepositoryConfig) (verb : ListVerb) (token : Token) (all : VersionLists) (found : Option OpenList) → ((list : OpenList) → found ≡ Some list → is_counted all list ≡ true) → None ≡ table_where config.chunk verb token found
     → where_continued config verb token (option_map (frozen_in all) found) ≡ None
 stops_where config verb token all None counted h = refl
 stops_where config verb token all (Some x) counted h =
@@ -118,7 +118,7 @@ stops_where config verb token all (Some x) counted h =
       | inr wrong ↦ cond-false (is_continued config.chunk verb token x.verb (length (frozen_in all x).items) x.given) (Some (frozen_in all x)) None (same_test config.chunk verb token all x (counted x refl) ∙ wrong)
     ]
 
-pub stops : (config : Config) (now : ℤ) (verb : ListVerb) (table : Table) (all : Lists) (asked : Option Token) → None ≡ table_continued now config.chunk verb table.lists asked → are_counted table all ≡ true
+pub stops : (config : RepositoryConfig) (now : ℤ) (verb : ListVerb) (table : Table) (all : VersionLists) (asked : Option Token) → None ≡ table_continued now config.chunk verb table.lists asked → are_counted table all ≡ true
     → token_response config now (open_lists_of now table all) verb asked ≡ (with_answer (fails BadResumptionToken), open_lists_of now table all)
 stops config now verb table all None h counted = refl
 stops config now verb table all (Some token) h counted =

@@ -3,18 +3,18 @@ use Rattle.std.proofs.Common.{◌≡◌, ◌∙◌, ℕ, ℤ, pos, Bool, true, f
 use Rattle.std.specs.Prelude.{nat_le}
 use Rattle.std.proofs.lemmas.Bool.{leb-false}
 use Rattle.std.proofs.lemmas.List.{length-map}
-use Rattle.oai_catalogue.specs.Store.{Lists}
+use Rattle.oai_catalogue.specs.Store.{VersionLists}
 use Rattle.oai_lists.specs.OpenLists.{IsListOpening, Table, number_or_fault, open_fault, open_ones}
-use Rattle.oai_lists.specs.declared.lists.OpenFault.{OpenFault}
-use Rattle.oai_lists.specs.declared.lists.OpenFault.TheVariants.{Full, NumbersSpent, NoMemory}
+use Rattle.oai_lists.specs.declared.lists.OpenListFault.{OpenListFault}
+use Rattle.oai_lists.specs.declared.lists.OpenListFault.TheVariants.{Full, NumbersSpent, NoMemory}
 use Rattle.oai_lists.specs.declared.open_lists.OpenList.{OpenList}
 use Rattle.oai_lists.specs.declared.lists.TheConstants.{LAST_NUMBER}
-use Rattle.oai_settings.specs.Config.{Config}
+use Rattle.oai_settings.specs.Config.{RepositoryConfig}
 use Rattle.oai_repo.specs.Fields.{open_lists_of, frozen_in}
 use Rattle.oai_repo.specs.Listing.{seconds_to_end, wait_at}
 
 -- the cause, by the two tests
-fault_of : Bool → Bool → Option OpenFault
+fault_of : Bool → Bool → Option OpenListFault
 fault_of full spent = cond full (Some Full) (cond spent (Some NumbersSpent) None)
 
 waits_of : Bool → Bool → ℤ → ℤ → Option ℤ
@@ -46,7 +46,7 @@ fault_is : (table : Table) (now : ℤ) → open_fault table now ≡ fault_of (fu
 unfolding open_fault fault_of full_in
 fault_is table now = refl
 
-waits_is : (config : Config) (now : ℤ) (table : Table) (all : Lists) → table.limit ≡ config.lists
+waits_is : (config : RepositoryConfig) (now : ℤ) (table : Table) (all : VersionLists) → table.limit ≡ config.lists
     → wait_at config now (open_lists_of now table all) ≡ waits_of (full_in table now) (eqb table.next LAST_NUMBER) (seconds_to_end now (open_lists_of now table all).lists) (pos config.lifetime)
 unfolding wait_at waits_of full_in
 waits_is config now table all limit =
@@ -64,26 +64,26 @@ unfolding full_in
 room_for_one table now h =
     omega (arith, leb-false table.limit (length (open_ones now table.lists)) (not_full (full_in table now) (eqb table.next LAST_NUMBER) (sym (fault_is table now) ∙ h)))
 
-pub may_begin : (config : Config) (now : ℤ) (table : Table) (all : Lists) (number : ℕ) → table.limit ≡ config.lists → number_or_fault (open_fault table now) table.next ≡ Ok number
+pub may_begin : (config : RepositoryConfig) (now : ℤ) (table : Table) (all : VersionLists) (number : ℕ) → table.limit ≡ config.lists → number_or_fault (open_fault table now) table.next ≡ Ok number
     → (wait_at config now (open_lists_of now table all) ≡ None) × (number ≡ table.next)
 may_begin config now table all number limit h =
     let parts = begins_if (full_in table now) (eqb table.next LAST_NUMBER) table.next number (seconds_to_end now (open_lists_of now table all).lists) (pos config.lifetime) (sym (ap (λ f. number_or_fault f table.next) (fault_is table now)) ∙ h) in
     (waits_is config now table all limit ∙ parts.0, parts.1)
 
-pub waits_full : (config : Config) (now : ℤ) (table : Table) (all : Lists) → table.limit ≡ config.lists → number_or_fault (open_fault table now) table.next ≡ Err Full
+pub waits_full : (config : RepositoryConfig) (now : ℤ) (table : Table) (all : VersionLists) → table.limit ≡ config.lists → number_or_fault (open_fault table now) table.next ≡ Err Full
     → wait_at config now (open_lists_of now table all) ≡ Some (seconds_to_end now (open_lists_of now table all).lists)
 waits_full config now table all limit h =
     waits_is config now table all limit
     ∙ waits_if_full (full_in table now) (eqb table.next LAST_NUMBER) table.next (seconds_to_end now (open_lists_of now table all).lists) (pos config.lifetime) (sym (ap (λ f. number_or_fault f table.next) (fault_is table now)) ∙ h)
 
-pub waits_spent : (config : Config) (now : ℤ) (table : Table) (all : Lists) → table.limit ≡ config.lists → number_or_fault (open_fault table now) table.next ≡ Err NumbersSpent
+pub waits_spent : (config : RepositoryConfig) (now : ℤ) (table : Table) (all : VersionLists) → table.limit ≡ config.lists → number_or_fault (open_fault table now) table.next ≡ Err NumbersSpent
     → wait_at config now (open_lists_of now table all) ≡ Some (pos config.lifetime)
 waits_spent config now table all limit h =
     waits_is config now table all limit
     ∙ waits_if_spent (full_in table now) (eqb table.next LAST_NUMBER) table.next (seconds_to_end now (open_lists_of now table all).lists) (pos config.lifetime) (sym (ap (λ f. number_or_fault f table.next) (fault_is table now)) ∙ h)
 
 -- a list that was not opened has left the table as it was
-pub opening_failed : (old : Table) (now : ℤ) (list : OpenList) (fault : OpenFault) (new : Table) → IsListOpening old now list (Err fault) new → new ≡ old
+pub opening_failed : (old : Table) (now : ℤ) (list : OpenList) (fault : OpenListFault) (new : Table) → IsListOpening old now list (Err fault) new → new ≡ old
 opening_failed old now list Full new h = h.1
 opening_failed old now list NumbersSpent new h = h.1
 opening_failed old now list NoMemory new h = h.1

@@ -13,13 +13,13 @@ use Rattle.oai_args.specs.Bounds.{given_bound}
 use Rattle.oai_args.specs.Verbs.{name_of, verb_of_list}
 use Rattle.oai_args.specs.declared.requests.Ask.{Ask}
 use Rattle.oai_args.specs.declared.requests.Ask.TheVariants as ask
-use Rattle.oai_answers.specs.Answers.{Attributes, Description, Answer, fails, gives_record, lists_formats, lists_sets, offered, no_arguments, Document}
+use Rattle.oai_answers.specs.Answers.{Attributes, Description, VerbAnswer, fails, gives_record, lists_formats, lists_sets, offered, no_arguments, Document}
 use Rattle.oai_answers.specs.declared.errors.ErrorCode.TheVariants.{CannotDisseminateFormat, IdDoesNotExist, NoMetadataFormats, NoSetHierarchy}
-use Rattle.oai_settings.specs.Config.{Config}
-use Rattle.oai_repo.specs.State.{NamedSet}
+use Rattle.oai_settings.specs.Config.{RepositoryConfig}
+use Rattle.oai_holdings.specs.Holdings.{NamedSet}
 
 -- what Identify returns (section 4.2)
-abbrev pub description : Config → Description
+abbrev pub description : RepositoryConfig → Description
 description config = record {
   name = config.repository_name;
   addresses = config.addresses;
@@ -29,30 +29,30 @@ description config = record {
 }
 
 -- an item in a format of the repository, in which it has a record
-abbrev pub disseminated : Config → ItemState → Option Format → Answer
+abbrev pub disseminated : RepositoryConfig → ItemState → Option Format → VerbAnswer
 disseminated config item None = fails CannotDisseminateFormat
 disseminated config item (Some format) =
     if has_record format.prefix item.formats then gives_record (record { item = item; granularity = config.granularity; format = format })
     else fails CannotDisseminateFormat
 
 -- GetRecord (section 4.1): there is the item, the repository has the format, and the item has a record in it
-abbrev pub record_answer : Config → Option ItemState → List ℕ → Answer
+abbrev pub record_answer : RepositoryConfig → Option ItemState → List ℕ → VerbAnswer
 record_answer config None prefix = fails IdDoesNotExist
 record_answer config (Some item) prefix = disseminated config item (format_named prefix config.formats)
 
 -- ListSets (section 4.6): the sets in order of addition, if there are any
-abbrev pub sets_answer : List NamedSet → Answer
+abbrev pub sets_answer : List NamedSet → VerbAnswer
 sets_answer [] = fails NoSetHierarchy
 sets_answer (set ∷ sets) = lists_sets (set ∷ sets)
 
 -- ListMetadataFormats for an item (section 4.4), if there is one: a deleted item has no formats
-abbrev pub item_formats_answer : Config → Option ItemState → Answer
+abbrev pub item_formats_answer : RepositoryConfig → Option ItemState → VerbAnswer
 item_formats_answer config None = fails IdDoesNotExist
 item_formats_answer config (Some item) =
     if item.live then lists_formats (offered config.formats (Some item)) else fails NoMetadataFormats
 
 -- ListMetadataFormats: the formats of the repository, or those in which the item has records
-abbrev pub formats_answer : Config → List ItemState → Option (List ℕ) → Answer
+abbrev pub formats_answer : RepositoryConfig → List ItemState → Option (List ℕ) → VerbAnswer
 formats_answer config items None = lists_formats (offered config.formats None)
 formats_answer config items (Some identifier) = item_formats_answer config (item_named identifier items)
 
@@ -95,5 +95,5 @@ arguments_of_request bad_verb = no_arguments
 arguments_of_request bad_argument = no_arguments
 
 -- the document of an answer at that clock
-abbrev pub document_at : Config → ℤ → Attributes → Answer → Document
+abbrev pub document_at : RepositoryConfig → ℤ → Attributes → VerbAnswer → Document
 document_at config clock asked answer = record { date = clock; base = config.base; asked = asked; answer = answer }

@@ -1,22 +1,20 @@
 -- What the calls of a repository return and leave, in the machine's words: this repository's own.
-use Rattle.std.specs.Prelude.{◌≡◌, ◌+◌, ℕ, ℤ, Bool, true, false, List, Option, None, Result, Ok, Err}
-use Rattle.oai_item.specs.Items.{item_named}
+use Rattle.std.specs.Prelude.{◌≡◌, ℕ, ℤ, Bool, true, false, List, None, Result, Ok, Err}
 use Rattle.oai_item.specs.Refusals.{in_repository}
 use Rattle.oai_item.specs.declared.changes.Change.{Change}
-use Rattle.oai_item.specs.declared.changes.Change.TheVariants as change
 use Rattle.oai_item.specs.declared.faults.Fault.{Fault}
-use Rattle.oai_item.specs.declared.refusals.ChangeRefusal.{ChangeRefusal}
 use Rattle.oai_args.specs.Asks.{AskOrError, asks}
 use Rattle.oai_args.specs.declared.requests.Ask.TheVariants as ask
-use Rattle.oai_catalogue.specs.Store.{Lists}
+use Rattle.oai_catalogue.specs.Store.{VersionLists}
 use Rattle.oai_time.specs.Clock.{tick}
 use Rattle.oai_time.specs.Stamp.{IsWritable}
-use Rattle.oai_repo.specs.Accepted.{KeepsChange}
-use Rattle.oai_repo.specs.Changes.{deposit_refusal, missing_refusal, purge_refusal, set_refusal, stamp_at}
-use Rattle.oai_settings.specs.Config.{Config}
-use Rattle.oai_repo.specs.Fields.{RepoFields, holdings_of, state_of}
+use Rattle.oai_holdings.specs.Accepted.{KeepsChange}
+use Rattle.oai_holdings.specs.Calls.{early_refusal}
+use Rattle.oai_holdings.specs.Changes.{stamp_at}
+use Rattle.oai_holdings.specs.Index.{holdings_of}
+use Rattle.oai_repo.specs.Fields.{RepoFields, state_of}
 use Rattle.oai_repo.specs.Machine.{Output, act_at, accepted, bytes, changing, query, refused_with, step, wait}
-use Rattle.oai_repo.specs.State.{Holdings, moved}
+use Rattle.oai_repo.specs.State.{moved}
 use Rattle.oai_repo.specs.Tables.{HoldsFew, dropped_at}
 use Rattle.oai_item.specs.declared.refusals.Refusal.{Refusal}
 use Rattle.oai_item.specs.declared.refusals.Refusal.TheVariants as refusal
@@ -31,23 +29,16 @@ output_of_reply (Page page) = bytes page
 output_of_reply (Later seconds) = wait seconds
 
 -- a request was performed: it is a step
-abbrev pub IsAsked : RepoFields → Lists → ℤ → List ℕ → Reply → RepoFields → Lists → Type 0
+abbrev pub IsAsked : RepoFields → VersionLists → ℤ → List ℕ → Reply → RepoFields → VersionLists → Type 0
 IsAsked old before moment arguments reply new after =
     step old.config (state_of old before) moment (query arguments) ≡ (output_of_reply reply, state_of new after)
 
 -- the state after a request whose reply is dropped: that of a step
-abbrev pub IsLeftByStep : RepoFields → Lists → ℤ → List ℕ → RepoFields → Lists → Type 0
+abbrev pub IsLeftByStep : RepoFields → VersionLists → ℤ → List ℕ → RepoFields → VersionLists → Type 0
 IsLeftByStep old before moment arguments new after = state_of new after ≡ (step old.config (state_of old before) moment (query arguments)).1
 
--- the causes among these that are tested before anything is allocated or read
-abbrev pub early_refusal : Config → Holdings → Change → Option ChangeRefusal
-early_refusal config holdings (change.Deposit identifier sets records) = deposit_refusal config holdings.sets sets records
-early_refusal config holdings (change.Delete identifier) = missing_refusal (item_named identifier holdings.items)
-early_refusal config holdings (change.Purge before) = purge_refusal config before
-early_refusal config holdings (change.AddSet spec name) = set_refusal holdings.sets spec
-
 -- a change was made or refused: it is what the machine does; or it is a fault, if no early cause refuses the change
-abbrev pub IsChanged : RepoFields → Lists → ℤ → Change → Result ℤ Refusal → RepoFields → Lists → Type 0
+abbrev pub IsChanged : RepoFields → VersionLists → ℤ → Change → Result ℤ Refusal → RepoFields → VersionLists → Type 0
 IsChanged old before moment change (Ok stamp) new after = act_at old.config (state_of old before) moment (changing change) ≡ (accepted stamp, state_of new after)
 IsChanged old before moment change (Err (refusal.Refused cause)) new after =
     act_at old.config (state_of old before) moment (changing change) ≡ (refused_with (in_repository cause), state_of new after)
@@ -68,30 +59,10 @@ abbrev pub room_to_ask : AskOrError → ℕ
 room_to_ask (asks (ask.List verb prefix from until set)) = 1
 room_to_ask request = 0
 
--- a change, if there are that many items: a deposit and a deletion need one call of the store, and a purge at most a
--- snapshot and the removal of each item
-abbrev pub room_to_change : ℕ → Change → ℕ
-room_to_change items (change.Deposit identifier sets records) = 1
-room_to_change items (change.Delete identifier) = 1
-room_to_change items (change.Purge before) = items + 1
-room_to_change items (change.AddSet spec name) = 0
-
 -- ---- what is left, over any store
 
--- the fault of a call that may also refuse
-abbrev pub fault_in : {A : Type 0} → Result A Refusal → Result (Unit {0}) Fault
-fault_in (Ok _) = Ok tt
-fault_in (Err (refusal.Refused cause)) = Ok tt
-fault_in (Err (refusal.Fault fault)) = Err fault
-
--- a change was refused, which is no fault
-abbrev pub OnRefused : {A : Type 0} → Result A Refusal → Type 0 → Type 0
-OnRefused (Ok _) P = Unit {0}
-OnRefused (Err (refusal.Refused cause)) P = P
-OnRefused (Err (refusal.Fault fault)) P = Unit {0}
-
 -- a call that failed has left the repository and all lists unchanged; any other has moved the clock to the moment
-abbrev pub IsClockAt : {A : Type 0} → Result A Fault → ℤ → RepoFields → Lists → RepoFields → Lists → Type 0
+abbrev pub IsClockAt : {A : Type 0} → Result A Fault → ℤ → RepoFields → VersionLists → RepoFields → VersionLists → Type 0
 IsClockAt (Ok _) moment old before new after = new.clock ≡ tick old.clock moment
 IsClockAt (Err fault) moment old before new after = (new ≡ old) × (after ≡ before)
 
@@ -103,7 +74,7 @@ pub record DropsEnded (old new : RepoFields) : Type 0 where
 
 -- a change was refused: the state is the one at the moment, the index is unchanged, and the first list that has ended
 -- is gone
-pub record IsRefusedAt (moment : ℤ) (old : RepoFields) (before : Lists) (new : RepoFields) (after : Lists) : Type 0 where
+pub record IsRefusedAt (moment : ℤ) (old : RepoFields) (before : VersionLists) (new : RepoFields) (after : VersionLists) : Type 0 where
   pub state : state_of new after ≡ moved moment (state_of old before)
   pub index : new.index ≡ old.index
   pub dropped : DropsEnded old new
@@ -111,7 +82,7 @@ pub record IsRefusedAt (moment : ℤ) (old : RepoFields) (before : Lists) (new :
 -- a change was accepted with that datestamp: it is that of the clock, in the years 0000 to 9999, the index has the
 -- entries of the change, a new set is the last one, the open lists are those at the moment, and the first that has
 -- ended is gone
-pub record IsAccepted (moment stamp : ℤ) (change : Change) (old : RepoFields) (before : Lists) (new : RepoFields) (after : Lists) : Type 0 where
+pub record IsAccepted (moment stamp : ℤ) (change : Change) (old : RepoFields) (before : VersionLists) (new : RepoFields) (after : VersionLists) : Type 0 where
   pub writable : IsWritable stamp
   pub stamped : stamp ≡ stamp_at new.config new.clock
   pub kept : KeepsChange old.config.deleted stamp change old.index.entries new.index.entries old.sets new.sets

@@ -12,8 +12,8 @@ use Rattle.oai_args.specs.Requests.{request_of}
 use Rattle.oai_answers.specs.Answers.{Attributes, Document}
 use Rattle.oai_answers.specs.Documents.{document}
 use Rattle.oai_repo.specs.Answers.{arguments_of_request, document_at}
-use Rattle.oai_repo.specs.Changes.{changed, refusal_of, stamp_at}
-use Rattle.oai_settings.specs.Config.{Config}
+use Rattle.oai_holdings.specs.Changes.{changed, refusal_of, stamp_at}
+use Rattle.oai_settings.specs.Config.{RepositoryConfig}
 use Rattle.oai_repo.specs.Listing.{Response, request_response, with_answer, retry_after}
 use Rattle.oai_repo.specs.State.{RepoState, moved}
 
@@ -34,18 +34,18 @@ pub data Outcome : Type 0 where
   refused_with : Cause → Outcome
 
 -- a change with that datestamp that this cause refuses, or that none does
-abbrev pub act_on_change : Config → RepoState → ℤ → Change → Option ChangeRefusal → Outcome × RepoState
+abbrev pub act_on_change : RepositoryConfig → RepoState → ℤ → Change → Option ChangeRefusal → Outcome × RepoState
 act_on_change config state stamp change (Some cause) = (refused_with (in_repository cause), state)
 act_on_change config state stamp change None = (accepted stamp, record state { holdings = changed config stamp state.holdings change })
 
 -- the outcome of a request with those arguments, by its response, at that clock
-abbrev pub outcome_of : Config → ℤ → Attributes → Response → Outcome
+abbrev pub outcome_of : RepositoryConfig → ℤ → Attributes → Response → Outcome
 outcome_of config clock asked (with_answer answer) = documented (document_at config clock asked answer)
 outcome_of config clock asked (retry_after seconds) = later seconds
 
 -- the outcome of a command at the state's clock, and the state afterwards. A request leaves other lists open if it
 -- begins one or continues one; of changes only one that is not refused leaves another state
-unfoldable pub act : Config → RepoState → Command → Outcome × RepoState
+unfoldable pub act : RepositoryConfig → RepoState → Command → Outcome × RepoState
 act config state (requesting request) =
     let done = request_response config state request in
     (outcome_of config state.clock (arguments_of_request request) done.0, record state { open_lists = done.1 })
@@ -81,10 +81,10 @@ outcome_output granularity (refused_with cause) = bytes (refusal_line cause)
 -- ---- a step
 
 -- the outcome of a command at a moment, and the state afterwards: it has moved the clock, whatever the outcome
-abbrev pub act_at : Config → RepoState → ℤ → Command → Outcome × RepoState
+abbrev pub act_at : RepositoryConfig → RepoState → ℤ → Command → Outcome × RepoState
 act_at config state moment command = act config (moved moment state) command
 
 -- the output for an input at a moment, and the state afterwards
-abbrev pub step : Config → RepoState → ℤ → RepoInput → Output × RepoState
+abbrev pub step : RepositoryConfig → RepoState → ℤ → RepoInput → Output × RepoState
 step config state moment input =
     let done = act_at config state moment (command_of config.granularity input) in (outcome_output config.granularity done.0, done.1)

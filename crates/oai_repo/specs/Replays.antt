@@ -4,7 +4,7 @@ use Rattle.oai_answers.specs.Answers.{Continuation, completes, lists_headers, li
 use Rattle.oai_args.specs.Asks.{AskOrError}
 use Rattle.oai_catalogue.specs.declared.versions.Versions.{Ghosts}
 use Rattle.oai_lists.specs.OpenLists.{Table}
-use Rattle.oai_settings.specs.Config.{Config}
+use Rattle.oai_settings.specs.Config.{RepositoryConfig}
 use Rattle.oai_repo.specs.Listing.{Response, request_response, with_answer}
 use Rattle.oai_repo.specs.State.{RepoState, moved}
 use Rattle.oai_repo.specs.declared.responses.Replay.{Replay}
@@ -41,7 +41,7 @@ IsReplayed moment before Tick after = after ≡ moved moment before
 IsReplayed moment before Request after = Unit {0}
 
 -- of a request at the moment this has to be replayed: the request if its response is a part of a list, and otherwise what leaves the same state
-pub record IsReplay (config : Config) (before : RepoState) (moment : ℤ) (request : AskOrError) (replay : Replay) (after : RepoState) : Type 0 where
+pub record IsReplay (config : RepositoryConfig) (before : RepoState) (moment : ℤ) (request : AskOrError) (replay : Replay) (after : RepoState) : Type 0 where
   pub part : is_request replay ≡ is_part (request_response config (moved moment before) request).0
   pub replayed : IsReplayed moment before replay after
 

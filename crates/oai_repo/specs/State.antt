@@ -4,17 +4,8 @@ use Rattle.std.specs.Prelude.{ℕ, ℤ, Bool, int_lt, List, [], filter}
 use Rattle.oai_names.specs.declared.list_verbs.ListVerb.{ListVerb}
 use Rattle.oai_time.specs.Clock.{tick}
 use Rattle.oai_item.specs.Item.{ItemState}
-use Rattle.oai_settings.specs.Config.{Config}
-
--- a set: its setSpec and its setName
-abbrev pub NamedSet : Type 0
-NamedSet = List ℕ × List ℕ
-
--- what deposits change: the items, in the order of their datestamps and then of their identifiers, and the sets, in
--- order of addition
-pub record Holdings : Type 0 where
-  pub items : List ItemState
-  pub sets : List NamedSet
+use Rattle.oai_settings.specs.Config.{RepositoryConfig}
+use Rattle.oai_holdings.specs.Holdings.{Holdings, no_holdings}
 
 -- a list that was begun and that tokens continue (section 3.5): its number, the verb and the prefix of the request, a
 -- snapshot of all items that were selected, the moment from which on it is no longer open, in seconds from 1970 on, and
@@ -38,16 +29,12 @@ pub record RepoState : Type 0 where
   pub holdings : Holdings
   pub open_lists : OpenLists
 
--- no item and no set
-abbrev pub no_holdings : Holdings
-no_holdings = record { items = []; sets = [] }
-
 -- no list is open, and the first gets the number 1
 abbrev pub no_open_lists : OpenLists
 no_open_lists = record { lists = []; next = 1 }
 
 -- the initial state of a repository: the clock at the earliestDatestamp
-abbrev pub empty_state : Config → RepoState
+abbrev pub empty_state : RepositoryConfig → RepoState
 empty_state config = record { clock = config.earliest; holdings = no_holdings; open_lists = no_open_lists }
 
 -- a list is open exactly while its end is above the clock
@@ -59,9 +46,9 @@ abbrev pub still_open : ℤ → OpenLists → OpenLists
 still_open clock open_lists = record open_lists { lists = filter (is_open_at clock) open_lists.lists }
 
 -- the state at that clock, at which lists may have ended
-abbrev pub at_clock : ℤ → RepoState → RepoState
-at_clock clock state = record state { clock = clock; open_lists = still_open clock state.open_lists }
+abbrev pub state_at_clock : ℤ → RepoState → RepoState
+state_at_clock clock state = record state { clock = clock; open_lists = still_open clock state.open_lists }
 
 -- the state as a command at that moment finds it
 abbrev pub moved : ℤ → RepoState → RepoState
-moved moment state = at_clock (tick state.clock moment) state
+moved moment state = state_at_clock (tick state.clock moment) state

@@ -3,7 +3,7 @@ use Rattle.std.specs.Prelude.{◌≡◌, ◌⊎◌, ◌<◌, ◌≤◌, ℕ, ℤ
 use Rattle.oai_time.specs.declared.text.TheConstants.{LAST_SECOND}
 use Rattle.std.specs.List.{list_all}
 use Rattle.std.specs.Option.{option_map}
-use Rattle.oai_catalogue.specs.Store.{Lists, list_at, without_list}
+use Rattle.oai_catalogue.specs.Store.{VersionLists, list_at, without_list}
 use Rattle.oai_item.specs.Formats.{format_named}
 use Rattle.oai_item.specs.Item.{ItemState}
 use Rattle.oai_names.specs.declared.list_verbs.ListVerb.{ListVerb}
@@ -11,8 +11,8 @@ use Rattle.oai_lists.specs.OpenLists.{Table, has_ended, open_numbered, open_ones
 use Rattle.oai_lists.specs.declared.tokens.Token.{Token}
 use Rattle.oai_lists.specs.declared.open_lists.Mark.{Mark}
 use Rattle.oai_lists.specs.declared.open_lists.OpenList.{OpenList}
-use Rattle.oai_settings.specs.Config.{Config, is_in_years}
-use Rattle.oai_repo.specs.Entries.{Entries}
+use Rattle.oai_settings.specs.Config.{RepositoryConfig, is_in_years}
+use Rattle.oai_holdings.specs.Entries.{IndexEntries}
 use Rattle.oai_repo.specs.Fields.{AreInUse, KeepsOthers, ends_at, versions_in}
 use Rattle.oai_repo.specs.Listing.{highest_given, is_continued}
 
@@ -23,7 +23,7 @@ abbrev pub version_ended : ℤ → Table → Option ℕ
 version_ended now table = option_map (λ (list : OpenList). list.version) (find (has_ended now) table.lists)
 
 -- the lists without that one, if there is one
-abbrev pub without_version : Option ℕ → Lists → Lists
+abbrev pub without_version : Option ℕ → VersionLists → VersionLists
 without_version None lists = lists
 without_version (Some v) lists = without_list v lists
 
@@ -34,18 +34,18 @@ abbrev pub has_end : OpenList → Bool
 has_end list = int_le list.end LAST_SECOND
 
 -- the list is of a format of the repository
-abbrev pub is_of_format : Config → OpenList → Bool
+abbrev pub is_of_format : RepositoryConfig → OpenList → Bool
 is_of_format config list = is_some (format_named list.filter.prefix config.formats)
 
 -- at most as many lists may be open as the configuration says, each end can be written, and each list is of a format of
 -- the repository
-pub record IsKeptTable (config : Config) (table : Table) : Type 0 where
+pub record IsKeptTable (config : RepositoryConfig) (table : Table) : Type 0 where
   pub limit : table.limit ≡ config.lists
   pub ends : list_all has_end table.lists ≡ true
   pub known : list_all (is_of_format config) table.lists ≡ true
 
 -- the clock is in its years, there are no more entries than items may be, and the table satisfies its invariant
-pub record IsRepo (config : Config) (clock : ℤ) (entries : Entries) (table : Table) : Type 0 where
+pub record IsRepo (config : RepositoryConfig) (clock : ℤ) (entries : IndexEntries) (table : Table) : Type 0 where
   pub dated : is_in_years clock ≡ true
   pub few : length entries ≤ config.items
   pub open_lists : IsKeptTable config table
@@ -89,7 +89,7 @@ pub record IsAskedOf (now : ℤ) (old new : Table) : Type 0 where
 
 -- the table is one that a request makes, and satisfies its invariant, the numbers are in use, nothing of others has
 -- changed, and the items are unchanged
-pub record IsLeftOpen (config : Config) (now : ℤ) (v : ℕ) (old : Table) (before : Lists) (new : Table) (after : Lists) : Type 0 where
+pub record IsLeftOpen (config : RepositoryConfig) (now : ℤ) (v : ℕ) (old : Table) (before : VersionLists) (new : Table) (after : VersionLists) : Type 0 where
   pub asked : IsAskedTable now old new
   pub kept : IsKeptTable config new
   pub stands : AreInUse (v ∷ versions_in new) after

@@ -1,8 +1,6 @@
 //! One repository: what it answers to the requests of OAI-PMH, and what deposits change in it.
 #![tactic(auto)]
 
-mod changes;
-mod item_index;
 mod laws;
 mod lists;
 mod parts;
@@ -13,7 +11,6 @@ mod requests;
 mod responses;
 mod restores;
 mod saved_parts;
-mod saves;
 mod tokens;
 mod view;
 

@@ -8,7 +8,7 @@ ghost use Rattle.oai_args.specs.Verbs.{is_of_records};
 ghost use Rattle.oai_answers.specs.Answers.{HasWritableEnd, HasWritableTimes};
 ghost use Rattle.oai_answers.specs.Borrowed.{body_answer, continuation_of, page_of};
 ghost use Rattle.oai_catalogue.specs.Calls.{OnlyReads};
-ghost use Rattle.oai_catalogue.specs.Store.{Lists as Versioned, Spares, Spends};
+ghost use Rattle.oai_catalogue.specs.Store.{Spares, Spends, VersionLists as Versioned};
 ghost use Rattle.oai_lists.specs.OpenLists.{number_or_fault, open_fault};
 ghost use Rattle.oai_settings.specs.Config.{is_in_years};
 ghost use Rattle.oai_repo.specs.Answers as spec;
@@ -16,7 +16,7 @@ ghost use Rattle.oai_repo.specs.Fields.{AreInUse, open_lists_of, versions_in};
 ghost use Rattle.oai_repo.specs.Listing as listing;
 ghost use Rattle.oai_repo.specs.Replays.{AreAsBefore};
 ghost use Rattle.oai_repo.specs.Tables.{dropped_at, has_end, version_ended, without_version};
-ghost use Rattle.oai_repo.specs.Views.{HasListBegun, IsFilter, IsOfFormat, IsReady, IsSelection, IsViewReply, Leaves, document_reply, first_items, view_list_response, view_new_list, view_open_lists, view_selected, view_selection_response, view_wait};
+ghost use Rattle.oai_repo.specs.Views.{HasListBegun, IsFilter, IsOfFormat, IsReady, IsSelectionOrError, IsViewReply, LeavesTableAndLists, document_reply, first_items, view_list_response, view_new_list, view_open_lists, view_selected, view_selection_response, view_wait};
 
 use crate::parts::mark_behind;
 use crate::responses::{Replied, Reply, make_reply, reply_with_error};
@@ -26,7 +26,7 @@ use oai_answers::{Body, ErrorCode, Extent, Listed, Resumption};
 use oai_args::BoundText;
 use oai_catalogue::{Filter, Versions};
 use oai_item::{Fault, Format, Item};
-use oai_lists::{Lists, OpenFault};
+use oai_lists::{Lists, OpenListFault};
 use oai_names::{ListVerb, Prefix, SetTree, Text};
 use oai_time::{FIRST_SECOND, LAST_SECOND, lower, upper};
 use std::alloc::{AllocError, Global};
@@ -72,7 +72,7 @@ pub(crate) fn reply_with_list<V: Versions>(
         replied lists.new (V.lists store.new)) }
     ensures same { IfOk result (λ replied. AreAsBefore V.Versions replied.replay lists.old store.old
         lists.new store.new) }
-    ensures left { Leaves V.Versions result repo.now lists.old store.old lists.new store.new }
+    ensures left { LeavesTableAndLists V.Versions result repo.now lists.old store.old lists.new store.new }
     ensures store { Spends V.room V.failures V.honest 1 result store.old store.new }
 {
     let asked = selection_of(repo, request)?;
@@ -89,7 +89,7 @@ pub(crate) fn selection_of<'a>(
     request: &ListRequest<'_>,
 ) -> Result<Result<Selection<'a>, ErrorCode>, AllocError>
     requires { is_of_records request.now.verb ≡ true }
-    ensures { IfOk result (λ asked. IsSelection repo.now request.now asked) }
+    ensures { IfOk result (λ asked. IsSelectionOrError repo.now request.now asked) }
 {
     if lacks_sets(repo.sets, request.set) {
         return Ok(Err(ErrorCode::NoSetHierarchy));
@@ -122,7 +122,7 @@ fn reply_with_selection<V: Versions>(
         replied lists.new (V.lists store.new)) }
     ensures same { IfOk result (λ replied. AreAsBefore V.Versions replied.replay lists.old store.old
         lists.new store.new) }
-    ensures left { Leaves V.Versions result repo.now lists.old store.old lists.new store.new }
+    ensures left { LeavesTableAndLists V.Versions result repo.now lists.old store.old lists.new store.new }
     ensures store { Spends V.room V.failures V.honest 1 result store.old store.new }
 {
     let first = store.part(
@@ -152,7 +152,7 @@ fn reply_by_first<V: Versions>(
         replied lists.new (V.lists store.new)) }
     ensures same { IfOk result (λ replied. AreAsBefore V.Versions replied.replay lists.old store.old
         lists.new store.new) }
-    ensures left { Leaves V.Versions result repo.now lists.old store.old lists.new store.new }
+    ensures left { LeavesTableAndLists V.Versions result repo.now lists.old store.old lists.new store.new }
     ensures store { Spends V.room V.failures V.honest 1 result store.old store.new }
 {
     if repo.config.chunk() < first.len() as u64 {
@@ -215,14 +215,14 @@ fn open_list<V: Versions>(
         replied lists.new (V.lists store.new)) }
     ensures same { IfOk result (λ replied. AreAsBefore V.Versions replied.replay lists.old store.old
         lists.new store.new) }
-    ensures left { Leaves V.Versions result repo.now lists.old store.old lists.new store.new }
+    ensures left { LeavesTableAndLists V.Versions result repo.now lists.old store.old lists.new store.new }
     ensures store { Spends V.room V.failures V.honest 1 result store.old store.new }
 {
     match lists.next(repo.clock) {
         Ok(number) => start_list(repo, lists, store, selection, first, number),
-        Err(OpenFault::Full) => Ok(Replied::later(seconds_to_end(lists, repo.clock))),
-        Err(OpenFault::NumbersSpent) => Ok(Replied::later(repo.lifetime())),
-        Err(OpenFault::NoMemory) => Err(Fault::NoMemory),
+        Err(OpenListFault::Full) => Ok(Replied::later(seconds_to_end(lists, repo.clock))),
+        Err(OpenListFault::NumbersSpent) => Ok(Replied::later(repo.lifetime())),
+        Err(OpenListFault::NoMemory) => Err(Fault::NoMemory),
     }
 }
 
@@ -247,7 +247,7 @@ fn start_list<V: Versions>(
         replied lists.new (V.lists store.new)) }
     ensures same { IfOk result (λ replied. AreAsBefore V.Versions replied.replay lists.old store.old
         lists.new store.new) }
-    ensures left { Leaves V.Versions result repo.now lists.old store.old lists.new store.new }
+    ensures left { LeavesTableAndLists V.Versions result repo.now lists.old store.old lists.new store.new }
     ensures store { Spends V.room V.failures V.honest 1 result store.old store.new }
 {
     let size = count_beyond(repo, store, &selection.filter, first)?;
@@ -282,7 +282,7 @@ pub(crate) fn start_unread<V: Versions>(
     ensures passed { OnOk result (IsTrue (V.honest store.old)
         → view_open_lists repo.now lists.new (V.lists store.new)
         ≡ (view_new_list repo.now lists.old (V.lists store.old) selection.now None).1) }
-    ensures left { Leaves V.Versions result repo.now lists.old store.old lists.new store.new }
+    ensures left { LeavesTableAndLists V.Versions result repo.now lists.old store.old lists.new store.new }
     ensures store { Spends V.room V.failures V.honest 1 result store.old store.new }
 {
     let end = repo.end();

@@ -2,15 +2,15 @@
 ghost use Rattle.std.specs.Prelude.{◌≡◌, ◌<◌, ◌+◌, ◌-◌, length, min, true, None, IsTrue, OnOk};
 ghost use Rattle.oai_args.specs.Asks.{asks};
 ghost use Rattle.oai_args.specs.Pairs.{decoded_pairs};
-ghost use Rattle.oai_args.specs.Requests.{lists_records, request_of};
+ghost use Rattle.oai_args.specs.Requests.{is_by_record_verb, request_of};
 ghost use Rattle.oai_args.specs.Verbs.{is_of_records};
-ghost use Rattle.oai_catalogue.specs.Store.{Lists as Versioned, Spends};
+ghost use Rattle.oai_catalogue.specs.Store.{Spends, VersionLists as Versioned};
 ghost use Rattle.oai_settings.specs.Config.{is_in_years};
 ghost use Rattle.oai_repo.specs.Calls.{room_to_ask};
 ghost use Rattle.oai_repo.specs.Fields.{AreInUse, TableAgrees};
 ghost use Rattle.oai_repo.specs.Listing as listing;
 ghost use Rattle.oai_repo.specs.Tables.{IsKeptTable, IsLeftOpen};
-ghost use Rattle.oai_repo.specs.Views.{IsOfFormat, IsReady, Leaves, view_ask_response, view_list_response, view_numbers, view_open_lists, view_response, view_selected, view_selection_response, view_token_response};
+ghost use Rattle.oai_repo.specs.Views.{IsOfFormat, IsReady, LeavesTableAndLists, view_ask_response, view_list_response, view_numbers, view_open_lists, view_response, view_selected, view_selection_response, view_token_response};
 
 use crate::lists::{ListRequest, Selection, selection_of, start_unread};
 use crate::tokens::{carry_on, chunk_of, continued, cursor_behind};
@@ -18,7 +18,7 @@ use crate::view::RepoView;
 use oai_args::{ArgFault, Ask, read_request};
 use oai_catalogue::Versions;
 use oai_item::Fault;
-use oai_lists::{Lists, OpenFault, OpenList};
+use oai_lists::{Lists, OpenList, OpenListFault};
 use oai_names::ListVerb;
 use std::alloc::Global;
 
@@ -35,7 +35,7 @@ pub(crate) fn pass_query<V: Versions>(
         → (let request = request_of repo.now.config.now.granularity (decoded_pairs query.now) in
         view_open_lists repo.now lists.new (V.lists store.new)
         ≡ (view_response repo.now lists.old (V.lists store.old) request).1)) }
-    ensures left { Leaves V.Versions result repo.now lists.old store.old lists.new store.new }
+    ensures left { LeavesTableAndLists V.Versions result repo.now lists.old store.old lists.new store.new }
     ensures store { Spends V.room V.failures V.honest (room_to_ask
         (request_of repo.now.config.now.granularity (decoded_pairs query.now))) result
         store.old store.new }
@@ -56,11 +56,11 @@ fn pass<V: Versions>(
     ask: &Ask,
 ) -> Result<(), Fault>
     requires ready { IsReady V.Versions repo.now lists.old store.old }
-    requires lists { lists_records ask.now ≡ true }
+    requires lists { is_by_record_verb ask.now ≡ true }
     ensures passed { OnOk result (IsTrue (V.honest store.old)
         → view_open_lists repo.now lists.new (V.lists store.new)
         ≡ (view_ask_response repo.now lists.old (V.lists store.old) ask.now).1) }
-    ensures left { Leaves V.Versions result repo.now lists.old store.old lists.new store.new }
+    ensures left { LeavesTableAndLists V.Versions result repo.now lists.old store.old lists.new store.new }
     ensures store { Spends V.room V.failures V.honest (room_to_ask (asks ask.now)) result store.old store.new }
 {
     match ask {
@@ -103,7 +103,7 @@ fn pass_list<V: Versions>(
     ensures passed { OnOk result (IsTrue (V.honest store.old)
         → view_open_lists repo.now lists.new (V.lists store.new)
         ≡ (view_list_response repo.now lists.old (V.lists store.old) request.now).1) }
-    ensures left { Leaves V.Versions result repo.now lists.old store.old lists.new store.new }
+    ensures left { LeavesTableAndLists V.Versions result repo.now lists.old store.old lists.new store.new }
     ensures store { Spends V.room V.failures V.honest 1 result store.old store.new }
 {
     let asked = selection_of(repo, request)?;
@@ -126,7 +126,7 @@ fn pass_selection<V: Versions>(
     ensures passed { OnOk result (IsTrue (V.honest store.old)
         → view_open_lists repo.now lists.new (V.lists store.new)
         ≡ (view_selection_response repo.now lists.old (V.lists store.old) selection.now).1) }
-    ensures left { Leaves V.Versions result repo.now lists.old store.old lists.new store.new }
+    ensures left { LeavesTableAndLists V.Versions result repo.now lists.old store.old lists.new store.new }
     ensures store { Spends V.room V.failures V.honest 1 result store.old store.new }
 {
     let size = store.count(repo.index.version(), &selection.filter)? as u64;
@@ -148,7 +148,7 @@ fn pass_counted<V: Versions>(
     ensures passed { OnOk result (IsTrue (V.honest store.old)
         → view_open_lists repo.now lists.new (V.lists store.new)
         ≡ (view_selection_response repo.now lists.old (V.lists store.old) selection.now).1) }
-    ensures left { Leaves V.Versions result repo.now lists.old store.old lists.new store.new }
+    ensures left { LeavesTableAndLists V.Versions result repo.now lists.old store.old lists.new store.new }
     ensures store { Spends V.room V.failures V.honest 1 result store.old store.new }
 {
     if size <= repo.config.chunk() {
@@ -156,9 +156,9 @@ fn pass_counted<V: Versions>(
     }
     match lists.next(repo.clock) {
         Ok(_) => start_unread(repo, lists, store, selection, size),
-        Err(OpenFault::Full) => Ok(()),
-        Err(OpenFault::NumbersSpent) => Ok(()),
-        Err(OpenFault::NoMemory) => Err(Fault::NoMemory),
+        Err(OpenListFault::Full) => Ok(()),
+        Err(OpenListFault::NumbersSpent) => Ok(()),
+        Err(OpenListFault::NoMemory) => Err(Fault::NoMemory),
     }
 }
 

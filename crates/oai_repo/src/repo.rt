@@ -6,25 +6,26 @@ ghost use Rattle.oai_catalogue.specs.Calls.{OnlyReads};
 ghost use Rattle.oai_catalogue.specs.Store.{Spares, Spends};
 ghost use Rattle.oai_item.specs.declared.faults.Fault.TheVariants as fault;
 ghost use Rattle.oai_settings.specs.Config.{is_in_years};
-ghost use Rattle.oai_repo.specs.Calls.{DropsEnded, IsAccepted, IsAsked, IsChanged, IsClockAt, IsLeftByStep, IsRefusedAt, OnRefused, fault_in, room_to_ask, room_to_change};
-ghost use Rattle.oai_repo.specs.Fields.{IsNew, Keeps, Owns, holdings_of, state_of, stored_items};
+ghost use Rattle.oai_holdings.specs.Calls.{OnRefused, fault_in, room_to_change};
+ghost use Rattle.oai_repo.specs.Calls.{DropsEnded, IsAccepted, IsAsked, IsChanged, IsClockAt, IsLeftByStep, IsRefusedAt, room_to_ask};
+ghost use Rattle.oai_holdings.specs.Index.{holdings_of, stored_items};
+ghost use Rattle.oai_repo.specs.Fields.{IsNew, Keeps, Owns, state_of};
 ghost use Rattle.oai_repo.specs.Replays.{IsReplay};
-ghost use Rattle.oai_repo.specs.Saved.{fault_of_store, is_restorable, items_behind, part_state, with_part};
-ghost use Rattle.oai_repo.specs.State.{at_clock, moved};
+ghost use Rattle.oai_holdings.specs.Saved.{fault_of_store, items_behind};
+ghost use Rattle.oai_repo.specs.Saved.{is_restorable, part_state, with_part};
+ghost use Rattle.oai_repo.specs.State.{moved, state_at_clock};
 ghost use Rattle.oai_repo.specs.Tables.{IsAskedOf};
 
-use crate::changes::{ChangeContext, make_change};
-use crate::item_index::ItemIndex;
 use crate::lists::drop_first_ended;
 use crate::passes::pass_query;
 use crate::requests::reply_to_query;
 use crate::responses::Replied;
-use crate::restores::{begin, restore_item, restore_set};
+use crate::restores::begin;
 use crate::saved_parts::SavedPart;
-use crate::saves::read_behind;
 use crate::view::RepoView;
-use oai_answers::Asked;
+use oai_answers::RequestAttributes;
 use oai_catalogue::Versions;
+use oai_holdings::{ChangeContext, ItemIndex, make_change, read_behind, restore_item, restore_set};
 use oai_item::{Change, Fault, Item, Refusal};
 use oai_lists::Lists;
 use oai_names::{Sequence, SetTree};
@@ -137,7 +138,7 @@ impl Repo {
             clock: now,
             index: &self.index,
             sets: &self.sets,
-            asked: Asked::nothing(),
+            asked: RequestAttributes::nothing(),
         };
         let replied = reply_to_query(&view, &mut self.lists, store, query)?;
         self.move_to(store, clock);
@@ -178,7 +179,7 @@ impl Repo {
             clock: moved,
             index: &self.index,
             sets: &self.sets,
-            asked: Asked::nothing(),
+            asked: RequestAttributes::nothing(),
         };
         pass_query(&view, &mut self.lists, store, query)?;
         self.move_to(store, clock);
@@ -332,7 +333,7 @@ impl Repo {
         requires dated { is_in_years clock ≡ true }
         requires owns { Owns (V.honest store.old) self.old (V.lists store.old) }
         ensures moved { state_of self.new (V.lists store.new)
-            ≡ at_clock clock (state_of self.old (V.lists store.old)) }
+            ≡ state_at_clock clock (state_of self.old (V.lists store.old)) }
         ensures index { self.new.index ≡ self.old.index }
         ensures dropped { DropsEnded self.old self.new }
         ensures keeps { Keeps (V.honest store.old) self.old (V.lists store.old) self.new

@@ -2,14 +2,14 @@
 ghost use Rattle.std.specs.Prelude.{◌≡◌, true, IfOk, IsTrue};
 ghost use Rattle.oai_args.specs.Asks.{asks};
 ghost use Rattle.oai_args.specs.Pairs.{decoded_pairs};
-ghost use Rattle.oai_args.specs.Requests.{lists_records, request_of};
+ghost use Rattle.oai_args.specs.Requests.{is_by_record_verb, request_of};
 ghost use Rattle.oai_answers.specs.Answers.{no_arguments};
 ghost use Rattle.oai_answers.specs.Borrowed.{attributes_of};
 ghost use Rattle.oai_catalogue.specs.Store.{Spends};
 ghost use Rattle.oai_repo.specs.Answers.{arguments_of_request};
 ghost use Rattle.oai_repo.specs.Calls.{room_to_ask};
 ghost use Rattle.oai_repo.specs.Replays.{AreAsBefore};
-ghost use Rattle.oai_repo.specs.Views.{IsReady, IsViewReply, IsViewReplyTo, Leaves, view_ask_response, view_response};
+ghost use Rattle.oai_repo.specs.Views.{IsReady, IsViewReply, IsViewReplyTo, LeavesTableAndLists, view_ask_response, view_response};
 
 use crate::lists::{ListRequest, reply_with_list};
 use crate::records::{formats_of, identity, reply_about_item, sets_answer};
@@ -38,7 +38,7 @@ pub(crate) fn reply_to_query<V: Versions>(
         replied lists.new (V.lists store.new))) }
     ensures same { IfOk result (λ replied. AreAsBefore V.Versions replied.replay lists.old store.old
         lists.new store.new) }
-    ensures left { Leaves V.Versions result repo.now lists.old store.old lists.new store.new }
+    ensures left { LeavesTableAndLists V.Versions result repo.now lists.old store.old lists.new store.new }
     ensures store { Spends V.room V.failures V.honest (room_to_ask
         (request_of repo.now.config.now.granularity (decoded_pairs query.now))) result
         store.old store.new }
@@ -66,13 +66,13 @@ fn reply_to<V: Versions>(
     ask: &Ask,
 ) -> Result<Replied, Fault>
     requires ready { IsReady V.Versions repo.now lists.old store.old }
-    requires lists { lists_records ask.now ≡ true }
+    requires lists { is_by_record_verb ask.now ≡ true }
     ensures reply { IfOk result (λ replied. IsTrue (V.honest store.old)
         → IsViewReply repo.now (view_ask_response repo.now lists.old (V.lists store.old) ask.now)
         replied lists.new (V.lists store.new)) }
     ensures same { IfOk result (λ replied. AreAsBefore V.Versions replied.replay lists.old store.old
         lists.new store.new) }
-    ensures left { Leaves V.Versions result repo.now lists.old store.old lists.new store.new }
+    ensures left { LeavesTableAndLists V.Versions result repo.now lists.old store.old lists.new store.new }
     ensures store { Spends V.room V.failures V.honest (room_to_ask (asks ask.now)) result store.old store.new }
 {
     match ask {

@@ -1,26 +1,11 @@
-//! Restores a part of a saved state: the repository begins, a set or an item is added.
-ghost use Rattle.std.specs.Prelude.{◌≡◌, ◌≤◌, ◌++◌, ◌∷◌, [], if◌then◌else◌, not, false, true, Some, Ok, Err, length, IfErr, IsTrue, OnErr, OnOk};
-ghost use Rattle.std.specs.List.{list_all};
-ghost use Rattle.std.specs.Option.{option_copied};
-ghost use Rattle.oai_item.specs.Encoding.{encoded};
-ghost use Rattle.oai_item.specs.Item.{IsStamp};
-ghost use Rattle.oai_item.specs.Known.{are_fields_of, has_format, has_known_fields};
+//! Restores the first part of a saved state: the repository begins.
+ghost use Rattle.std.specs.Prelude.{◌≡◌, [], if◌then◌else◌, Ok, Err, OnErr, OnOk};
 ghost use Rattle.oai_item.specs.declared.faults.Fault.TheVariants as fault;
-ghost use Rattle.oai_item.specs.declared.sizes.TheConstants.{MAX_ITEM_BYTES};
-ghost use Rattle.oai_catalogue.specs.Store.{Spends};
-ghost use Rattle.oai_repo.specs.Changes.{with_new};
-ghost use Rattle.oai_repo.specs.Fields.{IsIndexed, stored_items};
-ghost use Rattle.oai_repo.specs.Indexing.{HoldsItems, Moves};
-ghost use Rattle.oai_repo.specs.Kept as spec;
-ghost use Rattle.oai_repo.specs.Saved.{fault_of_store, may_begin, may_have_item, may_have_set};
+ghost use Rattle.oai_repo.specs.Saved.{may_begin};
 ghost use Rattle.oai_settings.specs.Config as rule;
 
-use crate::changes::{add_set, have_sets, is_among};
-use crate::item_index::ItemIndex;
-use oai_catalogue::Versions;
-use oai_item::{Fault, Fields, Format, Formats, Item, ItemRecords, Refusal};
+use oai_item::Fault;
 use oai_lists::Lists;
-use oai_names::{SetSpec, SetTree};
 use oai_settings::RepoConfig;
 use oai_time::{Clock, LAST_TICK};
 use std::alloc::Global;
@@ -64,128 +49,4 @@ fn is_in_years(second: i64) -> bool
     ensures { result ≡ rule.is_in_years second }
 {
     FIRST_DATE <= second && second <= LAST_TICK
-}
-
-/// Adds the set as the last one. The error is `Damaged` if a change that adds it would be refused, otherwise out of
-/// memory. After an error the sets are unchanged.
-pub(crate) fn restore_set(sets: &mut SetTree, set: &SetSpec, name: &str) -> Result<(), Fault>
-    ensures added { OnOk result (sets.new ≡ sets.old ++ (set.now, name.now) ∷ []) }
-    ensures damaged { may_have_set sets.old set.now ≡ false → result ≡ Err fault.Damaged }
-    ensures memory { IfErr (fault_of_store (may_have_set sets.old set.now) result)
-        (λ f. f ≡ fault.NoMemory) }
-    ensures err { OnErr result (sets.new ≡ sets.old) }
-{
-    match add_set(sets, set, name) {
-        Ok(()) => Ok(()),
-        Err(Refusal::Refused(_)) => Err(Fault::Damaged),
-        Err(Refusal::Fault(fault)) => Err(fault),
-    }
-}
-
-/// Adds the item, in place of the one with its identifier, if there is one. `Damaged` if it violates the repository's
-/// invariants, or there are as many items as there may be; otherwise any fault may come. After an error everything is
-/// unchanged.
-pub(crate) fn restore_item<V: Versions>(
-    alloc: Global,
-    config: &RepoConfig,
-    sets: &SetTree,
-    store: &mut V,
-    index: &mut ItemIndex,
-    item: &Item,
-) -> Result<(), Fault>
-    requires held { HoldsItems V.Versions config.now index.old sets.now store.old }
-    ensures made { OnOk result (IsTrue (V.honest store.old)
-        → stored_items index.new (V.lists store.new)
-        ≡ with_new item.now (stored_items index.old (V.lists store.old))) }
-    ensures indexed { IsTrue (V.honest store.old)
-        → IsIndexed config.now index.new sets.now (V.lists store.new) }
-    ensures few { length index.old.entries ≤ config.now.items
-        → length index.new.entries ≤ config.now.items }
-    ensures damaged { may_have_item config.now sets.now (length index.old.entries) item.now ≡ false
-        → result ≡ Err fault.Damaged }
-    ensures moves { Moves V.Versions result index.old store.old index.new store.new }
-    ensures store { Spends V.room V.failures V.honest 1
-        (fault_of_store (may_have_item config.now sets.now (length index.old.entries) item.now)
-        result) store.old store.new }
-{
-    if !may_have_item(config, sets, index.len(), item) {
-        return Err(Fault::Damaged);
-    }
-    index.put(alloc, store, item)
-}
-
-/// Whether the item satisfies the repository's invariants, and the repository, which has `count` items, may have one
-/// more.
-fn may_have_item(config: &RepoConfig, sets: &SetTree, count: u64, item: &Item) -> bool
-    ensures may { result ≡ may_have_item config.now sets.now count item.now }
-    ensures stamped { IsStamp item.now.stamp }
-{
-    is_well_kept(config, sets, item) && count < config.items()
-}
-
-/// Whether the item satisfies the repository's invariants: it has a record in oai_dc, each of its records is in a
-/// format of the repository and has no other fields than that format's, its sets exist, and it is not too large.
-fn is_well_kept(config: &RepoConfig, sets: &SetTree, item: &Item) -> bool
-    ensures kept { result ≡ spec.is_well_kept config.now sets.now item.now }
-    ensures stamped { IsStamp item.now.stamp }
-{
-    have_formats(config.formats(), item.formats())
-        && item.has_record("oai_dc")
-        && have_known_fields(config.formats(), item.formats())
-        && have_sets(sets, item.sets())
-        && is_storable(item)
-}
-
-/// Whether the item can be stored.
-fn is_storable(item: &Item) -> bool
-    ensures fits { result ≡ true → length (encoded item.now) ≤ MAX_ITEM_BYTES }
-    ensures small { result ≡ not (spec.is_too_large item.now) }
-{
-    item.encoded_len().is_ok()
-}
-
-/// Whether the repository has the format of each record.
-fn have_formats(formats: &Formats, mut records: ItemRecords<'_>) -> bool
-    ensures { result ≡ list_all (has_format formats.now) records.entry }
-{
-    while let Some(made) = records.next() {
-        if formats.find_named(made.prefix).is_none() {
-            return false;
-        }
-    }
-    true
-}
-
-/// Whether each field of each record is one of its format's.
-fn have_known_fields(formats: &Formats, mut records: ItemRecords<'_>) -> bool
-    ensures { result ≡ list_all (has_known_fields formats.now) records.entry }
-{
-    while let Some(made) = records.next() {
-        if !are_known(formats.find_named(made.prefix), made.fields) {
-            return false;
-        }
-    }
-    true
-}
-
-/// Whether each field is one of the format's, if there is one.
-fn are_known(format: Option<&Format>, fields: Fields<'_>) -> bool
-    ensures { result ≡ are_fields_of (option_copied format.entry) fields.entry }
-{
-    match format {
-        Some(format) => are_fields_of(format, fields),
-        None => true,
-    }
-}
-
-/// Whether each field is one of the format's.
-fn are_fields_of(format: &Format, mut fields: Fields<'_>) -> bool
-    ensures { result ≡ are_fields_of (Some format.now) fields.entry }
-{
-    while let Some(field) = fields.next() {
-        if !is_among(format.fields.as_slice(), field.name) {
-            return false;
-        }
-    }
-    true
 }

@@ -13,7 +13,7 @@ ghost use Rattle.oai_repo.specs.Fields.{frozen_in, is_place_in, items_frozen};
 ghost use Rattle.oai_repo.specs.Listing as listing;
 ghost use Rattle.oai_repo.specs.Replays.{AreAsBefore};
 ghost use Rattle.oai_repo.specs.Tables.{kept_open, table_continued};
-ghost use Rattle.oai_repo.specs.Views.{IsContinuing, IsReady, IsViewReply, Leaves, document_reply, view_token_response};
+ghost use Rattle.oai_repo.specs.Views.{IsContinuing, IsReady, IsViewReply, LeavesTableAndLists, document_reply, view_token_response};
 
 use crate::lists::answer_by_verb;
 use crate::parts::{mark_behind, read_part};
@@ -63,7 +63,7 @@ pub(crate) fn reply_with_next_part<V: Versions>(
         replied lists.new (V.lists store.new)) }
     ensures same { IfOk result (λ replied. AreAsBefore V.Versions replied.replay lists.old store.old
         lists.new store.new) }
-    ensures left { Leaves V.Versions result repo.now lists.old store.old lists.new store.new }
+    ensures left { LeavesTableAndLists V.Versions result repo.now lists.old store.old lists.new store.new }
     ensures store { Spends V.room V.failures V.honest 0 result store.old store.new }
 {
     let chunk = chunk_of(repo);

@@ -9,9 +9,9 @@ ghost use Rattle.oai_settings.specs.Config.{is_in_years};
 ghost use Rattle.oai_repo.specs.Answers as spec;
 ghost use Rattle.oai_repo.specs.Seen.{SeesSame};
 
-use crate::item_index::ItemIndex;
-use oai_answers::Asked;
+use oai_answers::RequestAttributes;
 use oai_args::{Ask, BoundText};
+use oai_holdings::ItemIndex;
 use oai_names::{ListVerb, SetTree, Text};
 use oai_settings::RepoConfig;
 use std::alloc::Global;
@@ -30,7 +30,7 @@ pub(crate) struct RepoView<'a> {
     /// The sets.
     pub(crate) sets: &'a SetTree,
     /// The arguments of the request, as a document has them.
-    pub(crate) asked: Asked<'a>,
+    pub(crate) asked: RequestAttributes<'a>,
 }
 
 impl RepoView<'_> {
@@ -71,17 +71,17 @@ pub(crate) fn with_arguments<'a>(repo: RepoView<'a>, ask: &'a Ask) -> RepoView<'
 }
 
 /// The arguments of a request, as a document has them.
-fn arguments_of(ask: &Ask) -> Asked<'_>
+fn arguments_of(ask: &Ask) -> RequestAttributes<'_>
     ensures { attributes_of result ≡ spec.arguments_of_ask ask.now }
 {
     match ask {
         Ask::Identify => asked_for("Identify"),
-        Ask::Formats { identifier } => Asked {
+        Ask::Formats { identifier } => RequestAttributes {
             identifier: text_in(identifier),
             ..asked_for("ListMetadataFormats")
         },
         Ask::Sets => asked_for("ListSets"),
-        Ask::Get { identifier, prefix } => Asked {
+        Ask::Get { identifier, prefix } => RequestAttributes {
             identifier: Some(identifier.as_str()),
             prefix: Some(prefix.as_str()),
             ..asked_for("GetRecord")
@@ -92,14 +92,14 @@ fn arguments_of(ask: &Ask) -> Asked<'_>
             from,
             until,
             set,
-        } => Asked {
+        } => RequestAttributes {
             prefix: Some(prefix.as_str()),
             from: bound_text_in(from),
             until: bound_text_in(until),
             set: text_in(set),
             ..asked_for(name_of(*verb))
         },
-        Ask::Resume { verb, token } => Asked {
+        Ask::Resume { verb, token } => RequestAttributes {
             token: Some(token.as_str()),
             ..asked_for(name_of(*verb))
         },
@@ -107,12 +107,12 @@ fn arguments_of(ask: &Ask) -> Asked<'_>
 }
 
 /// The verb alone.
-fn asked_for(verb: &str) -> Asked<'_>
+fn asked_for(verb: &str) -> RequestAttributes<'_>
     ensures { attributes_of result ≡ spec.asked_for verb.now }
 {
-    Asked {
+    RequestAttributes {
         verb: Some(verb),
-        ..Asked::nothing()
+        ..RequestAttributes::nothing()
     }
 }
 

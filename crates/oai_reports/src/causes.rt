@@ -4,17 +4,17 @@ use std::alloc::Global;
 
 /// The cause of a refusal. Nothing is known of it at first, and what is added after the first cause is left out.
 #[derive(Drop)]
-pub(crate) struct Cause<'a> {
+pub(crate) struct Diagnostic<'a> {
     alloc: Global,
     line: &'a str,
     column: usize,
     why: String,
 }
 
-impl<'a> Cause<'a> {
+impl<'a> Diagnostic<'a> {
     /// No cause, of a line.
-    pub(crate) fn new(alloc: Global, line: &'a str) -> Cause<'a> {
-        Cause {
+    pub(crate) fn new(alloc: Global, line: &'a str) -> Diagnostic<'a> {
+        Diagnostic {
             alloc,
             line,
             column: 0,

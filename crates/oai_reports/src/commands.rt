@@ -1,5 +1,5 @@
 //! Why a line of JSON is no command, or one with an identifier, a setSpec or a text that may not be.
-use crate::causes::Cause;
+use crate::causes::Diagnostic;
 use crate::records::{report_bad_texts, report_records};
 use crate::values::{elements_at, is_among, kind_of, text_at, text_of};
 use oai_item::is_short_text;
@@ -7,7 +7,7 @@ use oai_names::may_be_set_spec;
 use serde_json::Value;
 
 /// Reports why the value is no command: refusal 2.
-pub(crate) fn report_command(cause: &mut Cause<'_>, value: &Value) {
+pub(crate) fn report_command(cause: &mut Diagnostic<'_>, value: &Value) {
     if !value.is_object() {
         let start = cause.start();
         cause.add(start, &["it is ", kind_of(value), ", and not an object"]);
@@ -26,7 +26,7 @@ pub(crate) fn report_command(cause: &mut Cause<'_>, value: &Value) {
 }
 
 /// Reports why the object adds no set.
-fn report_new_set(cause: &mut Cause<'_>, value: &Value) {
+fn report_new_set(cause: &mut Diagnostic<'_>, value: &Value) {
     if value.get("set").is_none() {
         let start = cause.start();
         cause.add(
@@ -40,7 +40,7 @@ fn report_new_set(cause: &mut Cause<'_>, value: &Value) {
 }
 
 /// Reports what is wrong with the members of a deposit.
-fn report_deposit(cause: &mut Cause<'_>, value: &Value) {
+fn report_deposit(cause: &mut Diagnostic<'_>, value: &Value) {
     report_kind(cause, value, "deposit", "a text");
     report_kind(cause, value, "sets", "a list");
     for (number, set) in elements_at(value, "sets").iter().enumerate() {
@@ -57,7 +57,7 @@ fn report_deposit(cause: &mut Cause<'_>, value: &Value) {
 }
 
 /// Reports a member that is missing, or another one.
-fn report_names(cause: &mut Cause<'_>, value: &Value, names: &[&str]) {
+fn report_names(cause: &mut Diagnostic<'_>, value: &Value, names: &[&str]) {
     for name in names {
         if value.get(*name).is_none() {
             let start = cause.start();
@@ -78,7 +78,7 @@ fn report_names(cause: &mut Cause<'_>, value: &Value, names: &[&str]) {
 }
 
 /// Reports that the member with that name is of another kind.
-fn report_kind(cause: &mut Cause<'_>, value: &Value, name: &str, kind: &str) {
+fn report_kind(cause: &mut Diagnostic<'_>, value: &Value, name: &str, kind: &str) {
     let Some(member) = value.get(name) else {
         return;
     };
@@ -92,12 +92,12 @@ fn report_kind(cause: &mut Cause<'_>, value: &Value, name: &str, kind: &str) {
 }
 
 /// Where the set with that number of a deposit begins.
-pub(crate) fn set_place(cause: &Cause<'_>, number: usize) -> Option<usize> {
+pub(crate) fn set_place(cause: &Diagnostic<'_>, number: usize) -> Option<usize> {
     cause.element(cause.member(cause.start(), "sets"), number)
 }
 
 /// Reports that the identifier is none: refusal 3.
-pub(crate) fn report_identifier(cause: &mut Cause<'_>, value: &Value) {
+pub(crate) fn report_identifier(cause: &mut Diagnostic<'_>, value: &Value) {
     let name = if value.get("deposit").is_some() {
         "deposit"
     } else {
@@ -109,7 +109,7 @@ pub(crate) fn report_identifier(cause: &mut Cause<'_>, value: &Value) {
 }
 
 /// Reports the first setSpec that is none: refusal 4.
-pub(crate) fn report_set_spec(cause: &mut Cause<'_>, value: &Value) {
+pub(crate) fn report_set_spec(cause: &mut Diagnostic<'_>, value: &Value) {
     for (number, set) in elements_at(value, "sets").iter().enumerate() {
         if !may_be_set_spec(text_of(set)) {
             let place = set_place(cause, number);
@@ -121,14 +121,14 @@ pub(crate) fn report_set_spec(cause: &mut Cause<'_>, value: &Value) {
 }
 
 /// Reports that the text is no setSpec.
-fn report_no_set_spec(cause: &mut Cause<'_>, place: Option<usize>, text: &str) {
+fn report_no_set_spec(cause: &mut Diagnostic<'_>, place: Option<usize>, text: &str) {
     let why =
         "is not parts of letters, digits and -_.!~*'() joined by colons, of at most 256 bytes";
     cause.add(place, &["\"", text, "\" ", why]);
 }
 
 /// Reports the first text that may not be: refusal 5.
-pub(crate) fn report_text(cause: &mut Cause<'_>, value: &Value) {
+pub(crate) fn report_text(cause: &mut Diagnostic<'_>, value: &Value) {
     if value.get("name").is_some() && !is_short_text(text_at(value, "name")) {
         let place = cause.member(cause.start(), "name");
         let why = "is empty, longer than 512 bytes, or has a character that XML forbids";

@@ -1,10 +1,11 @@
-//! Where and why a configuration, or a deposit line, is wrong, in words. It is a report for people, and only tested: that
-//! a text has a fault, and its number, is what `oai_config`, `oai_deposit` and `oai_repo` prove.
+//! Where and why a configuration, a deposit line or an XML element is wrong, in words. It is a report for people, and only
+//! tested: that a text has a fault, and which, is what `oai_config`, `oai_deposit`, `oai_repo` and `oai_xml` prove.
 #![tactic(auto)]
 
 mod causes;
 mod commands;
 mod dates;
+mod elements;
 mod formats;
 mod line_files;
 mod places;
@@ -15,5 +16,6 @@ mod shapes;
 mod values;
 mod wholes;
 
+pub use elements::FoundElement;
 pub use line_files::LineFile;
 pub use wholes::report_of;

@@ -1,5 +1,5 @@
 //! The lines of a file of deposit lines, each accepted or refused as in the first deposits to a repository.
-use crate::causes::Cause;
+use crate::causes::Diagnostic;
 use crate::commands::{report_command, report_identifier, report_set_spec, report_text, set_place};
 use crate::places::{bad_place, column_at, utf8_length, why_bad};
 use crate::records::{has_field, report_formats, report_unknown_fields};
@@ -140,14 +140,14 @@ impl<'a> LineFile<'a> {
                 "lines:{number}:{column}: {name}: here the text is not in UTF-8"
             )?));
         };
-        let mut cause = Cause::new(self.alloc, text);
+        let mut cause = Diagnostic::new(self.alloc, text);
         self.explain(&mut cause, text, refused);
         let (column, why) = (cause.column(), cause.why());
         Ok(Some(format!(in self.alloc; "lines:{number}:{column}: {name}: {why}")?))
     }
 
     /// Reports why the line is refused.
-    fn explain(&self, cause: &mut Cause<'_>, line: &str, refused: Refused) {
+    fn explain(&self, cause: &mut Diagnostic<'_>, line: &str, refused: Refused) {
         match Value::from_str(self.alloc, line) {
             Ok(value) => match refused {
                 Refused::Line(refusal) => report_line(cause, &value, refusal),
@@ -161,7 +161,7 @@ impl<'a> LineFile<'a> {
     }
 
     /// Reports why the change in the line is refused.
-    fn report_change(&self, cause: &mut Cause<'_>, value: &Value, refusal: ChangeRefusal) {
+    fn report_change(&self, cause: &mut Diagnostic<'_>, value: &Value, refusal: ChangeRefusal) {
         let formats = self.config.formats();
         match refusal {
             ChangeRefusal::UnknownSet => self.report_sets(cause, value),
@@ -189,7 +189,7 @@ impl<'a> LineFile<'a> {
     }
 
     /// Reports the first set of the deposit that no line before adds.
-    fn report_sets(&self, cause: &mut Cause<'_>, value: &Value) {
+    fn report_sets(&self, cause: &mut Diagnostic<'_>, value: &Value) {
         for (number, set) in elements_at(value, "sets").iter().enumerate() {
             if self.sets.find(text_of(set)).is_none() {
                 let place = set_place(cause, number);
@@ -231,7 +231,7 @@ fn set_refusal(added: Result<(), SetFault>) -> Option<ChangeRefusal> {
 }
 
 /// Reports why a line is refused by itself.
-fn report_line(cause: &mut Cause<'_>, value: &Value, refusal: LineRefusal) {
+fn report_line(cause: &mut Diagnostic<'_>, value: &Value, refusal: LineRefusal) {
     match refusal {
         LineRefusal::BadJson => {}
         LineRefusal::BadCommand => report_command(cause, value),
@@ -242,7 +242,7 @@ fn report_line(cause: &mut Cause<'_>, value: &Value, refusal: LineRefusal) {
 }
 
 /// Reports why the member with that name is refused.
-fn report_at(cause: &mut Cause<'_>, name: &str, why: &str) {
+fn report_at(cause: &mut Diagnostic<'_>, name: &str, why: &str) {
     let place = cause.member(cause.start(), name);
     cause.add(place, &[why]);
 }

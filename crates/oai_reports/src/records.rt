@@ -1,5 +1,5 @@
 //! What is wrong with the records of a deposit.
-use crate::causes::Cause;
+use crate::causes::Diagnostic;
 use crate::values::{elements_of, kind_of, text_of};
 use oai_item::Formats;
 use oai_names::is_xml_text;
@@ -9,7 +9,7 @@ use serde_json::Value;
 const FIELD: &str = "a field is a list of two texts";
 
 /// Reports the first record or field that is of another kind.
-pub(crate) fn report_records(cause: &mut Cause<'_>, value: &Value) {
+pub(crate) fn report_records(cause: &mut Diagnostic<'_>, value: &Value) {
     if let Some(Value::Object(records)) = value.get("records") {
         for (prefix, fields) in records.iter() {
             report_fields(cause, prefix.as_str(), fields);
@@ -18,7 +18,7 @@ pub(crate) fn report_records(cause: &mut Cause<'_>, value: &Value) {
 }
 
 /// Reports the first field of the record that is of another kind.
-fn report_fields(cause: &mut Cause<'_>, prefix: &str, fields: &Value) {
+fn report_fields(cause: &mut Diagnostic<'_>, prefix: &str, fields: &Value) {
     if !fields.is_array() {
         let place = record_place(cause, prefix);
         cause.add(
@@ -46,7 +46,7 @@ fn is_field(value: &Value) -> bool {
 }
 
 /// Reports that the value at that place is no field.
-fn report_no_field(cause: &mut Cause<'_>, place: Option<usize>, value: &Value) {
+fn report_no_field(cause: &mut Diagnostic<'_>, place: Option<usize>, value: &Value) {
     match value {
         Value::String(text) => cause.add(
             place,
@@ -58,7 +58,7 @@ fn report_no_field(cause: &mut Cause<'_>, place: Option<usize>, value: &Value) {
 }
 
 /// Reports the first text of a field that has a character which no XML document may hold.
-pub(crate) fn report_bad_texts(cause: &mut Cause<'_>, value: &Value) {
+pub(crate) fn report_bad_texts(cause: &mut Diagnostic<'_>, value: &Value) {
     if let Some(Value::Object(records)) = value.get("records") {
         for (prefix, fields) in records.iter() {
             report_bad_text(cause, prefix.as_str(), fields);
@@ -67,7 +67,7 @@ pub(crate) fn report_bad_texts(cause: &mut Cause<'_>, value: &Value) {
 }
 
 /// Reports the first text of the record's fields that has such a character.
-fn report_bad_text(cause: &mut Cause<'_>, prefix: &str, fields: &Value) {
+fn report_bad_text(cause: &mut Diagnostic<'_>, prefix: &str, fields: &Value) {
     for (number, field) in elements_of(fields).iter().enumerate() {
         if !is_xml_text(part_of(field, 1)) {
             let place = cause.element(field_place(cause, prefix, number), 1);
@@ -93,7 +93,7 @@ fn part_of(field: &Value, number: usize) -> &str {
 }
 
 /// Reports the first record in a format that is not among these: refusal 7.
-pub(crate) fn report_formats(cause: &mut Cause<'_>, value: &Value, formats: &Formats) {
+pub(crate) fn report_formats(cause: &mut Diagnostic<'_>, value: &Value, formats: &Formats) {
     if let Some(Value::Object(records)) = value.get("records") {
         for (prefix, _fields) in records.iter() {
             if formats.find_named(prefix.as_str()).is_none() {
@@ -108,7 +108,7 @@ pub(crate) fn report_formats(cause: &mut Cause<'_>, value: &Value, formats: &For
 }
 
 /// Reports the first field that its format does not have: refusal 9.
-pub(crate) fn report_unknown_fields(cause: &mut Cause<'_>, value: &Value, formats: &Formats) {
+pub(crate) fn report_unknown_fields(cause: &mut Diagnostic<'_>, value: &Value, formats: &Formats) {
     if let Some(Value::Object(records)) = value.get("records") {
         for (prefix, fields) in records.iter() {
             report_unknown_field(cause, prefix.as_str(), fields, formats);
@@ -117,7 +117,12 @@ pub(crate) fn report_unknown_fields(cause: &mut Cause<'_>, value: &Value, format
 }
 
 /// Reports the first field of the record that its format does not have.
-fn report_unknown_field(cause: &mut Cause<'_>, prefix: &str, fields: &Value, formats: &Formats) {
+fn report_unknown_field(
+    cause: &mut Diagnostic<'_>,
+    prefix: &str,
+    fields: &Value,
+    formats: &Formats,
+) {
     for (number, field) in elements_of(fields).iter().enumerate() {
         let name = part_of(field, 0);
         if !has_field(formats, prefix, name) {
@@ -143,11 +148,11 @@ pub(crate) fn has_field(formats: &Formats, prefix: &str, name: &str) -> bool {
 }
 
 /// Where the record with that prefix begins.
-fn record_place(cause: &Cause<'_>, prefix: &str) -> Option<usize> {
+fn record_place(cause: &Diagnostic<'_>, prefix: &str) -> Option<usize> {
     cause.member(cause.member(cause.start(), "records"), prefix)
 }
 
 /// Where the field with that number of the record begins.
-fn field_place(cause: &Cause<'_>, prefix: &str, number: usize) -> Option<usize> {
+fn field_place(cause: &Diagnostic<'_>, prefix: &str, number: usize) -> Option<usize> {
     cause.element(record_place(cause, prefix), number)
 }

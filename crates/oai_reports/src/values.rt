@@ -20,32 +20,20 @@ pub(crate) fn is_among(text: &str, known: &[&str]) -> bool {
 
 /// The elements of a list, none for any other value.
 pub(crate) fn elements_of(value: &Value) -> &[Value] {
-    match value {
-        Value::Array(values) => values.as_slice(),
-        _ => &[],
-    }
+    oai_json::elements_of(value).unwrap_or(&[])
 }
 
 /// The elements of the list in the member with that name, none if there is no such list.
 pub(crate) fn elements_at<'v>(object: &'v Value, name: &str) -> &'v [Value] {
-    match object.get(name) {
-        Some(value) => elements_of(value),
-        None => &[],
-    }
+    oai_json::elements_at(object, name).unwrap_or(&[])
 }
 
 /// The text of the member with that name; the empty text if there is no such text.
 pub(crate) fn text_at<'v>(object: &'v Value, name: &str) -> &'v str {
-    match object.get(name) {
-        Some(value) => text_of(value),
-        None => "",
-    }
+    oai_json::text_at(object, name).unwrap_or("")
 }
 
 /// The text of a value; the empty text for any other one.
 pub(crate) fn text_of(value: &Value) -> &str {
-    match value {
-        Value::String(text) => text.as_str(),
-        _ => "",
-    }
+    value.as_str().unwrap_or("")
 }

@@ -21,8 +21,8 @@ use Rattle.oai_durable.specs.Served.{AreThose, EndsAs}
 use Rattle.oai_durable.proofs.ServedLemmas.{ends_held, left_less}
 use Rattle.oai_service.specs.Hosting.{hosting}
 use Rattle.oai_service.specs.Lives.{AreServerLives, IsServerLife, ServerLife, served_behind}
-use Rattle.oai_service.specs.Service.{AreKept, IsOverHonest, IsReceivedIn, IsRecordedIn, Told, all_turns, turns_of}
-use Rattle.oai_service.specs.Turns.{AreTurns, Turn, its, records_in}
+use Rattle.oai_service.specs.Service.{AreResumed, IsOverHonest, IsReceivedIn, IsRecordedIn, LoggedTurns, all_turns, turns_of}
+use Rattle.oai_service.specs.Turns.{AreTurns, Turn, its, turn_records}
 use Rattle.oai_service.proofs.OwnLemmas.{AreTurnsOnce, once_append, turns_once}
 use Rattle.oai_service.proofs.TurnLemmas.{HasFew, behind, goes_all, goes_rounds, turns_append, turns_front}
 
@@ -33,7 +33,7 @@ record IsCut (turns : List Turn) (count : ℕ) : Type 0 where
   pub kept : List Turn
   pub others : List Turn
   pub parts : turns ≡ kept ++ others
-  pub records : take count (records_in turns) ≡ records_in kept
+  pub records : take count (turn_records turns) ≡ turn_records kept
 
 none_taken : (records : List Entry) → take zero records ≡ []
 none_taken [] = refl
@@ -46,16 +46,16 @@ cut_one turn turns [] count is one cut =
       kept = turn ∷ rest.kept;
       others = rest.others;
       parts = ap (λ (ts : List Turn). turn ∷ ts) rest.parts;
-      records = subst (λ (own : List Entry). take count (own ++ records_in turns) ≡ own ++ records_in rest.kept) (sym is) rest.records;
+      records = subst (λ (own : List Entry). take count (own ++ turn_records turns) ≡ own ++ turn_records rest.kept) (sym is) rest.records;
     }
-cut_one turn turns (entry ∷ []) zero is one cut = record { kept = []; others = turn ∷ turns; parts = refl; records = none_taken (records_in (turn ∷ turns)) }
+cut_one turn turns (entry ∷ []) zero is one cut = record { kept = []; others = turn ∷ turns; parts = refl; records = none_taken (turn_records (turn ∷ turns)) }
 cut_one turn turns (entry ∷ []) (suc count) is one cut =
     let rest = cut count in
     record {
       kept = turn ∷ rest.kept;
       others = rest.others;
       parts = ap (λ (ts : List Turn). turn ∷ ts) rest.parts;
-      records = subst (λ (own : List Entry). take (suc count) (own ++ records_in turns) ≡ own ++ records_in rest.kept) (sym is) (ap (λ (rs : List Entry). entry ∷ rs) rest.records);
+      records = subst (λ (own : List Entry). take (suc count) (own ++ turn_records turns) ≡ own ++ turn_records rest.kept) (sym is) (ap (λ (rs : List Entry). entry ∷ rs) rest.records);
     }
 cut_one turn turns (entry ∷ (other ∷ own)) count is one cut = absurd (omega (arith, one))
 
@@ -72,16 +72,16 @@ record Leaves (front : List Entry) (turns : List Turn) (left : List Entry) : Typ
   pub kept : List Turn
   pub others : List Turn
   pub parts : turns ≡ kept ++ others
-  pub records : left ≡ front ++ records_in kept
+  pub records : left ≡ front ++ turn_records kept
 
-left_behind : (front : List Entry) (turns : List Turn) (left : List Entry) → AllByRecursion HasFew turns → IsLeft (length front) (front ++ records_in turns) left → Leaves front turns left
+left_behind : (front : List Entry) (turns : List Turn) (left : List Entry) → AllByRecursion HasFew turns → IsLeft (length front) (front ++ turn_records turns) left → Leaves front turns left
 left_behind front turns left few is =
     let cut = cut_turns turns (is.count - length front) few in
     record {
       kept = cut.kept;
       others = cut.others;
       parts = cut.parts;
-      records = is.is ∙ ap (λ (n : ℕ). take n (front ++ records_in turns)) (apart (length front) is.count is.enough) ∙ take-append-add front (records_in turns) (is.count - length front)
+      records = is.is ∙ ap (λ (n : ℕ). take n (front ++ turn_records turns)) (apart (length front) is.count is.enough) ∙ take-append-add front (turn_records turns) (is.count - length front)
           ∙ ap (λ (rs : List Entry). front ++ rs) cut.records;
     }
 
@@ -153,15 +153,15 @@ long_append xs ys = let many : length (xs ++ ys) ≡ length xs + length ys = len
 few_of : {A : Type 0} (n : ℕ) (xs ys : List A) → n ≡ length xs → n ≤ length (xs ++ ys)
 few_of n xs ys is = rw is (long_append xs ys)
 
-left_all : (found left : List Entry) (answered kept : List Turn) → left ≡ (found ++ records_in answered) ++ records_in kept → left ≡ found ++ records_in (answered ++ kept)
+left_all : (found left : List Entry) (answered kept : List Turn) → left ≡ (found ++ turn_records answered) ++ turn_records kept → left ≡ found ++ turn_records (answered ++ kept)
 left_all found left answered kept is = is ∙ sym (behind found answered kept)
 
 -- what is told of a life
 pub record Tells {S H J : Type 0} (store : H → StoreState) (contents remaining : S → Option (List ℕ)) (begun : List Repository) (life : ServerLife S H J) : Type 0 where
-  pub told : Told
+  pub told : LoggedTurns
   pub received : IsReceivedIn contents remaining life told
   pub recorded : IsRecordedIn store begun life told
-  pub left : life.left ≡ life.found ++ records_in (turns_of told)
+  pub left : life.left ≡ life.found ++ turn_records (turns_of told)
 
 pub tell : {S H J : Type 0} (view : H → HostState) (j : journal.Ghosts J) (contents remaining : S → Option (List ℕ))
     → ((journal : J) (entries : List Entry) (durable : ℕ) (found : List Entry) → j.holds journal entries durable → j.may_leave journal found → IsLeft durable entries found)
@@ -172,11 +172,11 @@ tell {S} {H} {J} view j contents remaining law begun life is =
     let service = is.serves in
     let before = goes_rounds view j begun life.found service.rounds life.old.handler service.mid is.begins service.settles in
     let answered : List Turn = before.goes.turns in
-    let front : List Entry = life.found ++ records_in answered in
+    let front : List Entry = life.found ++ turn_records answered in
     let over = over_by view j service.mid life.new.handler life.result service.ends in
     let after = goes_all view j begun front before.durable over.served service.mid over.performed before.goes.held over.run in
-    let entries : List Entry = front ++ records_in after.turns in
-    let few : before.durable ≤ length entries = few_of before.durable front (records_in after.turns) before.all in
+    let entries : List Entry = front ++ turn_records after.turns in
+    let few : before.durable ≤ length entries = few_of before.durable front (turn_records after.turns) before.all in
     let ended = ends_held j entries before.durable over.performed life.new.handler few after.held.records over.ends in
     let durable : IsLeft before.durable entries life.left = left_less before.durable ended.0 entries life.left ended.1 (law life.new.handler.journal entries ended.0 life.left ended.2 is.leaves) in
     let left = left_behind front after.turns life.left after.few (subst (λ (n : ℕ). IsLeft n entries life.left) before.all durable) in
@@ -209,14 +209,14 @@ tell {S} {H} {J} view j contents remaining law begun life is =
 
 -- what is told of lives
 pub record TellsAll {S H J : Type 0} (store : H → StoreState) (contents remaining : S → Option (List ℕ)) (begun : List Repository) (before : List Entry) (lives : List (ServerLife S H J)) (left : List Entry) : Type 0 where
-  pub told : List Told
+  pub told : List LoggedTurns
   pub received : AllZip (IsReceivedIn contents remaining) lives told
   pub recorded : AllZip (IsRecordedIn store begun) lives told
-  pub kept : AreKept before lives told left
+  pub kept : AreResumed before lives told left
   pub turned : AllByRecursion (IsOverHonest store) lives → AreTurnsOnce begun before (all_turns told)
-  pub leaves : left ≡ before ++ records_in (all_turns told)
+  pub leaves : left ≡ before ++ turn_records (all_turns told)
 
-turned_once : {S H J : Type 0} (store : H → StoreState) (begun : List Repository) (life : ServerLife S H J) (told : Told) → IsRecordedIn store begun life told → IsOverHonest store life
+turned_once : {S H J : Type 0} (store : H → StoreState) (begun : List Repository) (life : ServerLife S H J) (told : LoggedTurns) → IsRecordedIn store begun life told → IsOverHonest store life
     → AreTurnsOnce begun life.found (turns_of told)
 turned_once store begun life told recorded honest =
     let is = recorded honest in
@@ -235,14 +235,14 @@ tell_all {S} {H} {J} view j contents remaining law begun before (life ∷ lives)
     let more = tell_all view j contents remaining law begun life.left lives left are.2 in
     let own : List Turn = turns_of first.told in
     let others : List Turn = all_turns more.told in
-    let there : life.left ≡ before ++ records_in own = first.left ∙ ap (λ (es : List Entry). es ++ records_in own) are.0 in
+    let there : life.left ≡ before ++ turn_records own = first.left ∙ ap (λ (es : List Entry). es ++ turn_records own) are.0 in
     record {
       told = first.told ∷ more.told;
       received = (first.received, more.received);
       recorded = (first.recorded, more.recorded);
-      kept = (are.0, subst (λ (es : List Entry). AreKept es lives more.told left) there more.kept);
+      kept = (are.0, subst (λ (es : List Entry). AreResumed es lives more.told left) there more.kept);
       turned = λ so. once_append begun before own others
           (subst (λ (es : List Entry). AreTurnsOnce begun es own) are.0 (turned_once store begun life first.told first.recorded so.0))
           (subst (λ (es : List Entry). AreTurnsOnce begun es others) there (more.turned so.1));
-      leaves = more.leaves ∙ ap (λ (es : List Entry). es ++ records_in others) there ∙ sym (behind before own others);
+      leaves = more.leaves ∙ ap (λ (es : List Entry). es ++ turn_records others) there ∙ sym (behind before own others);
     }

@@ -12,11 +12,12 @@ use Rattle.oai_item.specs.declared.refusals.LineRefusal.{LineRefusal}
 use Rattle.oai_deposit.specs.Lines.{line_of}
 use Rattle.oai_catalogue.specs.Store.{IsHonest, NeedsRoom}
 use Rattle.oai_device.specs.Device.{CountsFailures}
-use Rattle.oai_settings.specs.Config.{Config}
-use Rattle.oai_repo.specs.Accepted.{sets_with}
-use Rattle.oai_repo.specs.Changes.{changed, refusal_of, stamp_at}
+use Rattle.oai_settings.specs.Config.{RepositoryConfig}
+use Rattle.oai_holdings.specs.Accepted.{sets_with}
+use Rattle.oai_holdings.specs.Changes.{changed, refusal_of, stamp_at}
 use Rattle.oai_repo.specs.Machine.{Output, act, act_on_change, bytes, outcome_output, query, step, wait}
-use Rattle.oai_repo.specs.State.{Holdings, RepoState, moved}
+use Rattle.oai_holdings.specs.Holdings.{Holdings}
+use Rattle.oai_repo.specs.State.{RepoState, moved}
 use Rattle.oai_http.specs.Answers.{failed}
 use Rattle.oai_http.specs.Targets.{leads_to_repository}
 use Rattle.oai_http.specs.declared.exchanges.Answer.{Answer}
@@ -25,7 +26,7 @@ use Rattle.oai_host.specs.Alone.{after_line, after_lines, after_read, done_alone
 use Rattle.oai_host.specs.Answers.{IsReply, answer_of, failure, failure_in}
 use Rattle.oai_host.specs.Hosts.{AreSteps, HostState, IsExchanged, IsStep, Repository, is_of_none}
 use Rattle.oai_host.specs.Performed.{AreLinesPerformed, IsDone, IsLineAnswered, IsPerformed, StoreState}
-use Rattle.oai_host.specs.Redone.{redone_all, redone_at, reply_all}
+use Rattle.oai_host.specs.Redone.{redone_at, redone_repositories, reply_all}
 use Rattle.oai_host.specs.Room.{room_for_task}
 use Rattle.oai_host.specs.Tasks.{Task, asking, depositing, refusing, task_of}
 use Rattle.oai_host.proofs.RedoLemmas.{alone_whole}
@@ -44,7 +45,7 @@ reply_of : (output : Output) → IsReply (answer_of output)
 reply_of (bytes text) = refl
 reply_of (wait seconds) = refl
 
-asking_done : (config : Config) (state : RepoState) (moment : ℤ) (arguments : List ℕ)
+asking_done : (config : RepositoryConfig) (state : RepoState) (moment : ℤ) (arguments : List ℕ)
     → IsDone true config moment (asking arguments) state (done_alone config state moment (asking arguments)).0 (done_alone config state moment (asking arguments)).1
 unfolding act
 asking_done config state moment arguments = record {
@@ -54,27 +55,27 @@ asking_done config state moment arguments = record {
   exact = λ so. refl;
 }
 
-sets_after : (config : Config) (stamp : ℤ) (holdings : Holdings) (its : Change) → (changed config stamp holdings its).sets ≡ sets_with its holdings.sets
+sets_after : (config : RepositoryConfig) (stamp : ℤ) (holdings : Holdings) (its : Change) → (changed config stamp holdings its).sets ≡ sets_with its holdings.sets
 unfolding changed
 sets_after config stamp holdings (change.Deposit identifier sets records) = refl
 sets_after config stamp holdings (change.Delete identifier) = refl
 sets_after config stamp holdings (change.Purge before) = refl
 sets_after config stamp holdings (change.AddSet spec name) = refl
 
-change_answered : (config : Config) (state : RepoState) (moment : ℤ) (its : Change) (refusal : Option ChangeRefusal)
+change_answered : (config : RepositoryConfig) (state : RepoState) (moment : ℤ) (its : Change) (refusal : Option ChangeRefusal)
     → (let done = act_on_change config (moved moment state) (stamp_at config (moved moment state).clock) its refusal in
     IsLineAnswered config moment (Ok its) state (with_end (outcome_output config.granularity done.0)) done.1)
 unfolding outcome_output
 change_answered config state moment its None = inl (record { told = refl; clock = refl; sets = sets_after config (stamp_at config (moved moment state).clock) state.holdings its; open_lists = refl })
 change_answered config state moment its (Some cause) = inr (cause, record { told = refl; state = refl })
 
-line_answered : (config : Config) (state : RepoState) (moment : ℤ) (read : Result Change LineRefusal)
+line_answered : (config : RepositoryConfig) (state : RepoState) (moment : ℤ) (read : Result Change LineRefusal)
     → IsLineAnswered config moment read state (after_read config moment state read).0 (after_read config moment state read).1
 unfolding act outcome_output
 line_answered config state moment (Ok its) = change_answered config state moment its (refusal_of config (stamp_at config (moved moment state).clock) (moved moment state).holdings its)
 line_answered config state moment (Err cause) = record { told = refl; state = refl }
 
-pub lines_performed : (config : Config) (moment : ℤ) (lines : List (List ℕ)) (state : RepoState)
+pub lines_performed : (config : RepositoryConfig) (moment : ℤ) (lines : List (List ℕ)) (state : RepoState)
     → AreLinesPerformed true config moment lines state (after_lines config moment state lines).0 (after_lines config moment state lines).1
 lines_performed config moment [] state = (refl, refl)
 lines_performed config moment (text ∷ lines) state =
@@ -88,7 +89,7 @@ lines_performed config moment (text ∷ lines) state =
       lines_performed config moment lines first.1,
     )
 
-task_done : (config : Config) (state : RepoState) (moment : ℤ) (task : Task) → IsDone true config moment task state (done_alone config state moment task).0 (done_alone config state moment task).1
+task_done : (config : RepositoryConfig) (state : RepoState) (moment : ℤ) (task : Task) → IsDone true config moment task state (done_alone config state moment task).0 (done_alone config state moment task).1
 task_done config state moment (refusing status) = (refl, refl)
 task_done config state moment (asking arguments) = asking_done config state moment arguments
 task_done config state moment (depositing lines) = (refl, lines_performed config moment lines state)
@@ -103,7 +104,7 @@ counted_none answer none = subst (λ (f : Option Fault). CountsFailures Device (
 honest_none : (answer : Answer) → answer.fault ≡ None → IsHonest (failure_in answer) true true
 honest_none answer none = subst (λ (f : Option Fault). IsHonest (failure f) true true) (sym none) (record { same = refl; damaged = tt })
 
-pub performed_alone : (config : Config) (state : RepoState) (call : Call)
+pub performed_alone : (config : RepositoryConfig) (state : RepoState) (call : Call)
     → IsPerformed config call.moment (task_of call) (exchanged_alone config state call).0 state sound_store (exchanged_alone config state call).1 sound_store
 performed_alone config state call =
     let answer : Answer = (exchanged_alone config state call).0 in
@@ -116,7 +117,7 @@ performed_alone config state call =
     }
 
 -- a deposit that is refused memory behind its first line
-pub performed_once : (config : Config) (state : RepoState) (moment : ℤ) (task : Task) (lines : List (List ℕ)) → task ≡ depositing lines → 1 < length lines
+pub performed_once : (config : RepositoryConfig) (state : RepoState) (moment : ℤ) (task : Task) (lines : List (List ℕ)) → task ≡ depositing lines → 1 < length lines
     → IsPerformed config moment task (failed NoMemory (Some 1)) state sound_store (after_lines config moment state (take 1 lines)).1 sound_store
 performed_once config state moment task lines is more =
     subst (λ (t : Task). IsPerformed config moment t (failed NoMemory (Some 1)) state sound_store (after_lines config moment state (take 1 lines)).1 sound_store) (sym is)
@@ -160,7 +161,7 @@ redone_no : (again : Call) (x : Repository) → leads_to_repository x.name again
 redone_no again x other = cond-false (leads_to_repository x.name again.target) (record x { state = (exchanged_alone x.config x.state again).1 }) x other
 
 steps_away : (call again : Call) (answer : Answer) (repositories : List Repository) → again.target ≡ call.target → leads_away call.target (names_in repositories) ≡ true
-    → AreSteps call answer sound_store sound_store repositories (redone_all repositories again)
+    → AreSteps call answer sound_store sound_store repositories (redone_repositories repositories again)
 steps_away call again answer [] same away = tt
 steps_away call again answer (x ∷ repositories) same away =
     let parts = and_parts (not (leads_to_repository x.name call.target)) (leads_away call.target (names_in repositories)) away in
@@ -172,15 +173,15 @@ first_or_others : (target name : List ℕ) (names : List (List ℕ)) (b : Bool) 
 first_or_others target name names b is one = subst (λ (c : Bool). (if c then leads_away target names else leads_to_one target names) ≡ true) is one
 
 whole_steps : (call : Call) (repositories : List Repository) → leads_to_one call.target (names_in repositories) ≡ true
-    → AreSteps call (reply_all repositories call) sound_store sound_store repositories (redone_all repositories call)
+    → AreSteps call (reply_all repositories call) sound_store sound_store repositories (redone_repositories repositories call)
 whole_steps call [] one = absurd (false≢true one)
 whole_steps call (x ∷ repositories) one = by (leads_to_repository x.name call.target) refl (first_or_others call.target x.name (names_in repositories) (leads_to_repository x.name call.target) refl one) (whole_steps call repositories)
   where
     all : List Repository
-    all = redone_all (x ∷ repositories) call
+    all = redone_repositories (x ∷ repositories) call
 
     by : (b : Bool) → leads_to_repository x.name call.target ≡ b → (if b then leads_away call.target (names_in repositories) else leads_to_one call.target (names_in repositories)) ≡ true
-        → (leads_to_one call.target (names_in repositories) ≡ true → AreSteps call (reply_all repositories call) sound_store sound_store repositories (redone_all repositories call))
+        → (leads_to_one call.target (names_in repositories) ≡ true → AreSteps call (reply_all repositories call) sound_store sound_store repositories (redone_repositories repositories call))
         → AreSteps call (reply_all (x ∷ repositories) call) sound_store sound_store (x ∷ repositories) all
     by true own away others =
         let answer : Answer = (exchanged_alone x.config x.state call).0 in
@@ -203,13 +204,13 @@ pub record IsOnce (call again : Call) : Type 0 where
   pub moment : again.moment ≡ call.moment
 
 once_steps : (call again : Call) (repositories : List Repository) → IsOnce call again → leads_to_one call.target (names_in repositories) ≡ true
-    → AreSteps call (failed NoMemory (Some 1)) sound_store sound_store repositories (redone_all repositories again)
+    → AreSteps call (failed NoMemory (Some 1)) sound_store sound_store repositories (redone_repositories repositories again)
 once_steps call again [] once one = absurd (false≢true one)
 once_steps call again (x ∷ repositories) once one = by (leads_to_repository x.name call.target) refl (first_or_others call.target x.name (names_in repositories) (leads_to_repository x.name call.target) refl one) (once_steps call again repositories once)
   where
     by : (b : Bool) → leads_to_repository x.name call.target ≡ b → (if b then leads_away call.target (names_in repositories) else leads_to_one call.target (names_in repositories)) ≡ true
-        → (leads_to_one call.target (names_in repositories) ≡ true → AreSteps call (failed NoMemory (Some 1)) sound_store sound_store repositories (redone_all repositories again))
-        → AreSteps call (failed NoMemory (Some 1)) sound_store sound_store (x ∷ repositories) (redone_all (x ∷ repositories) again)
+        → (leads_to_one call.target (names_in repositories) ≡ true → AreSteps call (failed NoMemory (Some 1)) sound_store sound_store repositories (redone_repositories repositories again))
+        → AreSteps call (failed NoMemory (Some 1)) sound_store sound_store (x ∷ repositories) (redone_repositories (x ∷ repositories) again)
     by true own away others =
         let state : RepoState = (after_lines x.config call.moment x.state (take 1 once.lines)).1 in
         let left : (exchanged_alone x.config x.state again).1 ≡ state =
@@ -237,7 +238,7 @@ reply_whole call [] = refl
 reply_whole call (x ∷ repositories) = reply_either call x (reply_all repositories call) (leads_to_repository x.name call.target) (reply_whole call repositories)
 
 pub whole_exchanged : (call : Call) (repositories : List Repository) → leads_to_one call.target (names_in repositories) ≡ true
-    → IsExchanged call (reply_all repositories call) (sound_host repositories) (sound_host (redone_all repositories call))
+    → IsExchanged call (reply_all repositories call) (sound_host repositories) (sound_host (redone_repositories repositories call))
 whole_exchanged call repositories one = record {
   each = whole_steps call repositories one;
   none = λ none. absurd (not_of_none call repositories one none);
@@ -246,7 +247,7 @@ whole_exchanged call repositories one = record {
 }
 
 pub once_exchanged : (call again : Call) (repositories : List Repository) → IsOnce call again → leads_to_one call.target (names_in repositories) ≡ true
-    → IsExchanged call (failed NoMemory (Some 1)) (sound_host repositories) (sound_host (redone_all repositories again))
+    → IsExchanged call (failed NoMemory (Some 1)) (sound_host repositories) (sound_host (redone_repositories repositories again))
 once_exchanged call again repositories once one = record {
   each = once_steps call again repositories once one;
   none = λ none. absurd (not_of_none call repositories one none);
@@ -255,9 +256,9 @@ once_exchanged call again repositories once one = record {
 }
 
 -- the names stay
-pub names_left : (again : Call) (repositories : List Repository) → names_in (redone_all repositories again) ≡ names_in repositories
+pub names_left : (again : Call) (repositories : List Repository) → names_in (redone_repositories repositories again) ≡ names_in repositories
 names_left again [] = refl
-names_left again (x ∷ repositories) = ap (λ (name : List ℕ). name ∷ names_in (redone_all repositories again)) (one (leads_to_repository x.name again.target)) ∙ ap (λ (names : List (List ℕ)). x.name ∷ names) (names_left again repositories)
+names_left again (x ∷ repositories) = ap (λ (name : List ℕ). name ∷ names_in (redone_repositories repositories again)) (one (leads_to_repository x.name again.target)) ∙ ap (λ (names : List (List ℕ)). x.name ∷ names) (names_left again repositories)
   where
     one : (b : Bool) → (if b then record x { state = (exchanged_alone x.config x.state again).1 } else x).name ≡ x.name
     one true = refl

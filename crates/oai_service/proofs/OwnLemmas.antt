@@ -4,7 +4,7 @@ use Rattle.std.specs.List.{AllByRecursion, AllZip, zip}
 use Rattle.std.proofs.lemmas.Bool.{and_parts, cases_Bool, cond-true, cond-false}
 use Rattle.std.proofs.lemmas.List.{append_assoc}
 use Rattle.oai_item.specs.declared.faults.Fault.{Fault}
-use Rattle.oai_settings.specs.Config.{Config}
+use Rattle.oai_settings.specs.Config.{RepositoryConfig}
 use Rattle.oai_repo.specs.State.{RepoState}
 use Rattle.oai_http.specs.Exchanges.{call_at}
 use Rattle.oai_http.specs.Targets.{leads_to_repository}
@@ -20,28 +20,28 @@ use Rattle.oai_headline.specs.Throughout.{IsTrueVisit, IsTrueBy, left_by, calls_
 use Rattle.oai_headline.proofs.GivenLemmas.{all_met}
 use Rattle.oai_service.specs.Hosting.{leaving}
 use Rattle.oai_durable.specs.Lives.{Exchanged}
-use Rattle.oai_service.specs.Turns.{AreTurns, IsTurn, Turn, answers_in, calls_in, its, records_in, was_performed, was_refused}
+use Rattle.oai_service.specs.Turns.{AreTurns, IsTurn, Turn, answers_in, calls_in, its, turn_records, was_performed, was_refused}
 use Rattle.oai_service.proofs.TurnLemmas.{later_self}
 
 -- ---- exchanges of one repository
 
-left_both : (config : Config) (state : RepoState) (calls others : List Call) → left_by config state (calls ++ others) ≡ left_by config (left_by config state calls) others
+left_both : (config : RepositoryConfig) (state : RepoState) (calls others : List Call) → left_by config state (calls ++ others) ≡ left_by config (left_by config state calls) others
 left_both config state [] others = refl
 left_both config state (call ∷ calls) others = left_both config (exchanged_alone config state call).1 calls others
 
 -- what is known of an exchange
-record IsMetOnce (config : Config) (call : Call) (answer : Answer) (before after : RepoState) : Type 0 where
+record IsMetOnce (config : RepositoryConfig) (call : Call) (answer : Answer) (before after : RepoState) : Type 0 where
   pub given : IsTrueVisit config (record { call = call; before = before; answer = answer })
   pub left : after ≡ left_by config before (calls_done_by call answer)
 
-met_once : (config : Config) (call : Call) (answer : Answer) (before : RepoState) (old : StoreState) (after : RepoState) (new : StoreState) → IsTrue old.honest
+met_once : (config : RepositoryConfig) (call : Call) (answer : Answer) (before : RepoState) (old : StoreState) (after : RepoState) (new : StoreState) → IsTrue old.honest
     → IsPerformed config call.moment (task_of call) answer before old after new → IsMetOnce config call answer before after
 met_once config call answer before old after new honest performed =
     let met = all_met config (call ∷ []) (answer ∷ []) before old after new honest (old, after, new, later_self old, performed, (refl, later_self new)) in
     record { given = met.given.0; left = met.left ∙ ap (left_by config before) (append-nil (calls_done_by call answer)) }
 
 -- where it has no fault it leaves what it leaves alone
-pub left_whole : (config : Config) (call : Call) (answer : Answer) (before : RepoState) → is_none answer.fault ≡ true → left_by config before (calls_done_by call answer) ≡ (exchanged_alone config before call).1
+pub left_whole : (config : RepositoryConfig) (call : Call) (answer : Answer) (before : RepoState) → is_none answer.fault ≡ true → left_by config before (calls_done_by call answer) ≡ (exchanged_alone config before call).1
 left_whole config call answer before none = by (task_of call) refl
   where
     by : (task : Task) → task_of call ≡ task → left_by config before (calls_done_by call answer) ≡ (exchanged_alone config before call).1
@@ -58,18 +58,18 @@ no_fault None none = refl
 no_fault (Some fault) none = cc
 
 -- what is known of exchanges of one repository, one after the other
-pub record IsMetAt (config : Config) (name : List ℕ) (calls : List Call) (answers : List Answer) (before after : RepoState) : Type 0 where
+pub record IsMetAt (config : RepositoryConfig) (name : List ℕ) (calls : List Call) (answers : List Answer) (before after : RepoState) : Type 0 where
   pub given : AllByRecursion (IsTrueVisit config) (visits_given config before (own_calls name calls) (own_answers name calls answers))
   pub left : after ≡ left_by config before (calls_done (own_calls name calls) (own_answers name calls answers))
   pub alone : none_failed (own_answers name calls answers) ≡ true → own_answers name calls answers ≡ answers_alone config before (own_calls name calls)
 
 -- the same of lists of calls and answers
-record AreMetBy (config : Config) (calls : List Call) (answers : List Answer) (before after : RepoState) : Type 0 where
+record AreMetBy (config : RepositoryConfig) (calls : List Call) (answers : List Answer) (before after : RepoState) : Type 0 where
   pub given : AllByRecursion (IsTrueVisit config) (visits_given config before calls answers)
   pub left : after ≡ left_by config before (calls_done calls answers)
   pub alone : none_failed answers ≡ true → answers ≡ answers_alone config before calls
 
-met_then : (config : Config) (call : Call) (answer : Answer) (calls : List Call) (answers : List Answer) (before between after : RepoState) → IsMetOnce config call answer before between
+met_then : (config : RepositoryConfig) (call : Call) (answer : Answer) (calls : List Call) (answers : List Answer) (before between after : RepoState) → IsMetOnce config call answer before between
     → AreMetBy config calls answers between after → AreMetBy config (call ∷ calls) (answer ∷ answers) before after
 met_then config call answer calls answers before between after one others = record {
   given = (one.given, subst (λ (s : RepoState). AllByRecursion (IsTrueVisit config) (visits_given config s calls answers)) one.left others.given);
@@ -108,7 +108,7 @@ other_answer name call calls answer answers other =
     ap (map (λ (p : Call × Answer). p.1)) (cond-false (leads_to_repository name call.target) ((call, answer) ∷ others) others other)
 
 -- lists of calls and answers that are its own
-as_own : (config : Config) (name : List ℕ) (calls cs : List Call) (answers xs : List Answer) (before after : RepoState) → own_calls name calls ≡ cs → own_answers name calls answers ≡ xs
+as_own : (config : RepositoryConfig) (name : List ℕ) (calls cs : List Call) (answers xs : List Answer) (before after : RepoState) → own_calls name calls ≡ cs → own_answers name calls answers ≡ xs
     → AreMetBy config cs xs before after → IsMetAt config name calls answers before after
 as_own config name calls cs answers xs before after e f met =
     let moved = subst (λ (ds : List Call). AreMetBy config ds xs before after) (sym e) met in
@@ -129,7 +129,7 @@ module _ (call : Call) (answer : Answer) (calls : List Call) (answers : List Ans
     config = others.config ∙ step.config;
     met =
         let named = subst (λ (name : List ℕ). IsMetAt between.config name calls answers between.state after.state) step.name others.met in
-        let rest = subst (λ (config : Config). IsMetAt config before.name calls answers between.state after.state) step.config named in
+        let rest = subst (λ (config : RepositoryConfig). IsMetAt config before.name calls answers between.state after.state) step.config named in
         let by : AreMetBy before.config (own_calls before.name calls) (own_answers before.name calls answers) between.state after.state =
         record { given = rest.given; left = rest.left; alone = rest.alone } in
         elim (cases_Bool (leads_to_repository before.name call.target)) [
@@ -188,24 +188,24 @@ turns_once begun before old (turn ∷ turns) new honest are =
     let first = turn_once (redone_all leaving begun before) old turn (redone_all leaving begun (before ++ (its turn).own)) are.0 honest are.1 in
     (first.0, turns_once begun (before ++ (its turn).own) are.0 turns new first.1 are.2)
 
-pub once_append : (begun : List Repository) (before : List Entry) (turns others : List Turn) → AreTurnsOnce begun before turns → AreTurnsOnce begun (before ++ records_in turns) others
+pub once_append : (begun : List Repository) (before : List Entry) (turns others : List Turn) → AreTurnsOnce begun before turns → AreTurnsOnce begun (before ++ turn_records turns) others
     → AreTurnsOnce begun before (turns ++ others)
 once_append begun before [] others first then = rw (append-nil before) at then
 once_append begun before (turn ∷ turns) others first then =
-    (first.0, once_append begun (before ++ (its turn).own) turns others first.1 (rw (append_assoc before (its turn).own (records_in turns)) then))
+    (first.0, once_append begun (before ++ (its turn).own) turns others first.1 (rw (append_assoc before (its turn).own (turn_records turns)) then))
 
 pub turns_met : (begun : List Repository) (before : List Entry) (turns : List Turn) → AreTurnsOnce begun before turns
-    → AllZip (IsOwnMet (calls_in turns) (answers_in turns)) (redone_all leaving begun before) (redone_all leaving begun (before ++ records_in turns))
+    → AllZip (IsOwnMet (calls_in turns) (answers_in turns)) (redone_all leaving begun before) (redone_all leaving begun (before ++ turn_records turns))
 turns_met begun before [] all =
     subst (λ (es : List Entry). AllZip (IsOwnMet [] []) (redone_all leaving begun before) (redone_all leaving begun es)) (sym (append-nil before)) (none_met (redone_all leaving begun before))
 turns_met begun before (was_performed e ∷ turns) all =
     let first = all.0 in
     let there : List Repository = redone_all leaving begun (before ++ e.own) in
-    let last : List Repository = redone_all leaving begun (before ++ (e.own ++ records_in turns)) in
+    let last : List Repository = redone_all leaving begun (before ++ (e.own ++ turn_records turns)) in
     let more = turns_met begun (before ++ e.own) turns all.1 in
-    let others = subst (λ (es : List Entry). AllZip (IsOwnMet (calls_in turns) (answers_in turns)) there (redone_all leaving begun es)) (append_assoc before e.own (records_in turns)) more in
+    let others = subst (λ (es : List Entry). AllZip (IsOwnMet (calls_in turns) (answers_in turns)) there (redone_all leaving begun es)) (append_assoc before e.own (turn_records turns)) more in
     each_met (call_at e.moment e.asked) e.answer (calls_in turns) (answers_in turns) first.old first.new first.honest (redone_all leaving begun before) there last first.steps others
 turns_met begun before (was_refused e ∷ turns) all =
     let more = turns_met begun (before ++ e.own) turns all.1 in
-    let others = subst (λ (es : List Entry). AllZip (IsOwnMet (calls_in turns) (answers_in turns)) (redone_all leaving begun (before ++ e.own)) (redone_all leaving begun es)) (append_assoc before e.own (records_in turns)) more in
-    subst (λ (rs : List Repository). AllZip (IsOwnMet (calls_in turns) (answers_in turns)) rs (redone_all leaving begun (before ++ (e.own ++ records_in turns)))) all.0 others
+    let others = subst (λ (es : List Entry). AllZip (IsOwnMet (calls_in turns) (answers_in turns)) (redone_all leaving begun (before ++ e.own)) (redone_all leaving begun es)) (append_assoc before e.own (turn_records turns)) more in
+    subst (λ (rs : List Repository). AllZip (IsOwnMet (calls_in turns) (answers_in turns)) rs (redone_all leaving begun (before ++ (e.own ++ turn_records turns)))) all.0 others

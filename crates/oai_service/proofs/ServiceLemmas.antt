@@ -2,7 +2,7 @@
 use Rattle.std.proofs.Common.{◌≡◌, ◌∙◌, ◌≤◌, ℕ, suc, List, [], ◌∷◌, map, Option, None, Some, arith, refl, sym, ap, subst}
 use Rattle.std.specs.List.{All, AllByRecursion, AllZip}
 use Rattle.oai_lists.specs.declared.lists.TheConstants.{LAST_NUMBER}
-use Rattle.oai_settings.specs.Config.{Config}
+use Rattle.oai_settings.specs.Config.{RepositoryConfig}
 use Rattle.oai_repo.specs.State.{RepoState, empty_state}
 use Rattle.oai_config.specs.Configs.{HostConfig, NamedConfig}
 use Rattle.oai_host.specs.Emptied.{emptied_redone, emptied_restored}
@@ -20,7 +20,7 @@ use Rattle.oai_headline.proofs.ClientEraLemmas.{followed_over, harvested_over}
 use Rattle.oai_headline.proofs.EraLemmas.{AreMetEach, true_each}
 use Rattle.oai_service.specs.Hosting.{AreNumbered, hosting, leaving, saving}
 use Rattle.oai_service.specs.Lives.{AreServerEras, BeginsEra, ServerEra}
-use Rattle.oai_service.specs.Service.{AreEndedBetween, AreKept, AreOverHonest, IsReceivedIn, IsRecordedIn, IsServed, Told, all_turns, eras_told, eras_left, own_era, own_eras}
+use Rattle.oai_service.specs.Service.{AreEndedBetween, AreResumed, AreOverHonest, IsReceivedIn, IsRecordedIn, IsServed, LoggedTurns, all_turns, eras_told, eras_left, own_era, own_eras}
 use Rattle.oai_service.specs.Turns.{answers_in, calls_in}
 use Rattle.oai_service.proofs.LifeLemmas.{tell_all}
 use Rattle.oai_service.proofs.OwnLemmas.{IsOwnMet, turns_met}
@@ -59,7 +59,7 @@ record IsOwnMetOver (eras : List VisitedEra) (before after : Repository) : Type 
   pub leaves : after.state ≡ eras_leave before.config before.state (own_eras before.name eras)
 
 -- what is known of the eras behind a state
-record AreMetBehind (config : Config) (state : RepoState) (eras : List VisitedEra) (after : RepoState) : Type 0 where
+record AreMetBehind (config : RepositoryConfig) (state : RepoState) (eras : List VisitedEra) (after : RepoState) : Type 0 where
   pub met : AreMetEach config state eras
   pub numbers : HaveNumbersIn config state eras
   pub leaves : after ≡ eras_leave config state eras
@@ -73,7 +73,7 @@ own_over era eras x y z few own over =
     let own_first : VisitedEra = own_era x.name era in
     let left : y.state ≡ era_leaves x.config x.state own_first = own.met.left in
     let named = subst (λ (name : List ℕ). AreMetBehind y.config y.state (own_eras name eras) z.state) own.name (behind_of eras y z over) in
-    let set = subst (λ (config : Config). AreMetBehind config y.state (own_eras x.name eras) z.state) own.config named in
+    let set = subst (λ (config : RepositoryConfig). AreMetBehind config y.state (own_eras x.name eras) z.state) own.config named in
     let rest : AreMetBehind x.config (era_leaves x.config x.state own_first) (own_eras x.name eras) z.state =
     subst (λ (state : RepoState). AreMetBehind x.config state (own_eras x.name eras) z.state) left set in
     record {
@@ -101,10 +101,10 @@ none_over (x ∷ repositories) = (record { name = refl; config = refl; met = tt;
 
 -- what is told of eras
 record TellsEras {S H J : Type 0} (store : H → StoreState) (contents remaining : S → Option (List ℕ)) (begins before : List Repository) (eras : List (ServerEra S H J)) : Type 0 where
-  pub told : List (List Told)
-  pub received : AllZip (λ (era : ServerEra S H J) (t : List Told). AllZip (IsReceivedIn contents remaining) era.lives t) eras told
-  pub recorded : AllZip (λ (era : ServerEra S H J) (t : List Told). AllZip (IsRecordedIn store begins) era.lives t) eras told
-  pub kept : AllZip (λ (era : ServerEra S H J) (t : List Told). AreKept era.found era.lives t era.left) eras told
+  pub told : List (List LoggedTurns)
+  pub received : AllZip (λ (era : ServerEra S H J) (t : List LoggedTurns). AllZip (IsReceivedIn contents remaining) era.lives t) eras told
+  pub recorded : AllZip (λ (era : ServerEra S H J) (t : List LoggedTurns). AllZip (IsRecordedIn store begins) era.lives t) eras told
+  pub kept : AllZip (λ (era : ServerEra S H J) (t : List LoggedTurns). AreResumed era.found era.lives t era.left) eras told
   pub ended : AreEndedBetween begins before eras
   pub met : AreOverHonest store eras → AllZip (IsOwnMetOver (eras_told eras told)) before (eras_left begins before eras)
 

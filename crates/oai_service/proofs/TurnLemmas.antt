@@ -15,26 +15,26 @@ use Rattle.oai_durable.specs.Lives.{Exchanged}
 use Rattle.oai_durable.specs.Records.{redone_all}
 use Rattle.oai_durable.specs.Served.{AreThose, told_by, told_to}
 use Rattle.oai_service.specs.Hosting.{hosting, leaving}
-use Rattle.oai_service.specs.Turns.{AreTurns, IsTurn, Turn, host_in, its, records_in, was_performed, was_refused}
+use Rattle.oai_service.specs.Turns.{AreTurns, IsTurn, Turn, host_in, its, turn_records, was_performed, was_refused}
 
 -- it has at most one record
 abbrev pub HasFew : Turn → Type 0
 HasFew turn = length (its turn).own ≤ 1
 
-pub records_append : (turns others : List Turn) → records_in (turns ++ others) ≡ records_in turns ++ records_in others
+pub records_append : (turns others : List Turn) → turn_records (turns ++ others) ≡ turn_records turns ++ turn_records others
 records_append turns others = flat_map-append (λ (turn : Turn). (its turn).own) turns others
 
-pub behind : (before : List Entry) (turns others : List Turn) → before ++ records_in (turns ++ others) ≡ (before ++ records_in turns) ++ records_in others
+pub behind : (before : List Entry) (turns others : List Turn) → before ++ turn_records (turns ++ others) ≡ (before ++ turn_records turns) ++ turn_records others
 behind before turns others =
-    ap (λ (rs : List Entry). before ++ rs) (records_append turns others) ∙ sym (append_assoc before (records_in turns) (records_in others))
+    ap (λ (rs : List Entry). before ++ rs) (records_append turns others) ∙ sym (append_assoc before (turn_records turns) (turn_records others))
 
 -- ---- turns that follow others
 
 pub turns_append : (begun : List Repository) (before : List Entry) (old mid new : StoreState) (turns others : List Turn) → AreTurns begun before old turns mid
-    → AreTurns begun (before ++ records_in turns) mid others new → AreTurns begun before old (turns ++ others) new
+    → AreTurns begun (before ++ turn_records turns) mid others new → AreTurns begun before old (turns ++ others) new
 turns_append begun before old mid new [] others first then = subst (λ (s : StoreState). AreTurns begun before s others new) first (rw (append-nil before) at then)
 turns_append begun before old mid new (turn ∷ turns) others first then =
-    (first.0, first.1, turns_append begun (before ++ (its turn).own) first.0 mid new turns others first.2 (rw (append_assoc before (its turn).own (records_in turns)) then))
+    (first.0, first.1, turns_append begun (before ++ (its turn).own) first.0 mid new turns others first.2 (rw (append_assoc before (its turn).own (turn_records turns)) then))
 
 pub later_self : (store : StoreState) → IsLater store store
 later_self store = record { honesty = refl; count = omega arith }
@@ -76,7 +76,7 @@ pub record Goes {H J : Type 0} (view : H → HostState) (j : journal.Ghosts J) (
   pub turns : List Turn
   pub those : AreThose (map its turns) served
   pub few : AllByRecursion HasFew turns
-  pub held : IsHeld (hosting view) j begun new (before ++ records_in turns) durable
+  pub held : IsHeld (hosting view) j begun new (before ++ turn_records turns) durable
   pub honesty : (view new.handler).honest ≡ (view old.handler).honest
   pub turned : IsTrue (view old.handler).honest → AreTurns begun before (store_of (view old.handler)) turns (store_of (view new.handler))
 
@@ -86,7 +86,7 @@ goes_none view j begun before durable old held =
     record { turns = []; those = refl; few = tt; held = rw (append-nil before) held; honesty = refl; turned = λ so. refl }
 
 pub goes_then : {H J : Type 0} (view : H → HostState) (j : journal.Ghosts J) (begun : List Repository) (before : List Entry) (durable then : ℕ) (served others : List Served) (old mid new : Parts H J)
-    (first : Goes view j begun before durable served old mid) → Goes view j begun (before ++ records_in first.turns) then others mid new
+    (first : Goes view j begun before durable served old mid) → Goes view j begun (before ++ turn_records first.turns) then others mid new
     → Goes view j begun before then (served ++ others) old new
 goes_then view j begun before durable then served others old mid new first more =
     let es : List Exchanged = map its first.turns in
@@ -146,18 +146,18 @@ goes_all {H} {J} view j begun before durable [] old new held serves =
 goes_all view j begun before durable (s ∷ served) old new held serves =
     let first = goes_one view j begun before durable s old serves.0 held serves.1 in
     goes_then view j begun before durable durable (s ∷ []) served old serves.0 new first
-    (goes_all view j begun (before ++ records_in first.turns) durable served serves.0 new first.held serves.2)
+    (goes_all view j begun (before ++ turn_records first.turns) durable served serves.0 new first.held serves.2)
 
 -- ---- rounds
 
 goes_settled : {H J : Type 0} (view : H → HostState) (j : journal.Ghosts J) (begun : List Repository) (before : List Entry) (durable : ℕ) (served : List Served) (old mid new : Parts H J)
-    (first : Goes view j begun before durable served old mid) → IsSettled j mid (Ok tt) new → Goes view j begun before (length (before ++ records_in first.turns)) served old new
+    (first : Goes view j begun before durable served old mid) → IsSettled j mid (Ok tt) new → Goes view j begun before (length (before ++ turn_records first.turns)) served old new
 goes_settled {H} view j begun before durable served old mid new first settles = record {
   turns = first.turns;
   those = first.those;
   few = first.few;
   held = record {
-    records = settles.ok (before ++ records_in first.turns) durable first.held.records;
+    records = settles.ok (before ++ turn_records first.turns) durable first.held.records;
     kept = λ honest. ap (λ (x : H). (view x).repositories) settles.handler ∙ first.held.kept (sym (ap (λ (x : H). (view x).honest) settles.handler) ∙ honest);
   };
   honesty = ap (λ (x : H). (view x).honest) settles.handler ∙ first.honesty;
@@ -168,7 +168,7 @@ goes_settled {H} view j begun before durable served old mid new first settles = 
 pub record GoesRounds {H J : Type 0} (view : H → HostState) (j : journal.Ghosts J) (begun : List Repository) (before : List Entry) (served : List Served) (old new : Parts H J) : Type 0 where
   pub durable : ℕ
   pub goes : Goes view j begun before durable served old new
-  pub all : durable ≡ length (before ++ records_in goes.turns)
+  pub all : durable ≡ length (before ++ turn_records goes.turns)
 
 pub goes_rounds : {H J : Type 0} (view : H → HostState) (j : journal.Ghosts J) (begun : List Repository) (before : List Entry) (rounds : List (List Served)) (old new : Parts H J)
     → IsHeld (hosting view) j begun old before (length before) → AreSettled (IsExchange (hosting view) j) (IsSettled j) rounds old new
@@ -181,9 +181,9 @@ goes_rounds {H} {J} view j begun before (served ∷ rounds) old new held settles
     let mid : Parts H J = settles.0 in
     let round = settles.1 in
     let first = goes_settled view j begun before (length before) served old round.0 mid (goes_all view j begun before (length before) served old round.0 held round.1) round.2 in
-    let more = goes_rounds view j begun (before ++ records_in first.turns) rounds mid new first.held settles.2 in
+    let more = goes_rounds view j begun (before ++ turn_records first.turns) rounds mid new first.held settles.2 in
     record {
       durable = more.durable;
-      goes = goes_then view j begun before (length (before ++ records_in first.turns)) more.durable served (served_in rounds) old mid new first more.goes;
+      goes = goes_then view j begun before (length (before ++ turn_records first.turns)) more.durable served (served_in rounds) old mid new first more.goes;
       all = more.all ∙ ap length (sym (behind before first.turns more.goes.turns));
     }

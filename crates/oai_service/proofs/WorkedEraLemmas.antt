@@ -9,12 +9,12 @@ use Rattle.oai_item.specs.Decoding as decoding
 use Rattle.oai_item.specs.Encoding.{encoded}
 use Rattle.oai_item.specs.Encoding as encoding
 use Rattle.oai_item.specs.Items.{placed, without}
-use Rattle.oai_settings.specs.Config.{Config}
+use Rattle.oai_settings.specs.Config.{RepositoryConfig}
 use Rattle.oai_repo.specs.Saved.{ended}
 use Rattle.oai_repo.specs.State.{RepoState, empty_state}
 use Rattle.oai_laws.specs.Eras.{AreSuccessiveWithin, left_behind}
 use Rattle.oai_laws.specs.Harvests.{Harvest}
-use Rattle.oai_laws.specs.Runs.{Exchange, Timed}
+use Rattle.oai_laws.specs.Runs.{Timed, Transition}
 use Rattle.oai_laws.specs.Worked.{worked_commands, worked_config}
 use Rattle.oai_laws.specs.WorkedHarvests.{archive_b, harvest_run, prefix}
 use Rattle.oai_laws.proofs.WorkedEraLemmas.{got_4, harvest_4, harvests_over, later_run, list_left}
@@ -34,7 +34,7 @@ use Rattle.oai_headline.proofs.WorkedCalls.{carried_a, carried_b, carried_last, 
 use Rattle.oai_headline.proofs.WorkedEraLemmas.{earlier_steps, later_steps, token_ended}
 use Rattle.oai_headline.proofs.WorkedLemmas.{worked_beside, worked_list}
 use Rattle.oai_service.specs.Hosting.{leaving}
-use Rattle.oai_service.specs.Turns.{AreTurns, Turn, answers_in, calls_in, records_in}
+use Rattle.oai_service.specs.Turns.{AreTurns, Turn, answers_in, calls_in, turn_records}
 use Rattle.oai_service.specs.WorkedLives.{AreOverCheckpoint, AreWorkedTurns, Deed, first_deeds, held_deeds, later_turns, left_a, left_b, second_deeds, third_deeds, turns_at, worked_begun, worked_checkpoint, worked_eras, worked_kept, worked_left}
 use Rattle.oai_service.proofs.MachineLemmas.{names_in, sound_store}
 use Rattle.oai_service.proofs.OwnLemmas.{IsMetAt, IsOwnMet, turns_met, turns_once}
@@ -67,12 +67,12 @@ planned_b = refl
 
 -- ---- of both
 
-abbrev made : List ℕ → Config → RepoState → Repository
+abbrev made : List ℕ → RepositoryConfig → RepoState → Repository
 made name config state = record { name = name; config = config; state = state }
 
-repository_is : (r : Repository) (name : List ℕ) (config : Config) (state : RepoState) → r.name ≡ name → r.config ≡ config → r.state ≡ state → r ≡ made name config state
+repository_is : (r : Repository) (name : List ℕ) (config : RepositoryConfig) (state : RepoState) → r.name ≡ name → r.config ≡ config → r.state ≡ state → r ≡ made name config state
 repository_is r name config state n c s =
-    ap (λ (x : List ℕ). made x r.config r.state) n ∙ ap (λ (x : Config). made name x r.state) c ∙ ap (made name config) s
+    ap (λ (x : List ℕ). made x r.config r.state) n ∙ ap (λ (x : RepositoryConfig). made name x r.state) c ∙ ap (made name config) s
 
 both_left : (calls : List Call) (answers : List Answer) (after : List Repository) → AllZip (IsOwnMet calls answers) (begun first_entry ∷ begun second_entry ∷ []) after
     → left_by worked_config (empty_state worked_config) (calls_done (own_calls (codes "a") calls) (own_answers (codes "a") calls answers)) ≡ left_a
@@ -87,11 +87,11 @@ both_left calls answers (y ∷ z ∷ []) met a b =
     (repository_is z (codes "b") archive_b left_b met.1.0.name met.1.0.config (met.1.0.met.left ∙ b))
 
 deeds_left : (its : List Deed) → AllByRecursion (IsFit (names_in worked_begun)) its → planned (codes "a") its ≡ own_calls (codes "a") worked_calls ++ last_calls
-    → planned (codes "b") its ≡ own_calls (codes "b") worked_calls → redone_all leaving worked_begun (records_in (turns_at worked_begun its)) ≡ worked_left
+    → planned (codes "b") its ≡ own_calls (codes "b") worked_calls → redone_all leaving worked_begun (turn_records (turns_at worked_begun its)) ≡ worked_left
 deeds_left its fits at_a at_b =
     let turns : List Turn = turns_at worked_begun its in
     let turned : AreTurns worked_begun [] sound_store turns sound_store = deeds_turned worked_begun worked_begun [] its refl fits in
-    both_left (calls_in turns) (answers_in turns) (redone_all leaving worked_begun (records_in turns))
+    both_left (calls_in turns) (answers_in turns) (redone_all leaving worked_begun (turn_records turns))
     (turns_met worked_begun [] turns (turns_once worked_begun [] sound_store turns sound_store refl turned))
     (ap (left_by worked_config (empty_state worked_config)) (done_planned (codes "a") worked_begun its ∙ at_a) ∙ left_by_a)
     (ap (left_by archive_b (empty_state archive_b)) (done_planned (codes "b") worked_begun its ∙ at_b) ∙ left_by_b)
@@ -102,7 +102,7 @@ earlier_fit = all_fit (names_in worked_begun) first_deeds (held_deeds ++ second_
 pub third_fit : AllByRecursion (IsFit (names_in worked_begun)) third_deeds
 third_fit = ((refl, refl), ((refl, refl), ((refl, refl), tt)))
 
-pub lives_leave : redone_all leaving worked_begun (records_in (turns_at worked_begun (first_deeds ++ held_deeds ++ second_deeds))) ≡ worked_left
+pub lives_leave : redone_all leaving worked_begun (turn_records (turns_at worked_begun (first_deeds ++ held_deeds ++ second_deeds))) ≡ worked_left
 lives_leave = deeds_left (first_deeds ++ held_deeds ++ second_deeds) earlier_fit same_a planned_b
 
 -- ---- the checkpoint
@@ -143,13 +143,13 @@ met_second calls answers first second (y ∷ z ∷ after) met = record { state =
 earlier_met : IsMetOf (calls_in earlier_turns) (answers_in earlier_turns) (empty_state archive_b)
 earlier_met =
     let turned : AreTurns worked_begun [] sound_store earlier_turns sound_store = deeds_turned worked_begun worked_begun [] (first_deeds ++ held_deeds ++ second_deeds) refl earlier_fit in
-    met_second (calls_in earlier_turns) (answers_in earlier_turns) (empty_state worked_config) (empty_state archive_b) (redone_all leaving worked_begun (records_in earlier_turns))
+    met_second (calls_in earlier_turns) (answers_in earlier_turns) (empty_state worked_config) (empty_state archive_b) (redone_all leaving worked_begun (turn_records earlier_turns))
     (turns_met worked_begun [] earlier_turns (turns_once worked_begun [] sound_store earlier_turns sound_store refl turned))
 
 later_met : IsMetOf (calls_in later_turns) (answers_in later_turns) (ended 1_000_000 left_b)
 later_met =
-    met_second (calls_in later_turns) (answers_in later_turns) (ended 1_000_000 left_a) (ended 1_000_000 left_b) (redone_all leaving worked_begun (worked_checkpoint ++ records_in later_turns))
-    (subst (λ (rs : List Repository). AllZip (IsOwnMet (calls_in later_turns) (answers_in later_turns)) rs (redone_all leaving worked_begun (worked_checkpoint ++ records_in later_turns))) checkpoint_leaves
+    met_second (calls_in later_turns) (answers_in later_turns) (ended 1_000_000 left_a) (ended 1_000_000 left_b) (redone_all leaving worked_begun (worked_checkpoint ++ turn_records later_turns))
+    (subst (λ (rs : List Repository). AllZip (IsOwnMet (calls_in later_turns) (answers_in later_turns)) rs (redone_all leaving worked_begun (worked_checkpoint ++ turn_records later_turns))) checkpoint_leaves
     (turns_met worked_begun worked_checkpoint later_turns (turns_once worked_begun worked_checkpoint sound_store later_turns sound_store refl later_turned)))
 
 -- all its visits are whole
@@ -188,15 +188,15 @@ both_within =
     (ap (λ (state : RepoState). whole_visits (visits_given archive_b (ended 1_000_000 state) calls answers)) earlier_left ∙ later_whole)
 
 -- steps are those of the visits
-steps_by_visits : (config : Config) (state : RepoState) (eras : List VisitedEra) → steps_within config state eras ≡ map (flat_map (steps_of config)) (visits_within config state eras)
+steps_by_visits : (config : RepositoryConfig) (state : RepoState) (eras : List VisitedEra) → steps_within config state eras ≡ map (flat_map (steps_of config)) (visits_within config state eras)
 steps_by_visits config state [] = refl
 steps_by_visits config state (era ∷ eras) =
-    ap (λ (all : List (List Exchange)). era_steps config state era ∷ all) (steps_by_visits config (era_leaves config state era) eras)
+    ap (λ (all : List (List Transition)). era_steps config state era ∷ all) (steps_by_visits config (era_leaves config state era) eras)
 
 both_steps : steps_within archive_b (empty_state archive_b) worked_eras ≡ harvest_run ∷ later_run ∷ []
 both_steps =
     steps_by_visits archive_b (empty_state archive_b) worked_eras ∙ ap (map (flat_map (steps_of archive_b))) both_within
-    ∙ ap₂ (λ (xs ys : List Exchange). xs ∷ ys ∷ []) earlier_steps later_steps
+    ∙ ap₂ (λ (xs ys : List Transition). xs ∷ ys ∷ []) earlier_steps later_steps
 
 pub worked_over : (one : Harvest) × (two : Harvest) × (three : Harvest) × (four : Harvest) × (before : Visit) × (after : Visit) × AreOverCheckpoint one two three four before after
 worked_over =
@@ -208,7 +208,7 @@ worked_over =
       token.0,
       token.1,
       record {
-        successive = subst (λ (all : List (List Exchange)). AreSuccessiveWithin archive_b all prefix harvest_1 (harvest_2 ∷ harvest_3 ∷ harvest_4 ∷ [])) (sym both_steps) harvests_over;
+        successive = subst (λ (all : List (List Transition)). AreSuccessiveWithin archive_b all prefix harvest_1 (harvest_2 ∷ harvest_3 ∷ harvest_4 ∷ [])) (sym both_steps) harvests_over;
         got = got_4;
         earlier = visits archive_b (empty_state archive_b) (own_calls (codes "b") worked_calls);
         later = visits archive_b (ended 1_000_000 left_b) later_calls;

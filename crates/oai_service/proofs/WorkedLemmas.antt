@@ -4,7 +4,7 @@ use Rattle.std.specs.Prelude.{if◌then◌else◌}
 use Rattle.std.specs.List.{AllByRecursion, AllZip, flat_map, list_all}
 use Rattle.std.proofs.lemmas.Bool.{and_from, and_parts, cond-true, cond-false, false≢true}
 use Rattle.oai_item.specs.declared.faults.Fault.TheVariants.{NoMemory}
-use Rattle.oai_settings.specs.Config.{Config}
+use Rattle.oai_settings.specs.Config.{RepositoryConfig}
 use Rattle.oai_repo.specs.State.{RepoState, empty_state}
 use Rattle.oai_laws.specs.Harvests.{AreSuccessive, Harvest}
 use Rattle.oai_laws.specs.Runs.{IsPart}
@@ -23,7 +23,7 @@ use Rattle.oai_host.specs.Tasks.{Task, asking, depositing, refusing, task_of}
 use Rattle.oai_host.proofs.RedoLemmas.{alone_whole}
 use Rattle.oai_journal.specs.Records.{Entry}
 use Rattle.oai_journal.specs.declared.records.Kind.TheVariants as kind
-use Rattle.oai_durable.specs.Records.{call_in, left_as, left_by, part_kind, redone_all}
+use Rattle.oai_durable.specs.Records.{call_in, left_as, left_by_entry, part_kind, redone_all}
 use Rattle.oai_headline.specs.Chains.{IsFollowing}
 use Rattle.oai_headline.specs.Headline.{own_steps, own_visits}
 use Rattle.oai_headline.specs.Throughout.{IsTrueVisit, is_asked, is_done_whole, left_by as left_by_calls, calls_done, calls_done_by, calls_done_in, own_given, visits_given, whole_visits, with_lines}
@@ -34,8 +34,8 @@ use Rattle.oai_headline.proofs.GivenLemmas.{asking_whole}
 use Rattle.oai_headline.proofs.TakenLemmas.{IsAsking}
 use Rattle.oai_headline.proofs.WorkedCalls.{last_calls}
 use Rattle.oai_service.specs.Hosting.{leaving}
-use Rattle.oai_service.specs.Turns.{AreTurns, IsTurn, Turn, answers_in, calls_in, records_in, was_performed}
-use Rattle.oai_service.specs.WorkedLives.{Deed, done_once, done_whole, entry_in, exchanged_at, first_deeds, held_deeds, second_deeds, turns_at, worked_begun}
+use Rattle.oai_service.specs.Turns.{AreTurns, IsTurn, Turn, answers_in, calls_in, turn_records, was_performed}
+use Rattle.oai_service.specs.WorkedLives.{Deed, done_once, done_whole, entry_of_deed, exchanged_at, first_deeds, held_deeds, second_deeds, turns_at, worked_begun}
 use Rattle.oai_service.proofs.MachineLemmas.{IsOnce, leads_to_one, names_in, names_left, once_exchanged, reply_whole, sound_host, sound_store, whole_exchanged}
 use Rattle.oai_service.proofs.OwnLemmas.{IsMetAt, IsOwnMet, left_whole, other_answer, other_call, own_answer, own_call, turns_met, turns_once}
 
@@ -43,7 +43,7 @@ use Rattle.oai_service.proofs.OwnLemmas.{IsMetAt, IsOwnMet, left_whole, other_an
 
 pub redone_append : (kept : List Repository) (entries others : List Entry) → redone_all leaving kept (entries ++ others) ≡ redone_all leaving (redone_all leaving kept entries) others
 redone_append kept [] others = refl
-redone_append kept (entry ∷ entries) others = redone_append (left_by leaving kept entry) entries others
+redone_append kept (entry ∷ entries) others = redone_append (left_by_entry leaving kept entry) entries others
 
 -- ---- deeds are turns
 
@@ -52,23 +52,23 @@ abbrev pub IsFit : List (List ℕ) → Deed → Type 0
 IsFit names (done_whole entry) = (leads_to_one (call_in entry).target names ≡ true) × (part_kind entry.kind ≡ None)
 IsFit names (done_once call entry) = (leads_to_one call.target names ≡ true) × (part_kind entry.kind ≡ None) × IsOnce call (call_in entry)
 
-pub left_call : (kept : List Repository) (entry : Entry) → part_kind entry.kind ≡ None → left_by leaving kept entry ≡ host.redone_all kept (call_in entry)
+pub left_call : (kept : List Repository) (entry : Entry) → part_kind entry.kind ≡ None → left_by_entry leaving kept entry ≡ host.redone_repositories kept (call_in entry)
 left_call kept entry is = ap (left_as leaving kept entry) is
 
-pub names_after : (kept : List Repository) (entry : Entry) → part_kind entry.kind ≡ None → names_in (left_by leaving kept entry) ≡ names_in kept
+pub names_after : (kept : List Repository) (entry : Entry) → part_kind entry.kind ≡ None → names_in (left_by_entry leaving kept entry) ≡ names_in kept
 names_after kept entry is = ap names_in (left_call kept entry is) ∙ names_left (call_in entry) kept
 
-pub deed_kind : (names : List (List ℕ)) (deed : Deed) → IsFit names deed → part_kind (entry_in deed).kind ≡ None
+pub deed_kind : (names : List (List ℕ)) (deed : Deed) → IsFit names deed → part_kind (entry_of_deed deed).kind ≡ None
 deed_kind names (done_whole entry) fit = fit.1
 deed_kind names (done_once call entry) fit = fit.1
 
-deed_turn : (kept : List Repository) (deed : Deed) → IsFit (names_in kept) deed → IsTurn kept sound_store (was_performed (exchanged_at kept deed)) (left_by leaving kept (entry_in deed)) sound_store
+deed_turn : (kept : List Repository) (deed : Deed) → IsFit (names_in kept) deed → IsTurn kept sound_store (was_performed (exchanged_at kept deed)) (left_by_entry leaving kept (entry_of_deed deed)) sound_store
 deed_turn kept (done_whole entry) fit =
     subst (λ (rs : List Repository). IsExchanged (call_in entry) (reply_all kept (call_in entry)) (sound_host kept) (sound_host rs)) (sym (left_call kept entry fit.1)) (whole_exchanged (call_in entry) kept fit.0)
 deed_turn kept (done_once call entry) fit =
     subst (λ (rs : List Repository). IsExchanged call (failed NoMemory (Some 1)) (sound_host kept) (sound_host rs)) (sym (left_call kept entry fit.1)) (once_exchanged call (call_in entry) kept fit.2 fit.0)
 
-pub own_entry : (kept : List Repository) (deed : Deed) → (exchanged_at kept deed).own ≡ entry_in deed ∷ []
+pub own_entry : (kept : List Repository) (deed : Deed) → (exchanged_at kept deed).own ≡ entry_of_deed deed ∷ []
 own_entry kept (done_whole entry) = refl
 own_entry kept (done_once call entry) = refl
 
@@ -76,11 +76,11 @@ pub deeds_turned : (begun kept : List Repository) (before : List Entry) (deeds :
     → AreTurns begun before sound_store (turns_at kept deeds) sound_store
 deeds_turned begun kept before [] is fit = refl
 deeds_turned begun kept before (deed ∷ deeds) is fit =
-    let entry : Entry = entry_in deed in
-    let now : List Repository = left_by leaving kept entry in
+    let entry : Entry = entry_of_deed deed in
+    let now : List Repository = left_by_entry leaving kept entry in
     let own : (exchanged_at kept deed).own ≡ entry ∷ [] = own_entry kept deed in
     let next : redone_all leaving begun (before ++ (exchanged_at kept deed).own) ≡ now =
-    ap (λ (es : List Entry). redone_all leaving begun (before ++ es)) own ∙ redone_append begun before (entry ∷ []) ∙ ap (λ (rs : List Repository). left_by leaving rs entry) is in
+    ap (λ (es : List Entry). redone_all leaving begun (before ++ es)) own ∙ redone_append begun before (entry ∷ []) ∙ ap (λ (rs : List Repository). left_by_entry leaving rs entry) is in
     let here : IsTurn (redone_all leaving begun before) sound_store (was_performed (exchanged_at kept deed)) (redone_all leaving begun (before ++ (exchanged_at kept deed).own)) sound_store =
     subst (λ (rs : List Repository). IsTurn (redone_all leaving begun before) sound_store (was_performed (exchanged_at kept deed)) rs sound_store) (sym next)
     (subst (λ (rs : List Repository). IsTurn rs sound_store (was_performed (exchanged_at kept deed)) now sound_store) (sym is) (deed_turn kept deed fit.0)) in
@@ -130,11 +130,11 @@ pub done_planned : (name : List ℕ) (kept : List Repository) (deeds : List Deed
     → calls_done (own_calls name (calls_in (turns_at kept deeds))) (own_answers name (calls_in (turns_at kept deeds)) (answers_in (turns_at kept deeds))) ≡ planned name deeds
 done_planned name kept [] = refl
 done_planned name kept (done_whole entry ∷ deeds) =
-    let now : List Repository = left_by leaving kept entry in
+    let now : List Repository = left_by_entry leaving kept entry in
     done_first name (call_in entry) (reply_all kept (call_in entry)) (calls_in (turns_at now deeds)) (answers_in (turns_at now deeds)) (asked_alone (call_in entry)) (planned name deeds)
     (asked_whole (call_in entry) (reply_all kept (call_in entry)) (task_of (call_in entry)) (reply_none (call_in entry) kept)) (done_planned name now deeds)
 done_planned name kept (done_once call entry ∷ deeds) =
-    let now : List Repository = left_by leaving kept entry in
+    let now : List Repository = left_by_entry leaving kept entry in
     done_first name call (failed NoMemory (Some 1)) (calls_in (turns_at now deeds)) (answers_in (turns_at now deeds)) (calls_done_by call (failed NoMemory (Some 1))) (planned name deeds) refl
     (done_planned name now deeds)
 
@@ -146,8 +146,8 @@ call_of_deed (done_once call entry) = call
 
 pub calls_are : (kept : List Repository) (deeds : List Deed) → calls_in (turns_at kept deeds) ≡ map call_of_deed deeds
 calls_are kept [] = refl
-calls_are kept (done_whole entry ∷ deeds) = ap (λ (cs : List Call). call_in entry ∷ cs) (calls_are (left_by leaving kept entry) deeds)
-calls_are kept (done_once call entry ∷ deeds) = ap (λ (cs : List Call). call ∷ cs) (calls_are (left_by leaving kept entry) deeds)
+calls_are kept (done_whole entry ∷ deeds) = ap (λ (cs : List Call). call_in entry ∷ cs) (calls_are (left_by_entry leaving kept entry) deeds)
+calls_are kept (done_once call entry ∷ deeds) = ap (λ (cs : List Call). call ∷ cs) (calls_are (left_by_entry leaving kept entry) deeds)
 
 abbrev pub are_whole : List ℕ → List Deed → Bool
 are_whole name [] = true
@@ -169,15 +169,15 @@ not_so false h so = false≢true so
 pub none_of_deeds : (name : List ℕ) (kept : List Repository) (deeds : List Deed) → are_whole name deeds ≡ true → none_failed (own_answers name (calls_in (turns_at kept deeds)) (answers_in (turns_at kept deeds))) ≡ true
 none_of_deeds name kept [] whole = refl
 none_of_deeds name kept (done_whole entry ∷ deeds) whole =
-    let now : List Repository = left_by leaving kept entry in
+    let now : List Repository = left_by_entry leaving kept entry in
     none_first name (call_in entry) (reply_all kept (call_in entry)) (calls_in (turns_at now deeds)) (answers_in (turns_at now deeds)) (λ own. reply_none (call_in entry) kept) (none_of_deeds name now deeds whole)
 none_of_deeds name kept (done_once call entry ∷ deeds) whole =
-    let now : List Repository = left_by leaving kept entry in
+    let now : List Repository = left_by_entry leaving kept entry in
     let parts = and_parts (not (leads_to_repository name call.target)) (are_whole name deeds) whole in
     none_first name call (failed NoMemory (Some 1)) (calls_in (turns_at now deeds)) (answers_in (turns_at now deeds)) (λ own. absurd (not_so (leads_to_repository name call.target) parts.0 own))
     (none_of_deeds name now deeds parts.1)
 
-all_whole : (config : Config) (state : RepoState) (calls : List Call) → list_all (λ (call : Call). is_asked (task_of call)) calls ≡ true
+all_whole : (config : RepositoryConfig) (state : RepoState) (calls : List Call) → list_all (λ (call : Call). is_asked (task_of call)) calls ≡ true
     → whole_visits (visits_given config state calls (answers_alone config state calls)) ≡ visits config state calls
 all_whole config state [] asked = refl
 all_whole config state (call ∷ calls) asked =
@@ -214,7 +214,7 @@ part_none : (all : List Visit) → IsPart [] all
 part_none [] = refl
 part_none (visit ∷ all) = inl (part_none all)
 
-part_front : (config : Config) (state : RepoState) (calls others : List Call) (some : List Visit) → IsPart some (visits config state calls) → IsPart some (visits config state (calls ++ others))
+part_front : (config : RepositoryConfig) (state : RepoState) (calls others : List Call) (some : List Visit) → IsPart some (visits config state calls) → IsPart some (visits config state (calls ++ others))
 part_front config state [] others some part = subst (λ (vs : List Visit). IsPart vs (visits config state others)) (sym part) (part_none (visits config state others))
 part_front config state (call ∷ calls) others some (inl part) = inl (part_front config (exchanged_alone config state call).1 calls others some part)
 part_front config state (call ∷ calls) others some (inr part) = inr (part.0, part.1, part_front config (exchanged_alone config state call).1 calls others part.0 part.2)
@@ -303,9 +303,9 @@ pub with_deeds : (its : List Deed) (found : List Entry) → redone_all leaving w
 with_deeds its found starts fits at_a at_b whole first second last one two three chain successive =
     let turns : List Turn = turns_at worked_begun its in
     let turned : AreTurns worked_begun found sound_store turns sound_store = deeds_turned worked_begun worked_begun found its starts fits in
-    let met = subst (λ (rs : List Repository). AllZip (IsOwnMet (calls_in turns) (answers_in turns)) rs (redone_all leaving worked_begun (found ++ records_in turns))) starts
+    let met = subst (λ (rs : List Repository). AllZip (IsOwnMet (calls_in turns) (answers_in turns)) rs (redone_all leaving worked_begun (found ++ turn_records turns))) starts
     (turns_met worked_begun found turns (turns_once worked_begun found sound_store turns sound_store refl turned)) in
-    let both : AreMetBoth (calls_in turns) (answers_in turns) = both_met (calls_in turns) (answers_in turns) (redone_all leaving worked_begun (found ++ records_in turns)) met in (
+    let both : AreMetBoth (calls_in turns) (answers_in turns) = both_met (calls_in turns) (answers_in turns) (redone_all leaving worked_begun (found ++ turn_records turns)) met in (
       turned,
       following_a (calls_in turns) (answers_in turns) last_calls first second last both.met_a.given (done_planned (codes "a") worked_begun its ∙ at_a) chain,
       successive_b (calls_in turns) (answers_in turns) both.state_b one two three both.met_b (none_of_deeds (codes "b") worked_begun its whole) (ap (own_calls (codes "b")) (calls_are worked_begun its) ∙ at_b) asked_b successive,

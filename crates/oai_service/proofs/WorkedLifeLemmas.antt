@@ -14,7 +14,7 @@ use Rattle.oai_front.specs.Fields.{any_close, framing_of, is_alike, length_writt
 use Rattle.oai_front.specs.Heads.{answer_bytes, answer_head, plain, status_line}
 use Rattle.oai_front.specs.Messages.{Message, Splits, framing_in}
 use Rattle.oai_front.specs.Messages as end
-use Rattle.oai_front.specs.Performing.{Done, answers_of, done_bytes, messages_of}
+use Rattle.oai_front.specs.Performing.{AnsweredMessage, answers_of, done_bytes, messages_of}
 use Rattle.oai_front.specs.Runs.{Served, Serves, done_on}
 use Rattle.oai_front.specs.declared.stages.Stage.TheVariants.{Reading}
 use Rattle.oai_front.proofs.RunLemmas.{done_join, none_unfinished}
@@ -29,14 +29,14 @@ use Rattle.oai_serving.specs.Tables.{AreAllAnswered, AreAllThere, AreGoneAnswere
 use Rattle.oai_serving.specs.declared.faults.ServeFault.TheVariants.{Wait}
 use Rattle.oai_durable.specs.Checkpoints.{IsCheckpoint}
 use Rattle.oai_durable.specs.Journaled.{IsExchange, IsHeld, IsSettled, Parts}
-use Rattle.oai_durable.specs.Records.{call_in, left_by, redone_all}
+use Rattle.oai_durable.specs.Records.{call_in, left_by_entry, redone_all}
 use Rattle.oai_headline.specs.Worked.{delete_line, deposit_line}
 use Rattle.oai_service.specs.Hosting.{AreNumbered, hosting, leaving, saving}
 use Rattle.oai_service.specs.Lives.{AreServerLives, IsServerLife, ServerLife}
-use Rattle.oai_durable.specs.Served.{AreThose, told_by, Told as Answered}
-use Rattle.oai_service.specs.Service.{AreKept, IsReceivedIn, IsRecordedIn, Told, all_turns}
-use Rattle.oai_service.specs.Turns.{AreTurns, Turn, its, records_in, was_performed}
-use Rattle.oai_service.specs.WorkedLives.{AreWorkedLives, Deed, HasLeft, IsConnected, Memory, Wire, asked_in, deposited, done_once, done_whole, entry_in, exchanged_at, first_deeds, held_deeds, in_memory, requested, second_deeds, sent_as, sent_for, third_deeds, turns_at, unread_of, worked_begun, worked_checkpoint, worked_kept, worked_left, written_to}
+use Rattle.oai_durable.specs.Served.{AreThose, told_by, TimedAnswer as Answered}
+use Rattle.oai_service.specs.Service.{AreResumed, IsReceivedIn, IsRecordedIn, LoggedTurns, all_turns}
+use Rattle.oai_service.specs.Turns.{AreTurns, Turn, its, turn_records, was_performed}
+use Rattle.oai_service.specs.WorkedLives.{AreWorkedLives, Deed, HasLeft, IsConnected, Memory, Wire, asked_in, deposited, done_once, done_whole, entry_of_deed, exchanged_at, first_deeds, held_deeds, in_memory, requested, second_deeds, sent_as, sent_for, third_deeds, turns_at, unread_of, worked_begun, worked_checkpoint, worked_kept, worked_left, written_to}
 use Rattle.oai_service.proofs.ClientLemmas.{is_sent, message_of, read_all}
 use Rattle.oai_service.proofs.LifeLemmas.{long_append}
 use Rattle.oai_service.proofs.MachineLemmas.{names_in, once_exchanged, sound_host, sound_store, whole_exchanged}
@@ -52,14 +52,14 @@ parts_at kept entries durable = record { handler = sound_host kept; journal = re
 abbrev IsDeedExchange : List Repository → List Entry → ℕ → Deed → Type 0
 IsDeedExchange kept entries durable deed =
     let e = exchanged_at kept deed in
-    IsExchange (hosting (λ (h : HostState). h)) in_memory (parts_at kept entries durable) e.moment e.asked e.answer (parts_at (left_by leaving kept (entry_in deed)) (entries ++ entry_in deed ∷ []) durable)
+    IsExchange (hosting (λ (h : HostState). h)) in_memory (parts_at kept entries durable) e.moment e.asked e.answer (parts_at (left_by_entry leaving kept (entry_of_deed deed)) (entries ++ entry_of_deed deed ∷ []) durable)
 
 now_held : (kept : List Repository) (entry : Entry) (stood : List Entry) (durable : ℕ) (begun : List Repository) (entries : List Entry) (count : ℕ)
     → IsHeld (hosting (λ (h : HostState). h)) in_memory begun (parts_at kept stood durable) entries count
-    → IsHeld (hosting (λ (h : HostState). h)) in_memory begun (parts_at (left_by leaving kept entry) (stood ++ entry ∷ []) durable) (entries ++ entry ∷ []) count
+    → IsHeld (hosting (λ (h : HostState). h)) in_memory begun (parts_at (left_by_entry leaving kept entry) (stood ++ entry ∷ []) durable) (entries ++ entry ∷ []) count
 now_held kept entry stood durable begun entries count held = record {
   records = (ap (λ (es : List Entry). es ++ entry ∷ []) held.records.0, held.records.1);
-  kept = λ so. ap (λ (rs : List Repository). left_by leaving rs entry) (held.kept refl) ∙ sym (redone_append begun entries (entry ∷ []));
+  kept = λ so. ap (λ (rs : List Repository). left_by_entry leaving rs entry) (held.kept refl) ∙ sym (redone_append begun entries (entry ∷ []));
 }
 
 deed_exchange : (kept : List Repository) (entries : List Entry) (durable : ℕ) (deed : Deed) → IsFit (names_in kept) deed → IsDeedExchange kept entries durable deed
@@ -88,7 +88,7 @@ deed_exchange kept stood durable (done_once call entry) fit = record {
 
 -- ---- messages
 
-abbrev done_at : List Repository → Deed → Done
+abbrev done_at : List Repository → Deed → AnsweredMessage
 done_at kept deed = record { message = message_of (exchanged_at kept deed).asked; answer = (exchanged_at kept deed).answer }
 
 -- over the connection of that number
@@ -97,17 +97,17 @@ served_at number kept deed = record { number = number; moment = (exchanged_at ke
 
 abbrev served_all : ℕ → List Repository → List Deed → List Served
 served_all number kept [] = []
-served_all number kept (deed ∷ deeds) = served_at number kept deed ∷ served_all number (left_by leaving kept (entry_in deed)) deeds
+served_all number kept (deed ∷ deeds) = served_at number kept deed ∷ served_all number (left_by_entry leaving kept (entry_of_deed deed)) deeds
 
 abbrev entries_in : List Deed → List Entry
-entries_in deeds = map entry_in deeds
+entries_in deeds = map entry_of_deed deeds
 
 serve_deeds : (number : ℕ) (kept : List Repository) (entries : List Entry) (durable : ℕ) (deeds : List Deed) → AllByRecursion (IsFit (names_in kept)) deeds
     → Serves (IsExchange (hosting (λ (h : HostState). h)) in_memory) (parts_at kept entries durable) (served_all number kept deeds) (parts_at (redone_all leaving kept (entries_in deeds)) (entries ++ entries_in deeds) durable)
 serve_deeds number kept entries durable [] fit = ap (λ (es : List Entry). parts_at kept es durable) (append-nil entries)
 serve_deeds number kept entries durable (deed ∷ deeds) fit =
-    let entry : Entry = entry_in deed in
-    let now : List Repository = left_by leaving kept entry in
+    let entry : Entry = entry_of_deed deed in
+    let now : List Repository = left_by_entry leaving kept entry in
     let names : names_in now ≡ names_in kept = names_after kept entry (deed_kind (names_in kept) deed fit.0) in
     let rest = serve_deeds number now (entries ++ entry ∷ []) durable deeds (subst (λ (ns : List (List ℕ)). AllByRecursion (IsFit ns) deeds) (sym names) fit.1) in (
       parts_at now (entries ++ entry ∷ []) durable,
@@ -119,9 +119,9 @@ serve_deeds number kept entries durable (deed ∷ deeds) fit =
 -- ---- clients
 
 -- what was done of them, over whichever connection
-abbrev done_all : List Repository → List Deed → List Done
+abbrev done_all : List Repository → List Deed → List AnsweredMessage
 done_all kept [] = []
-done_all kept (deed ∷ deeds) = done_at kept deed ∷ done_all (left_by leaving kept (entry_in deed)) deeds
+done_all kept (deed ∷ deeds) = done_at kept deed ∷ done_all (left_by_entry leaving kept (entry_of_deed deed)) deeds
 
 abbrev asked_of : Deed → Asked
 asked_of (done_whole entry) = asked_in (call_in entry)
@@ -137,26 +137,26 @@ asked_at kept (done_once call entry) = refl
 messages_done : (kept : List Repository) (deeds : List Deed) → messages_of (done_all kept deeds) ≡ map message_of (asked_all deeds)
 messages_done kept [] = refl
 messages_done kept (deed ∷ deeds) =
-    let now : List Repository = left_by leaving kept (entry_in deed) in
+    let now : List Repository = left_by_entry leaving kept (entry_of_deed deed) in
     ap (λ (asked : Asked). message_of asked ∷ messages_of (done_all now deeds)) (asked_at kept deed)
     ∙ ap (λ (ms : List Message). message_of (asked_of deed) ∷ ms) (messages_done now deeds)
 
 sent_done : (kept : List Repository) (deeds : List Deed) → flat_map sent_for (done_all kept deeds) ≡ flat_map sent_as (asked_all deeds)
 sent_done kept [] = refl
 sent_done kept (deed ∷ deeds) =
-    let now : List Repository = left_by leaving kept (entry_in deed) in
+    let now : List Repository = left_by_entry leaving kept (entry_of_deed deed) in
     ap (λ (asked : Asked). sent_as asked ++ flat_map sent_for (done_all now deeds)) (asked_at kept deed)
     ∙ ap (λ (xs : List ℕ). sent_as (asked_of deed) ++ xs) (sent_done now deeds)
 
 first_done : (kept : List Repository) (deeds : List Deed) → done_on 1 (served_all 1 kept deeds) ≡ done_all kept deeds
 unfolding done_on
 first_done kept [] = refl
-first_done kept (deed ∷ deeds) = ap (λ (ds : List Done). done_at kept deed ∷ ds) (first_done (left_by leaving kept (entry_in deed)) deeds)
+first_done kept (deed ∷ deeds) = ap (λ (ds : List AnsweredMessage). done_at kept deed ∷ ds) (first_done (left_by_entry leaving kept (entry_of_deed deed)) deeds)
 
 other_done : (kept : List Repository) (deeds : List Deed) → done_on 2 (served_all 1 kept deeds) ≡ []
 unfolding done_on
 other_done kept [] = refl
-other_done kept (deed ∷ deeds) = other_done (left_by leaving kept (entry_in deed)) deeds
+other_done kept (deed ∷ deeds) = other_done (left_by_entry leaving kept (entry_of_deed deed)) deeds
 
 -- a client that sends the messages of these deeds, as it is accepted
 abbrev client_of : List Deed → Wire
@@ -176,41 +176,41 @@ abbrev clients_of : List Deed → List Deed → List Wire
 clients_of deeds lost = client_of deeds ∷ client_of lost ∷ []
 
 -- all but the end of the last answer is written, which waits; or all is written
-abbrev all_but : List Done → List ℕ
+abbrev all_but : List AnsweredMessage → List ℕ
 all_but [] = []
 all_but (done ∷ []) = take 8 (done_bytes done)
 all_but (done ∷ next ∷ others) = done_bytes done ++ all_but (next ∷ others)
 
-abbrev end_in : List Done → List ℕ
+abbrev end_in : List AnsweredMessage → List ℕ
 end_in [] = []
 end_in (done ∷ []) = drop 8 (done_bytes done)
 end_in (done ∷ next ∷ others) = end_in (next ∷ others)
 
-abbrev links_of : Bool → List Done → List ℕ → Slab (Link Wire)
+abbrev links_of : Bool → List AnsweredMessage → List ℕ → Slab (Link Wire)
 links_of true done held = record { slots = Some (link_of 1 (all_but done) (end_in done)) ∷ Some (link_of 2 [] held) ∷ []; vacant_key = 2; capacity = 2 }
 links_of false done held = record { slots = None ∷ Some (link_of 2 [] held) ∷ []; vacant_key = 0; capacity = 2 }
 
 -- and those that were let go
-abbrev gone_of : Bool → List Done → List (ℕ × Wire)
+abbrev gone_of : Bool → List AnsweredMessage → List (ℕ × Wire)
 gone_of true done = []
 gone_of false done = (1, record { written = answers_of done; unread = [] }) ∷ []
 
-abbrev sent_of : Bool → List Done → List ℕ
+abbrev sent_of : Bool → List AnsweredMessage → List ℕ
 sent_of true done = all_but done
 sent_of false done = answers_of done
 
-abbrev left_of : Bool → List Done → List ℕ
+abbrev left_of : Bool → List AnsweredMessage → List ℕ
 left_of true done = end_in done
 left_of false done = []
 
-answers_end : (done : List Done) → answers_of done ≡ all_but done ++ end_in done
+answers_end : (done : List AnsweredMessage) → answers_of done ≡ all_but done ++ end_in done
 unfolding answers_of
 answers_end [] = refl
 answers_end (done ∷ []) = append-nil (done_bytes done) ∙ sym (take-append-drop 8 (done_bytes done))
 answers_end (done ∷ next ∷ others) =
     ap (λ (xs : List ℕ). done_bytes done ++ xs) (answers_end (next ∷ others)) ∙ sym (append_assoc (done_bytes done) (all_but (next ∷ others)) (end_in (next ∷ others)))
 
-both_of : (waits : Bool) (done : List Done) → answers_of done ≡ sent_of waits done ++ left_of waits done
+both_of : (waits : Bool) (done : List AnsweredMessage) → answers_of done ≡ sent_of waits done ++ left_of waits done
 both_of true done = answers_end done
 both_of false done = sym (append-nil (answers_of done))
 
@@ -220,7 +220,7 @@ none_ahead xs = sym (append-nil (xs ++ []) ∙ append-nil xs)
 first_received : (kept : List Repository) (deeds : List Deed) (waits : Bool) → list_all is_sent (asked_all deeds) ≡ true
     → (let done = done_all kept deeds in IsReceived written_to unread_of (client_of deeds) (link_of 1 (sent_of waits done) (left_of waits done)).stream done)
 first_received kept deeds waits may =
-    let done : List Done = done_all kept deeds in
+    let done : List AnsweredMessage = done_all kept deeds in
     record {
       came = flat_map sent_as (asked_all deeds);
       others = [];
@@ -268,7 +268,7 @@ first_answered : (kept : List Repository) (deeds lost : List Deed) (waits : Bool
     → done_on 1 served ≡ done_all kept deeds → list_all is_sent (asked_all deeds) ≡ true
     → IsAnswered written_to unread_of accepted served 1 (link_of 1 (sent_of waits (done_all kept deeds)) (left_of waits (done_all kept deeds))).stream
 first_answered kept deeds lost waits accepted served are own may =
-    let done : List Done = done_all kept deeds in
+    let done : List AnsweredMessage = done_all kept deeds in
     let stream : Wire = (link_of 1 (sent_of waits done) (left_of waits done)).stream in
     record {
       first = client_of deeds;
@@ -315,7 +315,7 @@ gone_answered kept deeds lost false accepted served are own may = λ number last
     (first_answered kept deeds lost false accepted served are own may)
 
 -- both clients are connected, or the first one left
-both_there : (accepted : List Wire) (deeds lost : List Deed) (waits : Bool) (done : List Done) (held : List ℕ) → accepted ≡ clients_of deeds lost
+both_there : (accepted : List Wire) (deeds lost : List Deed) (waits : Bool) (done : List AnsweredMessage) (held : List ℕ) → accepted ≡ clients_of deeds lost
     → AreAllThere accepted (gone_of waits done) (links_of waits done held)
 both_there accepted deeds lost waits done held are zero low high = absurd (omega (arith, low))
 both_there accepted deeds lost true done held are (suc zero) low high = inl (record { key = 0; link = link_of 1 (all_but done) (end_in done); stands = refl; is = refl })
@@ -356,7 +356,7 @@ none_before (x ∷ accepted) others none = cc
 served_later : (number : ℕ) (accepted : List Wire) (earlier served : List Served) (links : Slab (Link Wire)) → 0 ≡ length accepted → 0 < number
     → AreLinksKept written_to unread_of accepted earlier links → done_on number (earlier ++ served) ≡ done_on number served
 served_later number accepted earlier served links none above kept =
-    done_join number earlier served ∙ ap (λ (ds : List Done). ds ++ done_on number served) (kept.later number (subst (λ (n : ℕ). n < number) none above))
+    done_join number earlier served ∙ ap (λ (ds : List AnsweredMessage). ds ++ done_on number served) (kept.later number (subst (λ (n : ℕ). n < number) none above))
 
 -- ---- a life
 
@@ -366,11 +366,11 @@ no_links = record { slots = []; vacant_key = 0; capacity = 0 }
 -- each message is served in a round of its own, since nothing is read of a client while its answer waits
 abbrev rounds_of : List Repository → List Deed → List (List Served)
 rounds_of kept [] = []
-rounds_of kept (deed ∷ deeds) = (served_at 1 kept deed ∷ []) ∷ rounds_of (left_by leaving kept (entry_in deed)) deeds
+rounds_of kept (deed ∷ deeds) = (served_at 1 kept deed ∷ []) ∷ rounds_of (left_by_entry leaving kept (entry_of_deed deed)) deeds
 
 in_rounds : (kept : List Repository) (deeds : List Deed) → served_in (rounds_of kept deeds) ≡ served_all 1 kept deeds
 in_rounds kept [] = refl
-in_rounds kept (deed ∷ deeds) = ap (λ (ss : List Served). served_at 1 kept deed ∷ ss) (in_rounds (left_by leaving kept (entry_in deed)) deeds)
+in_rounds kept (deed ∷ deeds) = ap (λ (ss : List Served). served_at 1 kept deed ∷ ss) (in_rounds (left_by_entry leaving kept (entry_of_deed deed)) deeds)
 
 first_in_rounds : (kept : List Repository) (deeds : List Deed) → done_on 1 (served_in (rounds_of kept deeds)) ≡ done_all kept deeds
 first_in_rounds kept deeds = ap (done_on 1) (in_rounds kept deeds) ∙ first_done kept deeds
@@ -384,8 +384,8 @@ settle_deeds : (kept : List Repository) (entries : List Entry) (deeds : List Dee
     (parts_at (redone_all leaving kept (entries_in deeds)) all (length all)))
 settle_deeds kept entries [] fit = ap (λ (es : List Entry). parts_at kept es (length es)) (append-nil entries)
 settle_deeds kept entries (deed ∷ deeds) fit =
-    let entry : Entry = entry_in deed in
-    let now : List Repository = left_by leaving kept entry in
+    let entry : Entry = entry_of_deed deed in
+    let now : List Repository = left_by_entry leaving kept entry in
     let stand : List Entry = entries ++ entry ∷ [] in
     let names : names_in now ≡ names_in kept = names_after kept entry (deed_kind (names_in kept) deed fit.0) in
     let performed : Parts HostState Memory = parts_at now stand (length entries) in
@@ -475,21 +475,21 @@ is_life begun found deeds held lost waits fit behind_fit may =
       leaves = record {
         count = length (entries ++ entries_in held);
         enough = long_append entries (entries_in held);
-        is = held_taken entries (entries_in held) (entries_in lost) ∙ ap (λ (es : List Entry). take (length (entries ++ entries_in held)) (entries ++ es)) (sym (map-append entry_in held lost));
+        is = held_taken entries (entries_in held) (entries_in lost) ∙ ap (λ (es : List Entry). take (length (entries ++ entries_in held)) (entries ++ es)) (sym (map-append entry_of_deed held lost));
       };
     }
 
 turns_behind : (kept : List Repository) (deeds others : List Deed) → turns_at kept (deeds ++ others) ≡ turns_at kept deeds ++ turns_at (redone_all leaving kept (entries_in deeds)) others
 turns_behind kept [] others = refl
-turns_behind kept (deed ∷ deeds) others = ap (λ (ts : List Turn). was_performed (exchanged_at kept deed) ∷ ts) (turns_behind (left_by leaving kept (entry_in deed)) deeds others)
+turns_behind kept (deed ∷ deeds) others = ap (λ (ts : List Turn). was_performed (exchanged_at kept deed) ∷ ts) (turns_behind (left_by_entry leaving kept (entry_of_deed deed)) deeds others)
 
 -- what is told of deeds is what was served
 deeds_told : (number : ℕ) (kept : List Repository) (deeds : List Deed) → AreThose (map its (turns_at kept deeds)) (served_all number kept deeds)
 deeds_told number kept [] = refl
 deeds_told number kept (done_whole entry ∷ deeds) =
-    ap (λ (ts : List Answered). told_by (exchanged_at kept (done_whole entry)) ∷ ts) (deeds_told number (left_by leaving kept entry) deeds)
+    ap (λ (ts : List Answered). told_by (exchanged_at kept (done_whole entry)) ∷ ts) (deeds_told number (left_by_entry leaving kept entry) deeds)
 deeds_told number kept (done_once call entry ∷ deeds) =
-    ap (λ (ts : List Answered). told_by (exchanged_at kept (done_once call entry)) ∷ ts) (deeds_told number (left_by leaving kept entry) deeds)
+    ap (λ (ts : List Answered). told_by (exchanged_at kept (done_once call entry)) ∷ ts) (deeds_told number (left_by_entry leaving kept entry) deeds)
 
 life_told : (begun : List Repository) (found : List Entry) (deeds held lost : List Deed) (waits : Bool) → list_all is_sent (asked_all deeds) ≡ true
     → (let kept = redone_all leaving begun found in
@@ -523,26 +523,26 @@ life_recorded begun found deeds held lost waits fit = λ so.
     }
 
 -- an answer begins with the protocol
-protocol_first : (done : Done) → done_bytes done ≡ codes "HTTP/1.1 " ++ drop 9 (done_bytes done)
+protocol_first : (done : AnsweredMessage) → done_bytes done ≡ codes "HTTP/1.1 " ++ drop 9 (done_bytes done)
 unfolding answer_bytes answer_head status_line plain
 protocol_first done = refl
 
 not_none : (others : List ℕ) → codes "HTTP/1.1" ++ others ≡ [] → ⊥
 not_none others none = cc
 
-all_but_some : (done : List Done) → 0 < length done → all_but done ≢ []
+all_but_some : (done : List AnsweredMessage) → 0 < length done → all_but done ≢ []
 all_but_some [] many = absurd (omega arith)
 all_but_some (done ∷ []) many = λ none. not_none [] (sym (ap (take 8) (protocol_first done)) ∙ none)
 all_but_some (done ∷ next ∷ others) many =
     λ none. not_none (codes " " ++ drop 9 (done_bytes done) ++ all_but (next ∷ others)) (sym (ap (λ (xs : List ℕ). xs ++ all_but (next ∷ others)) (protocol_first done)) ∙ none)
 
-answers_some : (done : List Done) → 0 < length done → answers_of done ≢ []
+answers_some : (done : List AnsweredMessage) → 0 < length done → answers_of done ≢ []
 unfolding answers_of
 answers_some [] many = absurd (omega arith)
 answers_some (done ∷ others) many =
     λ none. not_none (codes " " ++ drop 9 (done_bytes done) ++ answers_of others) (sym (ap (λ (xs : List ℕ). xs ++ answers_of others) (protocol_first done)) ∙ none)
 
-end_some : (done : List Done) → 0 < length done → nat_lt 0 (length (end_in done)) ≡ true
+end_some : (done : List AnsweredMessage) → 0 < length done → nat_lt 0 (length (end_in done)) ≡ true
 end_some [] many = absurd (omega arith)
 end_some (done ∷ []) many =
     ap (λ (xs : List ℕ). nat_lt 0 (length (drop 8 xs))) (protocol_first done) ∙ lt-ltb 0 (suc (length (drop 9 (done_bytes done)))) (omega arith)
@@ -555,7 +555,7 @@ some_done kept (deed ∷ deeds) many = omega arith
 life_connected : (begun : List Repository) (found : List Entry) (deeds held lost : List Deed) → 0 < length deeds → IsConnected (life_of begun found deeds held lost true)
 life_connected begun found deeds held lost many =
     let kept : List Repository = redone_all leaving begun found in
-    let done : List Done = done_all kept deeds in
+    let done : List AnsweredMessage = done_all kept deeds in
     let own : done_on 1 (served_in (rounds_of kept deeds)) ≡ done = first_in_rounds kept deeds in
     record {
       key = 0;
@@ -575,7 +575,7 @@ life_connected begun found deeds held lost many =
 life_left : (begun : List Repository) (found : List Entry) (deeds held lost : List Deed) → 0 < length deeds → HasLeft (life_of begun found deeds held lost false)
 life_left begun found deeds held lost many =
     let kept : List Repository = redone_all leaving begun found in
-    let done : List Done = done_all kept deeds in
+    let done : List AnsweredMessage = done_all kept deeds in
     let own : done_on 1 (served_in (rounds_of kept deeds)) ≡ done = first_in_rounds kept deeds in
     record {
       streams = clients_of deeds (held ++ lost);
@@ -600,16 +600,16 @@ lost_deeds = deposited 60 (codes "a") (deposit_line (codes "oai:a:9")) ∷ []
 names_redone : (kept : List Repository) (deeds : List Deed) → AllByRecursion (IsFit (names_in kept)) deeds → names_in (redone_all leaving kept (entries_in deeds)) ≡ names_in kept
 names_redone kept [] fit = refl
 names_redone kept (deed ∷ deeds) fit =
-    let now : List Repository = left_by leaving kept (entry_in deed) in
-    let names : names_in now ≡ names_in kept = names_after kept (entry_in deed) (deed_kind (names_in kept) deed fit.0) in
+    let now : List Repository = left_by_entry leaving kept (entry_of_deed deed) in
+    let names : names_in now ≡ names_in kept = names_after kept (entry_of_deed deed) (deed_kind (names_in kept) deed fit.0) in
     names_redone now deeds (subst (λ (ns : List (List ℕ)). AllByRecursion (IsFit ns) deeds) (sym names) fit.1) ∙ names
 
 -- the records of turns, and those of one list of deeds behind another
-records_of_turns : (kept : List Repository) (deeds : List Deed) → records_in (turns_at kept deeds) ≡ entries_in deeds
+records_of_turns : (kept : List Repository) (deeds : List Deed) → turn_records (turns_at kept deeds) ≡ entries_in deeds
 records_of_turns kept [] = refl
 records_of_turns kept (deed ∷ deeds) =
-    ap (λ (es : List Entry). es ++ records_in (turns_at (left_by leaving kept (entry_in deed)) deeds)) (own_entry kept deed)
-    ∙ ap (λ (es : List Entry). entry_in deed ∷ es) (records_of_turns (left_by leaving kept (entry_in deed)) deeds)
+    ap (λ (es : List Entry). es ++ turn_records (turns_at (left_by_entry leaving kept (entry_of_deed deed)) deeds)) (own_entry kept deed)
+    ∙ ap (λ (es : List Entry). entry_of_deed deed ∷ es) (records_of_turns (left_by_entry leaving kept (entry_of_deed deed)) deeds)
 
 two_lives : (begun : List Repository) (found : List Entry) (front held back lost : List Deed) → redone_all leaving begun found ≡ begun → AllByRecursion (IsFit (names_in begun)) front
     → AllByRecursion (IsFit (names_in begun)) held → AllByRecursion (IsFit (names_in begun)) back → AllByRecursion (IsFit (names_in begun)) lost
@@ -618,12 +618,12 @@ two_lives : (begun : List Repository) (found : List Entry) (front held back lost
     let now = redone_all leaving begun (entries_in front) in
     let one = life_of begun found front held lost true in
     let two = life_of begun left back [] [] false in
-    let told : List Told =
+    let told : List LoggedTurns =
     record { answered = turns_at begun front; held = turns_at now held } ∷ record { answered = turns_at (redone_all leaving now (entries_in held)) back; held = [] } ∷ [] in
     AreServerLives (hosting (λ (h : HostState). h)) in_memory written_to unread_of begun found (one ∷ two ∷ []) ((left ++ entries_in back) ++ [])
     × AllZip (IsReceivedIn written_to unread_of) (one ∷ two ∷ []) told
     × AllZip (IsRecordedIn store_of begun) (one ∷ two ∷ []) told
-    × AreKept found (one ∷ two ∷ []) told ((left ++ entries_in back) ++ [])
+    × AreResumed found (one ∷ two ∷ []) told ((left ++ entries_in back) ++ [])
     × (all_turns told ≡ turns_at begun (front ++ (held ++ back))))
 two_lives begun found front held back lost starts front_fit held_fit back_fit lost_fit front_sent back_sent =
     let now : List Repository = redone_all leaving begun (entries_in front) in
@@ -639,12 +639,12 @@ two_lives begun found front held back lost starts front_fit held_fit back_fit lo
     let later : redone_all leaving begun left ≡ then =
     redone_append begun (found ++ entries_in front) (entries_in held) ∙ ap (λ (rs : List Repository). redone_all leaving rs (entries_in held)) between in
     let behind_fit : AllByRecursion (IsFit (names_in begun)) (held ++ lost) = all_fit (names_in begun) held lost held_fit lost_fit in
-    let first_told : records_in (turns_at begun front ++ turns_at now held) ≡ entries_in front ++ entries_in held =
+    let first_told : turn_records (turns_at begun front ++ turns_at now held) ≡ entries_in front ++ entries_in held =
     records_append (turns_at begun front) (turns_at now held)
-    ∙ ap (λ (es : List Entry). es ++ records_in (turns_at now held)) (records_of_turns begun front)
+    ∙ ap (λ (es : List Entry). es ++ turn_records (turns_at now held)) (records_of_turns begun front)
     ∙ ap (λ (es : List Entry). entries_in front ++ es) (records_of_turns now held) in
-    let second_told : records_in (turns_at then back ++ []) ≡ entries_in back = ap records_in (append-nil (turns_at then back)) ∙ records_of_turns then back in
-    let kept_first : left ≡ found ++ records_in (turns_at begun front ++ turns_at now held) =
+    let second_told : turn_records (turns_at then back ++ []) ≡ entries_in back = ap turn_records (append-nil (turns_at then back)) ∙ records_of_turns then back in
+    let kept_first : left ≡ found ++ turn_records (turns_at begun front ++ turns_at now held) =
     append_assoc found (entries_in front) (entries_in held) ∙ ap (λ (es : List Entry). found ++ es) (sym first_told) in
     let at_begin : (P : List Turn → List Turn → Type 0) → P (turns_at (redone_all leaving begun found) front) (turns_at (redone_all leaving (redone_all leaving begun found) (entries_in front)) held)
     → P (turns_at begun front) (turns_at now held) =
@@ -678,7 +678,7 @@ two_lives begun found front held back lost starts front_fit held_fit back_fit lo
         refl,
         (
           kept_first,
-          append-nil (left ++ entries_in back) ∙ ap (λ (es : List Entry). left ++ es) (sym second_told) ∙ ap (λ (es : List Entry). es ++ records_in (turns_at then back ++ [])) kept_first,
+          append-nil (left ++ entries_in back) ∙ ap (λ (es : List Entry). left ++ es) (sym second_told) ∙ ap (λ (es : List Entry). es ++ turn_records (turns_at then back ++ [])) kept_first,
         ),
       ),
       ap (λ (ts : List Turn). (turns_at begun front ++ turns_at now held) ++ ts) (append-nil (turns_at then back ++ []) ∙ append-nil (turns_at then back))
@@ -692,11 +692,11 @@ one_life : (begun start : List Repository) (found : List Entry) (deeds : List De
     → list_all is_sent (asked_all deeds) ≡ true
     → (let left = (found ++ entries_in deeds) ++ [] in
     let life = life_of begun found deeds [] [] false in
-    let told : List Told = record { answered = turns_at start deeds; held = [] } ∷ [] in
+    let told : List LoggedTurns = record { answered = turns_at start deeds; held = [] } ∷ [] in
     AreServerLives (hosting (λ (h : HostState). h)) in_memory written_to unread_of begun found (life ∷ []) left
     × AllZip (IsReceivedIn written_to unread_of) (life ∷ []) told
     × AllZip (IsRecordedIn store_of begun) (life ∷ []) told
-    × AreKept found (life ∷ []) told left
+    × AreResumed found (life ∷ []) told left
     × (all_turns told ≡ turns_at start deeds))
 one_life begun start found deeds starts fit sent =
     let kept : List Repository = redone_all leaving begun found in
@@ -713,7 +713,7 @@ one_life begun start found deeds starts fit sent =
             (life_recorded begun found deeds [] [] false (subst (AllByRecursion (IsFit (names_in kept))) (sym (append-nil deeds)) there)),
         tt,
       ),
-      (refl, append-nil (found ++ entries_in deeds) ∙ ap (λ (es : List Entry). found ++ es) (sym (ap records_in none ∙ records_of_turns start deeds))),
+      (refl, append-nil (found ++ entries_in deeds) ∙ ap (λ (es : List Entry). found ++ es) (sym (ap turn_records none ∙ records_of_turns start deeds))),
       append-nil (turns_at start deeds ++ []) ∙ none,
     )
 

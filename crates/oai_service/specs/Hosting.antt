@@ -3,7 +3,7 @@ use Rattle.std.specs.Prelude.{◌≤◌, ℕ, ℤ, Bool, List}
 use Rattle.std.specs.List.{AllByRecursion}
 use Rattle.oai_lists.specs.declared.lists.TheConstants.{LAST_NUMBER}
 use Rattle.oai_http.specs.Exchanges.{Asked}
-use Rattle.oai_http.specs.Parts.{PartState}
+use Rattle.oai_replay.specs.Parts.{PartState}
 use Rattle.oai_http.specs.declared.exchanges.Answer.{Answer}
 use Rattle.oai_http.specs.declared.exchanges.Call.{Call}
 use Rattle.oai_durable.specs.Checkpoints.{Saving}
@@ -11,12 +11,12 @@ use Rattle.oai_durable.specs.Journaled.{Replaying}
 use Rattle.oai_durable.specs.Records.{Leaving}
 use Rattle.oai_host.specs.Exchanged.{IsHandled}
 use Rattle.oai_host.specs.Hosts.{HostState, Repository}
-use Rattle.oai_host.specs.Redone.{redone_all, reply_all}
+use Rattle.oai_host.specs.Redone.{redone_repositories, reply_all}
 use Rattle.oai_host.specs.Saved.{emptied_in, ended_in, parts_in, restored_in}
 
 -- the state of repositories after calls and parts
 abbrev pub leaving : Leaving (List Repository)
-leaving = record { redone = redone_all; restored = restored_in }
+leaving = record { redone = redone_repositories; restored = restored_in }
 
 -- the handler, seen as a host: it performs what a host performs, keeps the states of the repositories, and is as honest
 -- as the device of its store

@@ -16,25 +16,25 @@ use Rattle.oai_durable.specs.Served.{AreThose}
 use Rattle.oai_headline.specs.Eras.{AreTrueOver, FollowListsOver, MissNothingOver, VisitedEra}
 use Rattle.oai_service.specs.Hosting.{leaving}
 use Rattle.oai_service.specs.Lives.{ServerEra, ServerLife}
-use Rattle.oai_service.specs.Turns.{AreTurns, Turn, answers_in, calls_in, its, records_in}
+use Rattle.oai_service.specs.Turns.{AreTurns, Turn, answers_in, calls_in, its, turn_records}
 
 -- what of a life is in the journal: the turns whose answers were sent, and those after them whose answers were held
 -- back, and whose records are there
-pub record Told : Type 0 where
+pub record LoggedTurns : Type 0 where
   pub answered : List Turn
   pub held : List Turn
 
-abbrev pub turns_of : Told → List Turn
+abbrev pub turns_of : LoggedTurns → List Turn
 turns_of told = told.answered ++ told.held
 
 -- of all lives
-abbrev pub all_turns : List Told → List Turn
+abbrev pub all_turns : List LoggedTurns → List Turn
 all_turns told = flat_map turns_of told
 
 -- of the life: its answered turns are the messages that were served in its rounds that settled, in order; its held ones
 -- are a prefix of those that were served after them; and each client that was accepted, whether its connection is open
 -- at its end or was let go, received a prefix of the answers to those of the former that it sent, in order
-pub record IsReceivedIn {S H J : Type 0} (contents remaining : S → Option (List ℕ)) (life : ServerLife S H J) (told : Told) : Type 0 where
+pub record IsReceivedIn {S H J : Type 0} (contents remaining : S → Option (List ℕ)) (life : ServerLife S H J) (told : LoggedTurns) : Type 0 where
   pub those : AreThose (map its told.answered) (served_in life.rounds)
   pub lost : List Turn
   pub held : AreThose (map its (told.held ++ lost)) life.behind
@@ -50,26 +50,26 @@ IsOverHonest store life = IsTrue (store life.old.handler.handler).honest
 -- the turns of the life over its store, as it was at the begin, and no later than at the end: so each begins in the
 -- state that the replay of the records before it leaves, and its own record leaves what it did; and a fault of the
 -- device or of its room has its cause in this life
-pub record AreRecorded {S H J : Type 0} (store : H → StoreState) (begun : List Repository) (life : ServerLife S H J) (told : Told) : Type 0 where
+pub record AreRecorded {S H J : Type 0} (store : H → StoreState) (begun : List Repository) (life : ServerLife S H J) (told : LoggedTurns) : Type 0 where
   pub reached : StoreState
   pub turned : AreTurns begun life.found (store life.old.handler.handler) (turns_of told) reached
   pub later : IsLater reached (store life.new.handler.handler)
 
 -- if the store is honest
-abbrev pub IsRecordedIn : {S H J : Type 0} → (H → StoreState) → List Repository → ServerLife S H J → Told → Type 0
+abbrev pub IsRecordedIn : {S H J : Type 0} → (H → StoreState) → List Repository → ServerLife S H J → LoggedTurns → Type 0
 IsRecordedIn store begun life told = IsOverHonest store life → AreRecorded store begun life told
 
 -- each life finds exactly the records of the turns of all lives before it, and the last one leaves its own after them
-abbrev pub AreKept : {S H J : Type 0} → List Entry → List (ServerLife S H J) → List Told → List Entry → Type 0
-AreKept before [] [] left = left ≡ before
-AreKept before [] (t ∷ told) left = ⊥
-AreKept before (life ∷ lives) [] left = ⊥
-AreKept before (life ∷ lives) (t ∷ told) left = (life.found ≡ before) × AreKept (before ++ records_in (turns_of t)) lives told left
+abbrev pub AreResumed : {S H J : Type 0} → List Entry → List (ServerLife S H J) → List LoggedTurns → List Entry → Type 0
+AreResumed before [] [] left = left ≡ before
+AreResumed before [] (t ∷ told) left = ⊥
+AreResumed before (life ∷ lives) [] left = ⊥
+AreResumed before (life ∷ lives) (t ∷ told) left = (life.found ≡ before) × AreResumed (before ++ turn_records (turns_of t)) lives told left
 
 -- ---- eras
 
 -- as a repository has them: by how much the number of its next list was raised, and what was performed
-abbrev pub eras_told : {S H J : Type 0} → List (ServerEra S H J) → List (List Told) → List VisitedEra
+abbrev pub eras_told : {S H J : Type 0} → List (ServerEra S H J) → List (List LoggedTurns) → List VisitedEra
 eras_told [] told = []
 eras_told (era ∷ eras) [] = []
 eras_told (era ∷ eras) (t ∷ told) = record { raise = era.raise; calls = calls_in (all_turns t); answers = answers_in (all_turns t) } ∷ eras_told eras told
@@ -109,11 +109,11 @@ AreOverHonest {S} {H} {J} store eras = AllByRecursion (λ (era : ServerEra S H J
 -- them; a token of an earlier era is refused, and no number of a list is given twice, in whichever eras. `harvested`:
 -- harvests miss nothing, in whichever eras they are made
 pub record IsServed {S H J : Type 0} (store : H → StoreState) (config : HostConfig) (contents remaining : S → Option (List ℕ)) (eras : List (ServerEra S H J)) : Type 0 where
-  pub told : List (List Told)
-  pub received : AllZip (λ (era : ServerEra S H J) (t : List Told). AllZip (IsReceivedIn contents remaining) era.lives t) eras told
-  pub kept : AllZip (λ (era : ServerEra S H J) (t : List Told). AreKept era.found era.lives t era.left) eras told
+  pub told : List (List LoggedTurns)
+  pub received : AllZip (λ (era : ServerEra S H J) (t : List LoggedTurns). AllZip (IsReceivedIn contents remaining) era.lives t) eras told
+  pub kept : AllZip (λ (era : ServerEra S H J) (t : List LoggedTurns). AreResumed era.found era.lives t era.left) eras told
   pub ended : AreEndedBetween (map begun config.repositories) (map begun config.repositories) eras
-  pub recorded : AllZip (λ (era : ServerEra S H J) (t : List Told). AllZip (IsRecordedIn store (map begun config.repositories)) era.lives t) eras told
+  pub recorded : AllZip (λ (era : ServerEra S H J) (t : List LoggedTurns). AllZip (IsRecordedIn store (map begun config.repositories)) era.lives t) eras told
   pub answered : AreOverHonest store eras
       → AllZip (λ (entry : NamedConfig) (repository : Repository). AreTrueOver entry.config (own_eras entry.name (eras_told eras told)) repository.state)
       config.repositories (eras_left (map begun config.repositories) (map begun config.repositories) eras)

@@ -7,7 +7,7 @@ use Rattle.oai_http.specs.declared.exchanges.Call.{Call}
 use Rattle.oai_journal.specs.Records.{Entry}
 use Rattle.oai_host.specs.Hosts.{HostState, IsExchanged, Repository}
 use Rattle.oai_host.specs.Performed.{StoreState}
-use Rattle.oai_durable.specs.Journaled.{refused}
+use Rattle.oai_durable.specs.Journaled.{unperformed_answer}
 use Rattle.oai_durable.specs.Lives.{Exchanged}
 use Rattle.oai_durable.specs.Records.{redone_all}
 use Rattle.oai_service.specs.Hosting.{leaving}
@@ -23,8 +23,8 @@ its (was_performed e) = e
 its (was_refused e) = e
 
 -- the records of turns, in order
-abbrev pub records_in : List Turn → List Entry
-records_in turns = flat_map (λ (turn : Turn). (its turn).own) turns
+abbrev pub turn_records : List Turn → List Entry
+turn_records turns = flat_map (λ (turn : Turn). (its turn).own) turns
 
 -- what was performed, as calls of the host
 abbrev pub calls_in : List Turn → List Call
@@ -45,7 +45,7 @@ host_in repositories store = record { repositories = repositories; honest = stor
 -- what was done of it: a host exchanged the message; or it was refused, and nothing was done
 abbrev pub IsTurn : List Repository → StoreState → Turn → List Repository → StoreState → Type 0
 IsTurn before old (was_performed e) after new = IsExchanged (call_at e.moment e.asked) e.answer (host_in before old) (host_in after new)
-IsTurn before old (was_refused e) after new = (after ≡ before) × (new ≡ old) × (e.answer ≡ refused e.asked.target)
+IsTurn before old (was_refused e) after new = (after ≡ before) × (new ≡ old) × (e.answer ≡ unperformed_answer e.asked.target)
 
 -- turns over one store, from one of its states to another, the first after these records, and each other one after
 -- those of the one before it: each begins in the state that the replay of the records before it leaves, and ends in the

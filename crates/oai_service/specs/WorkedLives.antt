@@ -16,7 +16,7 @@ use Rattle.oai_laws.specs.WorkedHarvests.{archive_b, prefix, told as items_told}
 use Rattle.oai_http.specs.Answers.{failed}
 use Rattle.oai_http.specs.Exchanges.{Asked}
 use Rattle.oai_http.specs.declared.exchanges.Call.{Call}
-use Rattle.oai_front.specs.Performing.{Done, answers_of}
+use Rattle.oai_front.specs.Performing.{AnsweredMessage, answers_of}
 use Rattle.oai_front.specs.Runs.{done_on}
 use Rattle.oai_serving.specs.Accepted.{known_of}
 use Rattle.oai_serving.specs.Links.{Link}
@@ -30,9 +30,9 @@ use Rattle.oai_journal.specs.Journals.{IsLeft}
 use Rattle.oai_journal.specs.Records.{Entry}
 use Rattle.oai_journal.specs.declared.journals.Journal as journal
 use Rattle.oai_journal.specs.declared.records.Kind.TheVariants as kind
-use Rattle.oai_durable.specs.Checkpoints.{records_of}
+use Rattle.oai_durable.specs.Checkpoints.{records_of_parts}
 use Rattle.oai_durable.specs.Lives.{Exchanged}
-use Rattle.oai_durable.specs.Records.{call_in, left_by, redone_all}
+use Rattle.oai_durable.specs.Records.{call_in, left_by_entry, redone_all}
 use Rattle.oai_headline.specs.Chains.{IsFollowing}
 use Rattle.oai_headline.specs.Eras.{VisitedEra, steps_within, visits_within}
 use Rattle.oai_headline.specs.Throughout.{own_given, whole_visits}
@@ -40,7 +40,7 @@ use Rattle.oai_headline.specs.Visits.{Visit, steps_of}
 use Rattle.oai_headline.specs.Worked.{IsTokenEnded, delete_line, deposit_line, first_entry, post, second_entry, worked_host}
 use Rattle.oai_service.specs.Hosting.{AreNumbered, hosting, leaving, saving}
 use Rattle.oai_service.specs.Lives.{AreServerEras, ServerEra, ServerLife}
-use Rattle.oai_service.specs.Service.{AreKept, AreOverHonest, IsReceivedIn, IsRecordedIn, Told, all_turns, own_era}
+use Rattle.oai_service.specs.Service.{AreOverHonest, AreResumed, IsReceivedIn, IsRecordedIn, LoggedTurns, all_turns, own_era}
 use Rattle.oai_service.specs.Turns.{AreTurns, Turn, answers_in, calls_in, was_performed}
 
 -- ---- what is done
@@ -51,9 +51,9 @@ pub data Deed : Type 0 where
   done_whole : Entry → Deed
   done_once : Call → Entry → Deed
 
-abbrev pub entry_in : Deed → Entry
-entry_in (done_whole entry) = entry
-entry_in (done_once call entry) = entry
+abbrev pub entry_of_deed : Deed → Entry
+entry_of_deed (done_whole entry) = entry
+entry_of_deed (done_once call entry) = entry
 
 -- what the call asks
 abbrev pub asked_in : Call → Asked
@@ -68,7 +68,7 @@ exchanged_at kept (done_once call entry) =
 -- as turns, one after the other
 abbrev pub turns_at : List Repository → List Deed → List Turn
 turns_at kept [] = []
-turns_at kept (deed ∷ deeds) = was_performed (exchanged_at kept deed) ∷ turns_at (left_by leaving kept (entry_in deed)) deeds
+turns_at kept (deed ∷ deeds) = was_performed (exchanged_at kept deed) ∷ turns_at (left_by_entry leaving kept (entry_of_deed deed)) deeds
 
 -- ---- the lives
 
@@ -133,12 +133,12 @@ worked_begun = map begun worked_host.repositories
 -- ---- the checkpoint
 
 -- an item with an empty record in Dublin Core, as it was deposited that many seconds after 2024-01-01T00:00:00Z
-abbrev pub item_at : ℕ → List ℕ → ItemState
-item_at seconds identifier = live_item identifier (pos (1_704_067_200 + seconds)) [] ((codes "oai_dc", []) ∷ [])
+abbrev pub empty_item_at : ℕ → List ℕ → ItemState
+empty_item_at seconds identifier = live_item identifier (pos (1_704_067_200 + seconds)) [] ((codes "oai_dc", []) ∷ [])
 
 -- what is left of it after it was deleted
-abbrev pub deleted_at : ℕ → ItemState → ItemState
-deleted_at seconds item = tombstone_of (pos (1_704_067_200 + seconds)) item
+abbrev pub tombstone_at : ℕ → ItemState → ItemState
+tombstone_at seconds item = tombstone_of (pos (1_704_067_200 + seconds)) item
 
 -- the state of a repository at that second, with these items, one open list, and the number of the next list
 abbrev pub state_with : ℕ → List ItemState → FrozenList → ℕ → RepoState
@@ -149,8 +149,8 @@ state_with seconds items one next = record {
 }
 
 -- a list of records that is open until that second, of these items
-abbrev pub open_until : ℕ → ℕ → ℕ → List ItemState → FrozenList
-open_until seconds number given items = record {
+abbrev pub frozen_until : ℕ → ℕ → ℕ → List ItemState → FrozenList
+frozen_until seconds number given items = record {
   number = number;
   verb = list.Records;
   prefix = codes "oai_dc";
@@ -162,22 +162,22 @@ open_until seconds number given items = record {
 -- what the first two lives leave of the first repository: the list that was followed is open, for 59 seconds more
 abbrev pub left_a : RepoState
 left_a =
-    let front : List ItemState = item_at 0 (codes "oai:a:1") ∷ item_at 0 (codes "oai:a:2") ∷ item_at 0 (codes "oai:a:3") ∷ [] in
-    let fourth : ItemState = item_at 0 (codes "oai:a:4") in
+    let front : List ItemState = empty_item_at 0 (codes "oai:a:1") ∷ empty_item_at 0 (codes "oai:a:2") ∷ empty_item_at 0 (codes "oai:a:3") ∷ [] in
+    let fourth : ItemState = empty_item_at 0 (codes "oai:a:4") in
     state_with 124
-    (front ++ deleted_at 62 fourth ∷ item_at 70 (codes "oai:a:5") ∷ item_at 124 (codes "oai:a:6") ∷ item_at 124 (codes "oai:a:7") ∷ [])
-    (open_until 183 2 4 (front ++ fourth ∷ item_at 0 (codes "oai:a:5") ∷ []))
+    (front ++ tombstone_at 62 fourth ∷ empty_item_at 70 (codes "oai:a:5") ∷ empty_item_at 124 (codes "oai:a:6") ∷ empty_item_at 124 (codes "oai:a:7") ∷ [])
+    (frozen_until 183 2 4 (front ++ fourth ∷ empty_item_at 0 (codes "oai:a:5") ∷ []))
     3
 
 -- and of the second one: the list of the first harvest is open, for 58 seconds more
 abbrev pub left_b : RepoState
 left_b =
-    let first : ItemState = item_at 0 (codes "oai:b:1") in
-    let second : ItemState = item_at 0 (codes "oai:b:2") in
-    let third : ItemState = item_at 0 (codes "oai:b:3") in
+    let first : ItemState = empty_item_at 0 (codes "oai:b:1") in
+    let second : ItemState = empty_item_at 0 (codes "oai:b:2") in
+    let third : ItemState = empty_item_at 0 (codes "oai:b:3") in
     state_with 8
-    (first ∷ third ∷ deleted_at 5 second ∷ item_at 6 (codes "oai:b:4") ∷ [])
-    (open_until 66 1 2 (first ∷ second ∷ third ∷ []))
+    (first ∷ third ∷ tombstone_at 5 second ∷ empty_item_at 6 (codes "oai:b:4") ∷ [])
+    (frozen_until 66 1 2 (first ∷ second ∷ third ∷ []))
     2
 
 abbrev pub worked_left : List Repository
@@ -191,7 +191,7 @@ abbrev pub worked_kept : List Repository
 worked_kept = ended_in 1_000_000 worked_left
 
 abbrev pub worked_checkpoint : List Entry
-worked_checkpoint = records_of (parts_in worked_kept)
+worked_checkpoint = records_of_parts (parts_in worked_kept)
 
 -- ---- the turns
 
@@ -271,7 +271,7 @@ abbrev pub sent_as : Asked → List ℕ
 sent_as asked =
     asked.method ++ codes " " ++ asked.target ++ codes " HTTP/1.1\r\nHost: localhost\r\nContent-Length: " ++ decimal (length asked.body) ++ codes "\r\n\r\n" ++ asked.body
 
-abbrev pub sent_for : Done → List ℕ
+abbrev pub sent_for : AnsweredMessage → List ℕ
 sent_for done = sent_as done.message.asked
 
 -- at the end of the life a client is connected. It sent the messages that were served in the rounds that settled, and a
@@ -324,13 +324,13 @@ pub record AreWorkedLives : Type 0 where
   pub numbers : AllByRecursion (λ (era : ServerEra Wire HostState Memory). AreNumbered (redone_all leaving worked_begun era.found)) (first ∷ second ∷ [])
   pub raised : second.raise ≡ 1_000_000
   pub ended : redone_all leaving worked_begun first.left ≡ worked_left
-  pub told : List (List Told)
-  pub received : AllZip (λ (era : ServerEra Wire HostState Memory) (t : List Told). AllZip (IsReceivedIn written_to unread_of) era.lives t)
+  pub told : List (List LoggedTurns)
+  pub received : AllZip (λ (era : ServerEra Wire HostState Memory) (t : List LoggedTurns). AllZip (IsReceivedIn written_to unread_of) era.lives t)
       (first ∷ second ∷ []) told
-  pub recorded : AllZip (λ (era : ServerEra Wire HostState Memory) (t : List Told). AllZip (IsRecordedIn store_of worked_begun) era.lives t)
+  pub recorded : AllZip (λ (era : ServerEra Wire HostState Memory) (t : List LoggedTurns). AllZip (IsRecordedIn store_of worked_begun) era.lives t)
       (first ∷ second ∷ []) told
-  pub kept : AllZip (λ (era : ServerEra Wire HostState Memory) (t : List Told). AreKept era.found era.lives t era.left) (first ∷ second ∷ []) told
+  pub kept : AllZip (λ (era : ServerEra Wire HostState Memory) (t : List LoggedTurns). AreResumed era.found era.lives t era.left) (first ∷ second ∷ []) told
   pub turns : map all_turns told ≡ worked_turns ∷ later_turns ∷ []
-  pub survive : flat_map (λ (t : List Told). flat_map (λ (life : Told). life.held) t) told ≢ []
+  pub survive : flat_map (λ (t : List LoggedTurns). flat_map (λ (life : LoggedTurns). life.held) t) told ≢ []
   pub connected : IsConnected before
   pub left : HasLeft last

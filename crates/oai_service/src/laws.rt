@@ -21,9 +21,9 @@ ghost use Rattle.oai_service.specs.WorkedLives.{AreOverCheckpoint, AreWorkedLive
 use oai_catalogue::Versions;
 use oai_device::PageDevice;
 use oai_host::Host;
-use oai_http::Replayed;
 use oai_journal::{FileJournal, Journal};
 use oai_paged::PagedVersions;
+use oai_replay::Replayed;
 use oai_serving::Stream;
 use sqlite_disk::{Disk, Fuse};
 

@@ -10,7 +10,7 @@ use Rattle.slab.specs.Slab.{SameValues, Slab, Updates, get}
 use Rattle.oai_http.specs.declared.handlers.SettleFault.{SettleFault}
 use Rattle.oai_front.proofs.RunLemmas.{none_unfinished}
 use Rattle.oai_front.specs.Messages.{waits}
-use Rattle.oai_front.specs.Performing.{Done, Steps, answers_of}
+use Rattle.oai_front.specs.Performing.{AnsweredMessage, Steps, answers_of}
 use Rattle.oai_front.specs.Runs.{Served, Serves, done_on}
 use Rattle.oai_serving.proofs.KnownBytes.{appends_kept, consumes_kept}
 use Rattle.oai_serving.proofs.PassLemmas.{passes_none, passes_then}
@@ -18,7 +18,7 @@ use Rattle.oai_serving.proofs.TableLemmas.{all_answered, all_as, all_sent, answe
 use Rattle.oai_serving.specs.Accepted.{Known, Passes}
 use Rattle.oai_serving.specs.Links.{IsLinkFollowed, Link, opened}
 use Rattle.oai_serving.specs.Received.{IsReceived}
-use Rattle.oai_serving.specs.Rounds.{AreAccepted, AreLinksEnded, AreLinksWritten, AreRounds, AreSettled, HasOneMore, IsAdmitted, IsPerformance, IsPlaced, IsRound, IsRoundSettled, IsService, RoundOutcome, Settles, World, served_in}
+use Rattle.oai_serving.specs.Rounds.{AreAccepted, AreLinksEnded, AreLinksWritten, AreRounds, AreSettled, HasOneMore, IsAdmitted, IsPerformance, IsRound, IsRoundSettled, IsService, IsStoredOrDropped, RoundOutcome, Settles, World, served_in}
 use Rattle.oai_serving.specs.Tables.{AreAllKept, AreAllThere, AreGoneAnswered, AreLinksKept, AreTurned, HasLinkOf, IsLinkKept, IsNumbered}
 use Rattle.oai_serving.specs.declared.faults.ServeFault.{ServeFault}
 use Rattle.oai_serving.specs.declared.faults.ServeFault.TheVariants.{Unsettled}
@@ -106,7 +106,7 @@ module _ {S : Type 0} (contents remaining : S → Option (List ℕ)) where
       let own : IsLinkKept contents remaining all served link = record {
         first = stream;
         numbered = numbered_last accepted stream;
-        follows = subst (λ (ds : List Done). IsLinkFollowed contents remaining stream ds link) (sym (k.later number (omega arith))) (fresh_follows number stream watched unwritten unread);
+        follows = subst (λ (ds : List AnsweredMessage). IsLinkFollowed contents remaining stream ds link) (sym (k.later number (omega arith))) (fresh_follows number stream watched unwritten unread);
       } in
       record {
         each = more_each (λ (j : ℕ) (value : Link S). IsLinkKept contents remaining all served value) old new key link u own (λ other value differs is. grown.each other value is);
@@ -191,7 +191,7 @@ module _ {S : Type 0} (contents remaining : S → Option (List ℕ)) where
         over = over_more contents remaining (accepted ++ stream ∷ []) gone served number watched (over_grown accepted (stream ∷ []) gone served k.over) (record {
           first = stream;
           numbered = numbered_last accepted stream;
-          received = subst (λ (ds : List Done). IsReceived contents remaining stream watched ds) (sym (k.kept.later number (omega arith))) follows.received;
+          received = subst (λ (ds : List AnsweredMessage). IsReceived contents remaining stream watched ds) (sym (k.kept.later number (omega arith))) follows.received;
         });
         apart = λ n last is h. elim (Contains-push_cases gone (number, watched) (n, last) is) [
           | inl before ↦ k.apart n last before h
@@ -291,7 +291,7 @@ module _ {S H : Type 0} (contents remaining : S → Option (List ℕ)) where
   -- a link was made of it, which was kept or not
   pub admitted : (known mid later : Known S) (stream watched : S) (old new : World S H) → new.handler ≡ old.handler → new.last ≡ old.last + 1
       → Keeps (contents stream) (contents watched) → Keeps (remaining stream) (remaining watched) → Passes known mid [] []
-      → IsPlaced mid later (opened (old.last + 1) watched) old.links new.links → IsAdmitted contents remaining known later stream old new
+      → IsStoredOrDropped mid later (opened (old.last + 1) watched) old.links new.links → IsAdmitted contents remaining known later stream old new
   admitted known mid later stream watched old new handler last unwritten unread passes (inl put) = record {
     parted = [];
     passes = passes_then known mid later [] [] [] [] passes put.0;

@@ -9,15 +9,15 @@ use Rattle.slab.specs.Slab.{Slab, Updates, ContainsKey, get, slab_len, with_valu
 use Rattle.slab.proofs.SlabLemmas.{ContainsKey-within, Updates-with_value}
 use Rattle.oai_front.proofs.RunLemmas.{done_away, done_here, done_join, serves_join, serves_run}
 use Rattle.oai_front.specs.Connections.{Connection}
-use Rattle.oai_front.specs.Performing.{Done, Steps}
+use Rattle.oai_front.specs.Performing.{AnsweredMessage, Steps}
 use Rattle.oai_front.specs.Runs.{Piece, Served, done_on, served_with}
 use Rattle.oai_serving.proofs.KnownBytes.{consumes_none, consumes_then, keeps_same, keeps_then}
 use Rattle.oai_serving.proofs.PassLemmas.{passes_then}
 use Rattle.oai_serving.proofs.TurnLemmas.{received_still, sent_follows, sent_none, sent_then}
 use Rattle.oai_serving.specs.Accepted.{Known, Passes}
-use Rattle.oai_serving.specs.Links.{IsLinkFollowed, IsSent, IsTurn, Link}
+use Rattle.oai_serving.specs.Links.{IsLinkFollowed, IsLinkStep, IsSent, Link}
 use Rattle.oai_serving.specs.Received.{IsReceived}
-use Rattle.oai_serving.specs.Tables.{AreAllAnswered, AreAllKept, AreAllThere, AreAt, AreEnded, AreGoneAnswered, AreLinksAnswered, AreLinksKept, AreSent, AreTurned, HasLinkOf, IsAnswered, IsLinkKept, IsNumbered, IsUnwritten}
+use Rattle.oai_serving.specs.Tables.{AreAllAnswered, AreAllKept, AreAllThere, AreAt, AreGoneAnswered, AreLinksAnswered, AreLinksDropped, AreLinksKept, AreSent, AreTurned, HasLinkOf, IsAnswered, IsLinkKept, IsNumbered, IsUnwritten}
 
 pub none_there : {A : Type 0} (a : A) → None ≡ Some a → ⊥
 none_there a e = cc
@@ -210,7 +210,7 @@ module _ {S : Type 0} (contents remaining : S → Option (List ℕ)) where
         all = away_there accepted gone old new key link found u k.all;
       }
 
-  pub ended_none : (known later : Known S) (links : Slab (Link S)) → Passes known later [] [] → AreEnded contents remaining known later links links
+  pub ended_none : (known later : Known S) (links : Slab (Link S)) → Passes known later [] [] → AreLinksDropped contents remaining known later links links
   ended_none known later links passes = record {
     parted = [];
     passes = passes;
@@ -218,8 +218,8 @@ module _ {S : Type 0} (contents remaining : S → Option (List ℕ)) where
     count = omega arith;
   }
 
-  pub ended_then : (known mid later : Known S) (a b c : Slab (Link S)) → AreEnded contents remaining known mid a b → AreEnded contents remaining mid later b c
-      → AreEnded contents remaining known later a c
+  pub ended_then : (known mid later : Known S) (a b c : Slab (Link S)) → AreLinksDropped contents remaining known mid a b → AreLinksDropped contents remaining mid later b c
+      → AreLinksDropped contents remaining known later a c
   ended_then known mid later a b c s t = record {
     parted = s.parted ++ t.parted;
     passes = passes_then known mid later [] [] s.parted t.parted s.passes t.passes;
@@ -230,7 +230,7 @@ module _ {S : Type 0} (contents remaining : S → Option (List ℕ)) where
   }
 
   pub ended_away : (known later : Known S) (old new : Slab (Link S)) (key : ℕ) (link : Link S) → get old key ≡ Some link → Updates old new key None
-      → slab_len new + 1 ≡ slab_len old → Passes known later [] ((link.connection.number, link.stream) ∷ []) → AreEnded contents remaining known later old new
+      → slab_len new + 1 ≡ slab_len old → Passes known later [] ((link.connection.number, link.stream) ∷ []) → AreLinksDropped contents remaining known later old new
   ended_away known later old new key link found u less passes = record {
     parted = (link.connection.number, link.stream) ∷ [];
     passes = passes;
@@ -247,7 +247,7 @@ at_join moment (s ∷ first) others a b = (a.0, at_join moment first others a.1 
 piece_at : ℕ → ℤ → Piece
 piece_at number moment = record { number = number; moment = moment; bytes = []; whole = true }
 
-at_piece : (number : ℕ) (moment : ℤ) (done : List Done) → AreAt moment (map (served_with (piece_at number moment)) done)
+at_piece : (number : ℕ) (moment : ℤ) (done : List AnsweredMessage) → AreAt moment (map (served_with (piece_at number moment)) done)
 unfolding piece_at
 at_piece number moment [] = tt
 at_piece number moment (d ∷ done) = (refl, at_piece number moment done)
@@ -306,18 +306,18 @@ module _ {S H : Type 0} (step : Steps H) (contents remaining : S → Option (Lis
       (before, found, same) (λ other value differs is. (value, is, refl))
 
   -- what was served on one connection is nothing on another
-  served_own : (number : ℕ) (served : List Served) (done : List Done) → done_on number (served ++ map (served_with (piece_at number moment)) done) ≡ done_on number served ++ done
+  served_own : (number : ℕ) (served : List Served) (done : List AnsweredMessage) → done_on number (served ++ map (served_with (piece_at number moment)) done) ≡ done_on number served ++ done
   unfolding piece_at
   served_own number served done =
       done_join number served (map (served_with (piece_at number moment)) done)
-      ∙ ap (λ (ds : List Done). done_on number served ++ ds) (done_here number (piece_at number moment) done (eq-eqb number number refl))
+      ∙ ap (λ (ds : List AnsweredMessage). done_on number served ++ ds) (done_here number (piece_at number moment) done (eq-eqb number number refl))
 
-  served_other : (number other : ℕ) (served : List Served) (done : List Done) → (number == other) ≡ false
+  served_other : (number other : ℕ) (served : List Served) (done : List AnsweredMessage) → (number == other) ≡ false
       → done_on other (served ++ map (served_with (piece_at number moment)) done) ≡ done_on other served
   unfolding piece_at
   served_other number other served done away =
       done_join other served (map (served_with (piece_at number moment)) done)
-      ∙ ap (λ (ds : List Done). done_on other served ++ ds) (done_away other (piece_at number moment) done away) ∙ append-nil (done_on other served)
+      ∙ ap (λ (ds : List AnsweredMessage). done_on other served ++ ds) (done_away other (piece_at number moment) done away) ∙ append-nil (done_on other served)
 
   apart : (n m : ℕ) → (n ≡ m → ⊥) → (n == m) ≡ false
   apart n m differs = elim (cases_Bool (n == m)) [
@@ -326,7 +326,7 @@ module _ {S H : Type 0} (step : Steps H) (contents remaining : S → Option (Lis
   ]
 
   turn_kept : (accepted : List S) (earlier : List Served) (links : Slab (Link S)) (key : ℕ) (before after : Link S) (h k : H) → get links key ≡ Some before
-      → (t : IsTurn step contents remaining moment before h after k) → AreLinksKept contents remaining accepted earlier links
+      → (t : IsLinkStep step contents remaining moment before h after k) → AreLinksKept contents remaining accepted earlier links
       → AreLinksKept contents remaining accepted (earlier ++ map (served_with (piece_at before.connection.number moment)) t.done) (with_value links key after)
   turn_kept accepted earlier links key before after h k found t kept =
       let number : ℕ = before.connection.number in
@@ -338,7 +338,7 @@ module _ {S H : Type 0} (step : Steps H) (contents remaining : S → Option (Lis
               first = own.first;
               numbered = subst (λ (n : ℕ). IsNumbered accepted n own.first) (sym t.same) own.numbered;
               follows = subst (λ (n : ℕ). IsLinkFollowed contents remaining own.first (done_on n served) after) (sym t.same)
-                  (subst (λ (ds : List Done). IsLinkFollowed contents remaining own.first ds after) (sym (served_own number earlier t.done))
+                  (subst (λ (ds : List AnsweredMessage). IsLinkFollowed contents remaining own.first ds after) (sym (served_own number earlier t.done))
                   (t.follows own.first (done_on number earlier) own.follows));
             })
             (λ other link differs is.
@@ -347,7 +347,7 @@ module _ {S H : Type 0} (step : Steps H) (contents remaining : S → Option (Lis
             record {
               first = mine.first;
               numbered = mine.numbered;
-              follows = subst (λ (ds : List Done). IsLinkFollowed contents remaining mine.first ds link) (sym (served_other number link.connection.number earlier t.done away)) mine.follows;
+              follows = subst (λ (ds : List AnsweredMessage). IsLinkFollowed contents remaining mine.first ds link) (sym (served_other number link.connection.number earlier t.done away)) mine.follows;
             });
         one = λ key_a key_b a b is js same.
             let p = numbers_stay links key before after found t.same key_a a is in
@@ -364,7 +364,7 @@ module _ {S H : Type 0} (step : Steps H) (contents remaining : S → Option (Lis
 
   -- and those that were let go had no turn
   turn_all : (accepted : List S) (gone : List (ℕ × S)) (earlier : List Served) (links : Slab (Link S)) (key : ℕ) (before after : Link S) (h k : H) → get links key ≡ Some before
-      → (t : IsTurn step contents remaining moment before h after k) → AreAllKept contents remaining accepted gone earlier links
+      → (t : IsLinkStep step contents remaining moment before h after k) → AreAllKept contents remaining accepted gone earlier links
       → AreAllKept contents remaining accepted gone (earlier ++ map (served_with (piece_at before.connection.number moment)) t.done) (with_value links key after)
   turn_all accepted gone earlier links key before after h k found t all = record {
     kept = turn_kept accepted earlier links key before after h k found t all.kept;
@@ -374,7 +374,7 @@ module _ {S H : Type 0} (step : Steps H) (contents remaining : S → Option (Lis
         record {
           first = a.first;
           numbered = a.numbered;
-          received = subst (λ (ds : List Done). IsReceived contents remaining a.first last ds) (sym (served_other before.connection.number number earlier t.done away)) a.received;
+          received = subst (λ (ds : List AnsweredMessage). IsReceived contents remaining a.first last ds) (sym (served_other before.connection.number number earlier t.done away)) a.received;
         };
     apart = λ number last is l.
         let p = numbers_stay links key before after found t.same l.key l.link l.stands in
@@ -382,7 +382,7 @@ module _ {S H : Type 0} (step : Steps H) (contents remaining : S → Option (Lis
     all = there_still accepted gone links (with_value links key after) (link_stays links key before after found t.same) all.all;
   }
 
-  pub turned_at : (links : Slab (Link S)) (key : ℕ) (before after : Link S) (h k : H) → get links key ≡ Some before → IsTurn step contents remaining moment before h after k
+  pub turned_at : (links : Slab (Link S)) (key : ℕ) (before after : Link S) (h k : H) → get links key ≡ Some before → IsLinkStep step contents remaining moment before h after k
       → AreTurned step contents remaining moment links h (with_value links key after) k
   unfolding piece_at
   turned_at links key before after h k found t = record {

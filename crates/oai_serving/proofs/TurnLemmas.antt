@@ -7,7 +7,7 @@ use Rattle.std.specs.Io.KnownBytes.{Appends, Consumes, Keeps}
 use Rattle.oai_front.proofs.RunLemmas.{messages_join, performed_join, splits_in, told_join}
 use Rattle.oai_front.specs.Connections.{Connection, IsGoneOver, IsTakenIn, bytes_with, connection_at, rest_at, stage_at}
 use Rattle.oai_front.specs.Messages.{End, Message, closes, faults, waits}
-use Rattle.oai_front.specs.Performing.{Done, Run, Steps, answers_of, end_bytes, messages_of}
+use Rattle.oai_front.specs.Performing.{AnsweredMessage, Run, Steps, answers_of, end_bytes, messages_of}
 use Rattle.oai_front.specs.Runs.{ArePerformed}
 use Rattle.oai_front.specs.Stages.{is_closing}
 use Rattle.oai_front.specs.declared.faults.PieceFault.{PieceFault}
@@ -17,12 +17,12 @@ use Rattle.oai_front.specs.declared.stages.Stage.TheVariants.{Reading}
 use Rattle.oai_serving.proofs.KnownBytes.{appends_kept, appends_none, appends_then, consumes_none, consumes_then, keeps_appends, keeps_consumes, keeps_same, keeps_then}
 use Rattle.oai_serving.specs.Inside.{with_gathered}
 use Rattle.std.proofs.Math.Seq.{drop-append_seam}
-use Rattle.oai_serving.specs.Links.{IsLinkFollowed, IsHolding, IsLinkRead, IsSent, IsTurn, Link}
+use Rattle.oai_serving.specs.Links.{IsLinkFollowed, IsHolding, IsLinkRead, IsSent, IsLinkStep, Link}
 use Rattle.oai_serving.specs.Received.{IsReceived}
 
 -- ---- runs behind each other
 
-pub run_then : {H : Type 0} (step : Steps H) (moment : ℤ) (old mid new : H) (first others : List Done) → Run step moment old first mid → Run step moment mid others new
+pub run_then : {H : Type 0} (step : Steps H) (moment : ℤ) (old mid new : H) (first others : List AnsweredMessage) → Run step moment old first mid → Run step moment mid others new
     → Run step moment old (first ++ others) new
 run_then {H} step moment old mid new [] others a b = subst (λ (h : H). Run step moment h others new) a b
 run_then step moment old mid new (d ∷ first) others a b = (a.0, a.1, run_then step moment a.0 mid new first others a.2 b)
@@ -34,7 +34,7 @@ idle_then a b c (inr same) (inr still) = inr (still ∙ same)
 
 module _ {S H : Type 0} (step : Steps H) (contents remaining : S → Option (List ℕ)) (moment : ℤ) where
   -- nothing changes
-  pub turn_none : (link : Link S) (handler : H) → IsTurn step contents remaining moment link handler link handler
+  pub turn_none : (link : Link S) (handler : H) → IsLinkStep step contents remaining moment link handler link handler
   turn_none link handler = record {
     done = [];
     run = refl;
@@ -43,12 +43,12 @@ module _ {S H : Type 0} (step : Steps H) (contents remaining : S → Option (Lis
     read = [];
     consumed = consumes_none (remaining link.stream);
     idle = inr refl;
-    follows = λ first earlier f. subst (λ (ds : List Done). IsLinkFollowed contents remaining first ds link) (sym (append-nil earlier)) f;
+    follows = λ first earlier f. subst (λ (ds : List AnsweredMessage). IsLinkFollowed contents remaining first ds link) (sym (append-nil earlier)) f;
   }
 
   -- two turns, one behind the other
-  pub turn_then : (a b c : Link S) (h k l : H) → IsTurn step contents remaining moment a h b k → IsTurn step contents remaining moment b k c l
-      → IsTurn step contents remaining moment a h c l
+  pub turn_then : (a b c : Link S) (h k l : H) → IsLinkStep step contents remaining moment a h b k → IsLinkStep step contents remaining moment b k c l
+      → IsLinkStep step contents remaining moment a h c l
   turn_then a b c h k l s t = record {
     done = s.done ++ t.done;
     run = run_then step moment h k l s.done t.done s.run t.run;
@@ -58,12 +58,12 @@ module _ {S H : Type 0} (step : Steps H) (contents remaining : S → Option (Lis
     consumed = consumes_then (remaining a.stream) (remaining b.stream) (remaining c.stream) s.read t.read s.consumed t.consumed;
     idle = idle_then a b c s.idle t.idle;
     follows = λ first earlier f.
-        subst (λ (ds : List Done). IsLinkFollowed contents remaining first ds c) (append_assoc earlier s.done t.done)
+        subst (λ (ds : List AnsweredMessage). IsLinkFollowed contents remaining first ds c) (append_assoc earlier s.done t.done)
         (t.follows first (earlier ++ s.done) (s.follows first earlier f));
   }
 
   -- bytes may have been read, and none was written
-  pub received_still : (first before after : S) (done : List Done) (read : List ℕ) → Keeps (contents before) (contents after) → Consumes (remaining before) (remaining after) read
+  pub received_still : (first before after : S) (done : List AnsweredMessage) (read : List ℕ) → Keeps (contents before) (contents after) → Consumes (remaining before) (remaining after) read
       → IsReceived contents remaining first before done → IsReceived contents remaining first after done
   received_still first before after done read unwritten consumes r = record {
     came = r.came;
@@ -80,7 +80,7 @@ module _ {S H : Type 0} (step : Steps H) (contents remaining : S → Option (Lis
   }
 
   -- the same connection, of which bytes may have been read
-  pub read_follows : (first : S) (done : List Done) (old new : Link S) (read : List ℕ) → new.connection ≡ old.connection → Keeps (contents old.stream) (contents new.stream)
+  pub read_follows : (first : S) (done : List AnsweredMessage) (old new : Link S) (read : List ℕ) → new.connection ≡ old.connection → Keeps (contents old.stream) (contents new.stream)
       → Consumes (remaining old.stream) (remaining new.stream) read → (new.able ≡ true → (old.able ≡ true) × (new.held ≡ old.held ++ read))
       → IsLinkFollowed contents remaining first done old → IsLinkFollowed contents remaining first done new
   unfolding received_still
@@ -95,7 +95,7 @@ module _ {S H : Type 0} (step : Steps H) (contents remaining : S → Option (Lis
 
   pub read_turn : (old new : Link S) (handler : H) (read : List ℕ) → new.connection ≡ old.connection → Keeps (contents old.stream) (contents new.stream)
       → Consumes (remaining old.stream) (remaining new.stream) read → (new.able ≡ true → (old.able ≡ true) × (new.held ≡ old.held ++ read))
-      → old.connection.output ≡ [] → IsTurn step contents remaining moment old handler new handler
+      → old.connection.output ≡ [] → IsLinkStep step contents remaining moment old handler new handler
   read_turn old new handler read same unwritten consumes held none = record {
     done = [];
     run = refl;
@@ -105,14 +105,14 @@ module _ {S H : Type 0} (step : Steps H) (contents remaining : S → Option (Lis
     consumed = consumes;
     idle = inl none;
     follows = λ first earlier f.
-        subst (λ (ds : List Done). IsLinkFollowed contents remaining first ds new) (sym (append-nil earlier)) (read_follows first earlier old new read same unwritten consumes held f);
+        subst (λ (ds : List AnsweredMessage). IsLinkFollowed contents remaining first ds new) (sym (append-nil earlier)) (read_follows first earlier old new read same unwritten consumes held f);
   }
 
 -- ---- a piece
 
 -- what came of a piece: these messages were performed, up to that end
 record Came {H : Type 0} (step : Steps H) (moment : ℤ) (bytes : List ℕ) (x : Connection) (before : H) (y : Connection) (after : H) : Type 0 where
-  done : List Done
+  done : List AnsweredMessage
   whole : Bool
   end : End
   run : Run step moment before done after
@@ -150,7 +150,7 @@ reads_at c piece open_ = ap (λ (b : Bool). cond b c.rest (c.rest ++ piece)) ope
 
 module _ {S H : Type 0} (step : Steps H) (contents remaining : S → Option (List ℕ)) (moment : ℤ) where
   -- the messages of a piece go behind those of the bytes before it
-  abbrev came_received : (first last : S) (came others piece tail sent out : List ℕ) (before whole : Bool) (rest : List ℕ) (end : End) (earlier now : List Done)
+  abbrev came_received : (first last : S) (came others piece tail sent out : List ℕ) (before whole : Bool) (rest : List ℕ) (end : End) (earlier now : List AnsweredMessage)
       → Consumes (remaining first) (remaining last) (came ++ others) → others ≡ piece ++ tail → ArePerformed before came (messages_of earlier) (waits rest)
       → answers_of earlier ++ [] ≡ sent ++ out → Appends (contents first) (contents last) sent → ArePerformed whole (rest ++ piece) (messages_of now) end
       → IsReceived contents remaining first last (earlier ++ now)
@@ -170,7 +170,7 @@ module _ {S H : Type 0} (step : Steps H) (contents remaining : S → Option (Lis
       }
 
   -- a link that reads
-  came_at : (first : S) (earlier : List Done) (piece tail : List ℕ) (old new : Link S) (before after : H)
+  came_at : (first : S) (earlier : List AnsweredMessage) (piece tail : List ℕ) (old new : Link S) (before after : H)
       (g : Came step moment (old.connection.rest ++ piece) old.connection before new.connection after) → new.stream ≡ old.stream → (new.able ≡ true → new.held ≡ tail)
       → (came others sent waiting : List ℕ) (whole : Bool) (end : End)
       → Consumes (remaining first) (remaining old.stream) (came ++ others) → ArePerformed whole came (messages_of earlier) end
@@ -196,7 +196,7 @@ module _ {S H : Type 0} (step : Steps H) (contents remaining : S → Option (Lis
 
   came_turn : (piece tail : List ℕ) (old new : Link S) (before after : H) → Came step moment (old.connection.rest ++ piece) old.connection before new.connection after
       → new.stream ≡ old.stream → (new.able ≡ true → new.held ≡ tail) → old.able ≡ true → is_closing old.connection.stage ≡ false → old.held ≡ piece ++ tail
-      → old.connection.output ≡ [] → IsTurn step contents remaining moment old before new after
+      → old.connection.output ≡ [] → IsLinkStep step contents remaining moment old before new after
   came_turn piece tail old new before after g stream held able open_ split none = record {
     done = g.done;
     run = g.run;
@@ -215,7 +215,7 @@ module _ {S H : Type 0} (step : Steps H) (contents remaining : S → Option (Lis
   pub piece_turn : (piece tail : List ℕ) (result : Result Unit PieceFault) (old new : Link S) (before after : H)
       → IsTakenIn step moment piece old.connection before result new.connection after → new.stream ≡ old.stream
       → (new.able ≡ true → (new.held ≡ tail) × (result ≡ Ok tt)) → old.able ≡ true → is_closing old.connection.stage ≡ false → old.held ≡ piece ++ tail
-      → old.connection.output ≡ [] → IsTurn step contents remaining moment old before new after
+      → old.connection.output ≡ [] → IsLinkStep step contents remaining moment old before new after
   piece_turn piece tail (Ok done) old new before after taken stream held able open_ split none =
       let bytes = reads_at old.connection piece open_ in
       came_turn piece tail old new before after
@@ -230,7 +230,7 @@ module _ {S H : Type 0} (step : Steps H) (contents remaining : S → Option (Lis
       stream (λ a. (held a).0) able open_ split none
   piece_turn piece tail (Err NoSuchConnection) old new before after taken stream held able open_ split none = absurd taken
   piece_turn piece tail (Err NoMemory) old new before after taken stream held able open_ split none =
-      subst (λ (h : H). IsTurn step contents remaining moment old before new h) (sym taken.1)
+      subst (λ (h : H). IsLinkStep step contents remaining moment old before new h) (sym taken.1)
       (read_turn step contents remaining moment old new before [] taken.0
       (subst (λ (s : S). Keeps (contents old.stream) (contents s)) (sym stream) (keeps_same (contents old.stream)))
       (subst (λ (s : S). Consumes (remaining old.stream) (remaining s) []) (sym stream) (consumes_none (remaining old.stream)))
@@ -243,7 +243,7 @@ others_of c d same = same ∙ sym (ap (λ (e : Connection). record c { output = 
 
 module _ {S : Type 0} (contents remaining : S → Option (List ℕ)) where
   -- what is written is the front of what waits
-  pub sent_follows : (first : S) (done : List Done) (old new : Link S) → IsSent contents remaining old new → IsLinkFollowed contents remaining first done old
+  pub sent_follows : (first : S) (done : List AnsweredMessage) (old new : Link S) → IsSent contents remaining old new → IsLinkFollowed contents remaining first done old
       → IsLinkFollowed contents remaining first done new
   sent_follows first done old new s f =
       let r = f.received in record {
@@ -268,7 +268,7 @@ module _ {S : Type 0} (contents remaining : S → Option (List ℕ)) where
 -- ---- what is read, and turns in which nothing is written
 
 module _ {S H : Type 0} (step : Steps H) (contents remaining : S → Option (List ℕ)) (moment : ℤ) where
-  pub input_turn : (old new : Link S) (handler : H) → IsLinkRead contents remaining old new → old.connection.output ≡ [] → IsTurn step contents remaining moment old handler new handler
+  pub input_turn : (old new : Link S) (handler : H) → IsLinkRead contents remaining old new → old.connection.output ≡ [] → IsLinkStep step contents remaining moment old handler new handler
   input_turn old new handler r none = read_turn step contents remaining moment old new handler r.read r.connection r.unwritten r.consumed r.held none
 
 module _ {S : Type 0} (contents remaining : S → Option (List ℕ)) where
@@ -353,7 +353,7 @@ module _ {S H : Type 0} (step : Steps H) (contents remaining : S → Option (Lis
   pub piece_gathered : (gathered piece tail : List ℕ) (result : Result Unit PieceFault) (stream : S) (x y : Connection) (held rest : List ℕ) (able still : Bool) (before after : H)
       → gathered ++ x.output ≡ [] → IsTakenIn step moment piece x before result y after → (still ≡ true → (rest ≡ tail) × (result ≡ Ok tt)) → able ≡ true → is_closing x.stage ≡ false
       → held ≡ piece ++ tail
-      → IsTurn step contents remaining moment (record { stream = stream; connection = with_gathered gathered x; held = held; able = able }) before
+      → IsLinkStep step contents remaining moment (record { stream = stream; connection = with_gathered gathered x; held = held; able = able }) before
       (record { stream = stream; connection = with_gathered gathered y; held = rest; able = still }) after
   piece_gathered [] piece tail result stream x y held rest able still before after none taken keeps is_able open_ split =
       piece_turn step contents remaining moment piece tail result (record { stream = stream; connection = x; held = held; able = able })

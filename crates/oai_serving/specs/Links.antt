@@ -2,7 +2,7 @@
 use Rattle.std.specs.Prelude.{◌≡◌, ◌⊎◌, ℕ, ℤ, Bool, true, false, List, [], ◌++◌, Option}
 use Rattle.std.specs.Io.KnownBytes.{Appends, Consumes, Keeps}
 use Rattle.oai_front.specs.Connections.{Connection, fresh, rest_at, stage_at}
-use Rattle.oai_front.specs.Performing.{Done, Run, Steps}
+use Rattle.oai_front.specs.Performing.{AnsweredMessage, Run, Steps}
 use Rattle.oai_front.specs.declared.stages.Stage.TheVariants.{Reading}
 use Rattle.oai_serving.specs.Received.{IsReceived}
 use Rattle.oai_serving.specs.declared.phases.Phase.{Phase}
@@ -30,7 +30,7 @@ opened number stream = record { stream = stream; connection = fresh number; held
 -- the stream was that one when it was accepted, these messages of it were performed, and the link is the result: its
 -- waiting output is the rest of their answers, what the connection holds is the rest of the bytes that were passed to
 -- it, and while the link is able what is held is all that was read and not passed
-pub record IsLinkFollowed {S : Type 0} (contents remaining : S → Option (List ℕ)) (first : S) (done : List Done) (link : Link S) : Type 0 where
+pub record IsLinkFollowed {S : Type 0} (contents remaining : S → Option (List ℕ)) (first : S) (done : List AnsweredMessage) (link : Link S) : Type 0 where
   pub received : IsReceived contents remaining first link.stream done
   pub waiting : received.waiting ≡ link.connection.output
   pub rest : link.connection.rest ≡ rest_at received.end
@@ -53,15 +53,15 @@ pub record IsLinkRead {S : Type 0} (contents remaining : S → Option (List ℕ)
 
 -- a read step of a link: some messages are performed, at that moment, nothing is written, and these messages follow all
 -- that came of the link before; while output waits nothing is read and nothing performed
-pub record IsTurn {S H : Type 0} (step : Steps H) (contents remaining : S → Option (List ℕ)) (moment : ℤ) (old : Link S) (before : H) (new : Link S) (after : H) : Type 0 where
-  pub done : List Done
+pub record IsLinkStep {S H : Type 0} (step : Steps H) (contents remaining : S → Option (List ℕ)) (moment : ℤ) (old : Link S) (before : H) (new : Link S) (after : H) : Type 0 where
+  pub done : List AnsweredMessage
   pub run : Run step moment before done after
   pub same : new.connection.number ≡ old.connection.number
   pub unwritten : Keeps (contents old.stream) (contents new.stream)
   pub read : List ℕ
   pub consumed : Consumes (remaining old.stream) (remaining new.stream) read
   pub idle : (old.connection.output ≡ []) ⊎ (new ≡ old)
-  pub follows : (first : S) (earlier : List Done) → IsLinkFollowed contents remaining first earlier old → IsLinkFollowed contents remaining first (earlier ++ done) new
+  pub follows : (first : S) (earlier : List AnsweredMessage) → IsLinkFollowed contents remaining first earlier old → IsLinkFollowed contents remaining first (earlier ++ done) new
 
 -- a write step of a link: a prefix of the waiting output goes to the stream, once and in order; nothing is read, and
 -- nothing performed

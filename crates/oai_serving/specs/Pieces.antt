@@ -4,14 +4,14 @@ use Rattle.oai_serving.specs.declared.pieces.Line.{Line}
 use Rattle.oai_serving.specs.declared.pieces.Line.TheVariants.{Begun, Ended, Returned}
 
 -- a carriage return after a line feed, or after something else
-abbrev pub returned : Line → Line
-returned Ended = Returned
-returned Begun = Begun
-returned Returned = Begun
+abbrev pub after_carriage_return : Line → Line
+after_carriage_return Ended = Returned
+after_carriage_return Begun = Begun
+after_carriage_return Returned = Begun
 
 -- what the bytes end with after that byte
 abbrev pub line_after : Line → ℕ → Line
-line_after line byte = if byte == 10 then Ended else (if byte == 13 then returned line else Begun)
+line_after line byte = if byte == 10 then Ended else (if byte == 13 then after_carriage_return line else Begun)
 
 abbrev pub is_ended : Line → Bool
 is_ended Ended = true

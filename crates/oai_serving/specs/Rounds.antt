@@ -7,7 +7,7 @@ use Rattle.oai_front.specs.Performing.{Chain, Steps}
 use Rattle.oai_front.specs.Runs.{Served, Serves}
 use Rattle.oai_serving.specs.Accepted.{Known, Passes}
 use Rattle.oai_serving.specs.Links.{Link}
-use Rattle.oai_serving.specs.Tables.{AreAllAnswered, AreAllKept, AreEnded, AreSent}
+use Rattle.oai_serving.specs.Tables.{AreAllAnswered, AreAllKept, AreLinksDropped, AreSent}
 use Rattle.oai_serving.specs.declared.faults.ServeFault.{ServeFault}
 use Rattle.oai_serving.specs.declared.faults.ServeFault.TheVariants.{Wait, Clock, Unsettled}
 
@@ -29,7 +29,7 @@ pub record AreLinksWritten {S H : Type 0} (contents remaining : S → Option (Li
 pub record AreLinksEnded {S H : Type 0} (contents remaining : S → Option (List ℕ)) (known later : Known S) (old new : World S H) : Type 0 where
   pub handler : new.handler ≡ old.handler
   pub last : new.last ≡ old.last
-  pub links : AreEnded contents remaining known later old.links new.links
+  pub links : AreLinksDropped contents remaining known later old.links new.links
 
 -- streams were accepted, each with the next number, and links begin with them, or they were let go
 pub record AreAccepted {S H : Type 0} (contents remaining : S → Option (List ℕ)) (known later : Known S) (old new : World S H) : Type 0 where
@@ -46,8 +46,8 @@ abbrev pub HasOneMore : {S : Type 0} → Link S → Slab (Link S) → Slab (Link
 HasOneMore link old new = (key : ℕ) × (get old key ≡ None) × Updates old new key (Some link)
 
 -- that link was stored under a key that had none; or its stream was let go with its number, and no link changes
-abbrev pub IsPlaced : {S : Type 0} → Known S → Known S → Link S → Slab (Link S) → Slab (Link S) → Type 0
-IsPlaced known later link old new =
+abbrev pub IsStoredOrDropped : {S : Type 0} → Known S → Known S → Link S → Slab (Link S) → Slab (Link S) → Type 0
+IsStoredOrDropped known later link old new =
     (Passes known later [] [] × HasOneMore link old new) ⊎ (Passes known later [] ((link.connection.number, link.stream) ∷ []) × SameValues old new)
 
 -- the stream was accepted with the next number, and a link begins with it, or it was let go with that number

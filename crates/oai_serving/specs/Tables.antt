@@ -104,7 +104,7 @@ pub record AreSent {S : Type 0} (contents remaining : S → Option (List ℕ)) (
   pub count : slab_len new ≤ slab_len old
 
 -- links were removed, and the stream of each was let go with its number
-pub record AreEnded {S : Type 0} (contents remaining : S → Option (List ℕ)) (known later : Known S) (old new : Slab (Link S)) : Type 0 where
+pub record AreLinksDropped {S : Type 0} (contents remaining : S → Option (List ℕ)) (known later : Known S) (old new : Slab (Link S)) : Type 0 where
   pub parted : List (ℕ × S)
   pub passes : Passes known later [] parted
   pub kept : (accepted : List S) (gone : List (ℕ × S)) (served : List Served) → AreAllKept contents remaining accepted gone served old

@@ -1,7 +1,7 @@
 //! A connection over a stream.
 ghost use Rattle.std.specs.Prelude.{◌≡◌, ◌≤◌, ◌<◌, [], true, false, drop, length};
 ghost use Rattle.oai_front.specs.Stages.{is_closing};
-ghost use Rattle.oai_serving.specs.Links.{IsHolding, IsLinkRead, IsSent, IsTurn, is_able, opened};
+ghost use Rattle.oai_serving.specs.Links.{IsHolding, IsLinkRead, IsLinkStep, IsSent, is_able, opened};
 
 use crate::phases::Phase;
 use crate::pieces::{Line, next_piece};
@@ -115,7 +115,7 @@ impl<S: Stream> Link<S> {
         requires able { self.old.able ≡ true }
         requires reads { is_closing self.old.connection.stage ≡ false }
         requires idle { self.old.connection.output ≡ [] }
-        ensures { IsTurn H.step S.contents S.remaining moment self.old handler.old self.new handler.new }
+        ensures { IsLinkStep H.step S.contents S.remaining moment self.old handler.old self.new handler.new }
     {
         let (count, line) = next_piece(self.line, &self.held[self.start..]);
         let piece = &self.held[self.start..self.start + count];
@@ -129,8 +129,8 @@ impl<S: Stream> Link<S> {
     }
 
     /// Passes pieces to the connection until output waits, or none is held.
-    fn perform<H: Handler>(&mut self, alloc: Global, handler: &mut H, moment: i64)
-        ensures { IsTurn H.step S.contents S.remaining moment self.old handler.old self.new handler.new }
+    fn hand_in_all<H: Handler>(&mut self, alloc: Global, handler: &mut H, moment: i64)
+        ensures { IsLinkStep H.step S.contents S.remaining moment self.old handler.old self.new handler.new }
     {
         for _ in 0..READ_BYTES {
             if !self.has_piece() {
@@ -150,13 +150,13 @@ impl<S: Stream> Link<S> {
         second: u64,
         buffer: &mut [u8],
     ) -> usize
-        ensures { IsTurn H.step S.contents S.remaining moment self.old handler.old self.new handler.new }
+        ensures { IsLinkStep H.step S.contents S.remaining moment self.old handler.old self.new handler.new }
     {
         if self.waits() {
             return 0;
         }
         self.take_input(alloc, second, buffer);
-        self.perform(alloc, handler, moment);
+        self.hand_in_all(alloc, handler, moment);
         self.size()
     }
 

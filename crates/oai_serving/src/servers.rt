@@ -3,7 +3,7 @@ ghost use Rattle.std.specs.Prelude.{◌≡◌, ◌<◌, ◌+◌, ◌^◌, [], If
 ghost use Rattle.oai_serving.specs.declared.tables.TheConstants.{MAX_LINKS};
 ghost use Rattle.slab.specs.Slab.{slab_len};
 ghost use Rattle.oai_serving.specs.Accepted.{known_of};
-ghost use Rattle.oai_serving.specs.Rounds.{AreAccepted, AreLinksEnded, AreLinksWritten, IsAdmitted, IsPerformance, IsPlaced, IsRound, IsService};
+ghost use Rattle.oai_serving.specs.Rounds.{AreAccepted, AreLinksEnded, AreLinksWritten, IsAdmitted, IsPerformance, IsRound, IsService, IsStoredOrDropped};
 
 use crate::faults::ServeFault;
 use crate::links::{Link, READ_BYTES};
@@ -118,7 +118,7 @@ impl<S: Stream + Drop, H: Settled> Server<S, H> {
         self.note_all(sockets, count);
         self.end_links(sockets);
         self.accept_all(sockets, second);
-        self.perform(moment, second)
+        self.serve_links(moment, second)
     }
 
     /// The maximum time to wait: 0 if something can be done.
@@ -135,7 +135,7 @@ impl<S: Stream + Drop, H: Settled> Server<S, H> {
     }
 
     /// Reads, performs, settles, and writes.
-    fn perform(&mut self, moment: i64, second: u64) -> Result<(), ServeFault>
+    fn serve_links(&mut self, moment: i64, second: u64) -> Result<(), ServeFault>
         ensures { IsPerformance H.step H.settled S.contents S.remaining self.old result self.new }
     {
         self.first = read_all(
@@ -265,7 +265,7 @@ impl<S: Stream + Drop, H: Settled> Server<S, H> {
         requires { slab_len self.old.links < MAX_LINKS }
         ensures handler { self.new.handler ≡ self.old.handler }
         ensures last { self.new.last ≡ self.old.last }
-        ensures links { IsPlaced (known_of (K.accepted sockets.old) (K.gone sockets.old))
+        ensures links { IsStoredOrDropped (known_of (K.accepted sockets.old) (K.gone sockets.old))
             (known_of (K.accepted sockets.new) (K.gone sockets.new)) link self.old.links self.new.links }
     {
         match self.links.insert(link) {

@@ -1,7 +1,7 @@
 //! Links under keys.
 ghost use Rattle.std.specs.Prelude.{◌≡◌, ◌≤◌, ◌<◌, [], ◌∷◌, length};
 ghost use Rattle.oai_serving.specs.Accepted.{Passes, known_of};
-ghost use Rattle.oai_serving.specs.Tables.{AreEnded, AreSent, AreTurned};
+ghost use Rattle.oai_serving.specs.Tables.{AreLinksDropped, AreSent, AreTurned};
 
 use crate::links::Link;
 use crate::sockets::{Sockets, Stream};
@@ -94,7 +94,7 @@ fn put_at<S: Stream>(alloc: Global, links: &mut Slab<Link<S>>, key: usize, secon
 
 /// Removes the link with the key, if it is over.
 fn end_at<S: Stream + Drop, K: Sockets<S>>(sockets: &mut K, links: &mut Slab<Link<S>>, key: usize)
-    ensures { AreEnded S.contents S.remaining (known_of (K.accepted sockets.old) (K.gone sockets.old))
+    ensures { AreLinksDropped S.contents S.remaining (known_of (K.accepted sockets.old) (K.gone sockets.old))
         (known_of (K.accepted sockets.new) (K.gone sockets.new)) links.old links.new }
 {
     if is_over_at(links, key) {
@@ -108,7 +108,7 @@ fn take_away<S: Stream + Drop, K: Sockets<S>>(
     links: &mut Slab<Link<S>>,
     key: usize,
 )
-    ensures { AreEnded S.contents S.remaining (known_of (K.accepted sockets.old) (K.gone sockets.old))
+    ensures { AreLinksDropped S.contents S.remaining (known_of (K.accepted sockets.old) (K.gone sockets.old))
         (known_of (K.accepted sockets.new) (K.gone sockets.new)) links.old links.new }
 {
     match links.try_remove(key) {
@@ -149,7 +149,7 @@ pub(crate) fn end_all<S: Stream + Drop, K: Sockets<S>>(
     links: &mut Slab<Link<S>>,
     most: usize,
 )
-    ensures { AreEnded S.contents S.remaining (known_of (K.accepted sockets.old) (K.gone sockets.old))
+    ensures { AreLinksDropped S.contents S.remaining (known_of (K.accepted sockets.old) (K.gone sockets.old))
         (known_of (K.accepted sockets.new) (K.gone sockets.new)) links.old links.new }
 {
     for key in 0..most {
@@ -159,7 +159,7 @@ pub(crate) fn end_all<S: Stream + Drop, K: Sockets<S>>(
 
 /// Removes links while all together hold more than they may, the one that was idle longest first.
 pub(crate) fn shed_all<S: Stream + Drop, K: Sockets<S>>(sockets: &mut K, links: &mut Slab<Link<S>>)
-    ensures { AreEnded S.contents S.remaining (known_of (K.accepted sockets.old) (K.gone sockets.old))
+    ensures { AreLinksDropped S.contents S.remaining (known_of (K.accepted sockets.old) (K.gone sockets.old))
         (known_of (K.accepted sockets.new) (K.gone sockets.new)) links.old links.new }
 {
     for _ in 0..links.capacity() {

@@ -13,7 +13,7 @@ use Rattle.oai_item.specs.declared.formats.Format.{Format}
 use Rattle.oai_item.specs.declared.deleted_record.DeletedRecord.{DeletedRecord}
 
 -- what Identify returns of a repository (OAI-PMH 2.0, section 4.2), its limits, and its metadata formats
-pub record Config : Type 0 where
+pub record RepositoryConfig : Type 0 where
   pub base : List ℕ
   pub repository_name : List ℕ
   pub addresses : List (List ℕ)
@@ -71,7 +71,7 @@ unfoldable pub are_limits : ℕ → ℕ → ℕ → ℕ → Bool
 are_limits chunk lifetime lists items = is_chunk chunk && is_lifetime lifetime && is_lists lists && is_items items
 
 -- the rules that a configuration satisfies
-pub record IsConfig (config : Config) : Type 0 where
+pub record IsConfig (config : RepositoryConfig) : Type 0 where
   pub based : is_xml_text config.base ≡ true
   pub described : is_described config.repository_name config.addresses ≡ true
   pub dated : is_date config.granularity config.earliest ≡ true

@@ -1,9 +1,9 @@
 -- What contracts see of the fields of a `RepoConfig`.
-use Rattle.oai_settings.specs.Config.{Config}
+use Rattle.oai_settings.specs.Config.{RepositoryConfig}
 use Rattle.oai_settings.specs.declared.config.RepoConfig.TheInside.{Inside}
 
 -- what Identify returns of a repository, its limits, and its formats
-abbrev pub config_in : Inside → Config
+abbrev pub config_in : Inside → RepositoryConfig
 config_in c = record {
   base = c.base;
   repository_name = c.repository_name;

@@ -16,7 +16,7 @@ use Rattle.oai_settings.specs.declared.settings.FormatSettings.{FormatSettings}
 use Rattle.oai_settings.specs.declared.settings.Settings.{Settings}
 use Rattle.oai_settings.specs.declared.settings.ConfigFault.{ConfigFault}
 use Rattle.oai_settings.specs.declared.settings.ConfigFault.TheVariants.{BadShape, BadName, BadFormat, BadDate, BadNumber, NoMemory}
-use Rattle.oai_settings.specs.Config.{Config, is_described, is_repository_name, is_in_years, is_chunk, is_lifetime, is_lists, is_items}
+use Rattle.oai_settings.specs.Config.{RepositoryConfig, is_described, is_repository_name, is_in_years, is_chunk, is_lifetime, is_lists, is_items}
 
 -- the base, the repositoryName and the addresses are valid in length, number and characters
 abbrev pub has_shape : Settings → Bool
@@ -92,7 +92,7 @@ config_fault s =
 
 -- the settings have no fault, and each part of the configuration is what they say; the base URL is the base, `/oai/`
 -- and the name
-pub record Configures (settings : Settings) (config : Config) : Type 0 where
+pub record Configures (settings : Settings) (config : RepositoryConfig) : Type 0 where
   pub faultless : config_fault settings ≡ None
   pub base : config.base ≡ settings.base ++ codes "/oai/" ++ settings.name
   pub repository_name : config.repository_name ≡ settings.repository_name
@@ -107,7 +107,7 @@ pub record Configures (settings : Settings) (config : Config) : Type 0 where
   pub formats : config.formats ≡ formats_of settings.formats
 
 -- the result of making a configuration of the settings; out of memory is possible once shape and name are good
-abbrev pub IsConfigured : Settings → Result Config ConfigFault → Type 0
+abbrev pub IsConfigured : Settings → Result RepositoryConfig ConfigFault → Type 0
 IsConfigured settings (Ok config) = Configures settings config
 IsConfigured settings (Err NoMemory) = (has_shape settings ≡ true) × (is_repository_name settings.name ≡ true)
 IsConfigured settings (Err fault) = config_fault settings ≡ Some fault

@@ -10,7 +10,7 @@ use Rattle.oai_settings.specs.declared.settings.FormatSettings.{FormatSettings}
 use Rattle.oai_settings.specs.declared.settings.Settings.{Settings}
 use Rattle.oai_settings.specs.declared.settings.ConfigFault.{ConfigFault}
 use Rattle.oai_settings.specs.declared.settings.ConfigFault.TheVariants.{BadFormat, NoMemory}
-use Rattle.oai_settings.specs.Config.{Config, IsConfig, are_limits}
+use Rattle.oai_settings.specs.Config.{IsConfig, RepositoryConfig, are_limits}
 use Rattle.oai_settings.specs.Settings.{Configures, IsConfigured, are_formats, are_numbers, format_of, formats_of, passes_number}
 
 -- out of memory, and that much was good before it; or the format is a bad one
@@ -52,7 +52,7 @@ AreLimits chunk lifetime lists items (Some limits) =
 AreLimits chunk lifetime lists items None = are_numbers chunk lifetime lists items ≡ false
 
 -- the configuration with the parts made from its settings
-abbrev pub config_with : Settings → Made → Config
+abbrev pub config_with : Settings → Made → RepositoryConfig
 config_with settings made = record {
   base = made.base;
   repository_name = settings.repository_name;
@@ -68,6 +68,6 @@ config_with settings made = record {
 }
 
 -- with these parts the settings make the configuration; or they have the fault
-abbrev pub IsMade : Settings → Result Made ConfigFault → Type 0
-IsMade settings (Ok made) = Configures settings (config_with settings made) × IsConfig (config_with settings made)
-IsMade settings (Err fault) = IsConfigured settings (Err fault)
+abbrev pub IsAssembled : Settings → Result Made ConfigFault → Type 0
+IsAssembled settings (Ok made) = Configures settings (config_with settings made) × IsConfig (config_with settings made)
+IsAssembled settings (Err fault) = IsConfigured settings (Err fault)

@@ -28,9 +28,9 @@ pub struct RepoConfig {
 }
 
 impl Model for RepoConfig {
-    ghost use Rattle.oai_settings.specs.Config.{Config, IsConfig};
+    ghost use Rattle.oai_settings.specs.Config.{IsConfig, RepositoryConfig};
 
-    ghost Value = { Config };
+    ghost Value = { RepositoryConfig };
 
     ghost use Rattle.oai_settings.specs.ConfigInside.{config_in};
 

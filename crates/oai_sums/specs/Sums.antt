@@ -5,12 +5,12 @@ use Rattle.std.specs.List.{list_all}
 use Rattle.std.specs.Str.{bytes_eq}
 use Rattle.oai_item.specs.Item.{ItemState}
 use Rattle.oai_item.specs.Membership.{is_in}
-use Rattle.oai_sums.specs.declared.packed_counts.Several.{Several}
+use Rattle.oai_sums.specs.declared.packed_counts.PackedCount.{PackedCount}
 use Rattle.oai_sums.specs.declared.spans.Span.{Span}
 
 -- how many of the items are in the set
-unfoldable pub number_in : List ℕ → List ItemState → ℕ
-number_in set items = length (filter (λ (item : ItemState). is_in set item.sets) items)
+unfoldable pub count_in_set : List ℕ → List ItemState → ℕ
+count_in_set set items = length (filter (λ (item : ItemState). is_in set item.sets) items)
 
 -- a set, how many items are counted in it, and within which span of bytes their entries are
 pub record SetTotal : Type 0 where
@@ -35,7 +35,7 @@ pub record IsFirstAt (set : List ℕ) (totals : List SetTotal) (at : ℕ) : Type
 
 -- each set has as many of the items as are counted in it
 abbrev pub AreCounts : List SetTotal → List ItemState → Type 0
-AreCounts totals items = (set : List ℕ) → counted_in set totals ≡ number_in set items
+AreCounts totals items = (set : List ℕ) → counted_in set totals ≡ count_in_set set items
 
 -- 1 if it is true, else 0
 abbrev pub one_if : Bool → ℕ
@@ -64,23 +64,23 @@ SpansMore passes span old new = (set : List ℕ) → span_in set new ≡ (if pas
 -- ---- packed counts
 
 -- how many items the set at that position has: one, if nothing is stored of it
-abbrev pub count_at : List Several → ℕ → ℕ
+abbrev pub count_at : List PackedCount → ℕ → ℕ
 count_at [] at = 1
 count_at (other ∷ others) at = if other.at == at then other.count else count_at others at
 
 -- nothing is stored of how many items the set at that position has
-abbrev pub is_unsaid : List Several → ℕ → Bool
-is_unsaid several at = list_all (λ (other : Several). not (other.at == at)) several
+abbrev pub is_unsaid : List PackedCount → ℕ → Bool
+is_unsaid several at = list_all (λ (other : PackedCount). not (other.at == at)) several
 
 -- the set at that position has that many items, each other set has as many as before, and nothing more is stored of any
 -- other set
-pub record IsCounted (at count : ℕ) (old new : List Several) : Type 0 where
+pub record IsCounted (at count : ℕ) (old new : List PackedCount) : Type 0 where
   pub own : count_at new at ≡ count
   pub others : (other : ℕ) → other ≢ at → count_at new other ≡ count_at old other
   pub unsaid : (other : ℕ) → other ≢ at → is_unsaid old other ≡ true → is_unsaid new other ≡ true
 
 -- the sets, the first of which has that position, each with its count and its span
-abbrev pub totals_from : ℕ → List (List ℕ) → List Span → List Several → List SetTotal
+abbrev pub totals_from : ℕ → List (List ℕ) → List Span → List PackedCount → List SetTotal
 totals_from at [] spans several = []
 totals_from at (set ∷ sets) [] several = []
 totals_from at (set ∷ sets) (span ∷ spans) several = record { set = set; count = count_at several at; span = span } ∷ totals_from (at + 1) sets spans several

@@ -7,7 +7,7 @@ use std::marker::Model;
 
 /// A set with several items: its position among the sets, and how many.
 #[derive(Clone, Copy)]
-pub(crate) struct Several {
+pub(crate) struct PackedCount {
     at: u16,
     count: u32,
 }
@@ -24,7 +24,7 @@ pub(crate) fn push<T: Drop>(items: &mut Vec<T>, item: T) -> Option<()>
 
 /// Stores how many items the set at that position has, of which nothing was stored; for a set with one item nothing is.
 /// None if the position is above 65,535, or memory runs out.
-pub(crate) fn say_count(several: &mut Vec<Several>, at: usize, count: u32) -> Option<()>
+pub(crate) fn say_count(several: &mut Vec<PackedCount>, at: usize, count: u32) -> Option<()>
     requires { is_unsaid several.old.items at ≡ true }
     ensures { OnSome result (IsCounted at count several.old.items several.new.items) }
 {
@@ -32,7 +32,7 @@ pub(crate) fn say_count(several: &mut Vec<Several>, at: usize, count: u32) -> Op
         return Some(());
     }
     match u16::try_from(at) {
-        Ok(at) => push(several, Several { at, count }),
+        Ok(at) => push(several, PackedCount { at, count }),
         Err(_) => None,
     }
 }
@@ -45,7 +45,7 @@ pub struct PackedCounts {
     sets: Vec<SharedSetSpec>,
     spans: Vec<Span>,
     /// The sets that do not have exactly one item.
-    several: Vec<Several>,
+    several: Vec<PackedCount>,
 }
 
 impl Model for PackedCounts {
@@ -65,7 +65,7 @@ impl PackedCounts {
     pub(crate) fn new(
         sets: Vec<SharedSetSpec>,
         spans: Vec<Span>,
-        several: Vec<Several>,
+        several: Vec<PackedCount>,
     ) -> PackedCounts
         requires { length spans.items ≡ length sets.items }
         ensures { result ≡ totals_from 0 sets.items spans.items several.items }

@@ -4,7 +4,7 @@ ghost use Rattle.oai_item.specs.Membership.{is_in};
 ghost use Rattle.oai_names.specs.Sets.{covers};
 ghost use Rattle.oai_sums.specs.Sums.{CountsMore, IsFirstAt, SpansMore, counted_in, lacks, totals_from, widened};
 
-use crate::packed_counts::{PackedCounts, Several, push, say_count};
+use crate::packed_counts::{PackedCount, PackedCounts, push, say_count};
 use crate::set_names::{SetNames, SharedSetSpec};
 use crate::spans::Span;
 use oai_item::SpelledSets;
@@ -189,7 +189,7 @@ impl SetCounts {
         &self,
         sets: &mut Vec<SharedSetSpec>,
         spans: &mut Vec<Span>,
-        several: &mut Vec<Several>,
+        several: &mut Vec<PackedCount>,
     ) -> Option<()>
         requires sets { sets.old.items ≡ [] }
         requires spans { spans.old.items ≡ [] }

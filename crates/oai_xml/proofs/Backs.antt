@@ -7,7 +7,7 @@ use lib.Utf8.{encode}
 use Rattle.oai_names.specs.Escapes.{escaped, escaped_attribute, attribute_spelling, text_spelling}
 use Rattle.oai_xml.specs.Answers.{Goes}
 use Rattle.oai_xml.specs.Readings.{◌>>=◌, read, begins}
-use Rattle.oai_xml.specs.Parts.{reference_in, number_in, digits_in, entity_in}
+use Rattle.oai_xml.specs.Parts.{reference_in, char_ref_in, digits_in, entity_in}
 use Rattle.oai_xml.specs.Tags.{value_byte}
 use Rattle.oai_xml.specs.Trees.{followed_by, text_of}
 use Rattle.oai_xml.specs.Namespaces.{Scope}
@@ -35,15 +35,15 @@ unfolding reference_in entity_in begins
 gt_back tail = refl
 
 pub tab_back : (tail : List ℕ) → reference_in (codes "#9;" ++ tail) ≡ Ok (9 ∷ [], tail)
-unfolding reference_in number_in digits_in begins encode
+unfolding reference_in char_ref_in digits_in begins encode
 tab_back tail = refl
 
 pub line_back : (tail : List ℕ) → reference_in (codes "#10;" ++ tail) ≡ Ok (10 ∷ [], tail)
-unfolding reference_in number_in digits_in begins encode
+unfolding reference_in char_ref_in digits_in begins encode
 line_back tail = refl
 
 pub cr_back : (tail : List ℕ) → reference_in (codes "#13;" ++ tail) ≡ Ok (13 ∷ [], tail)
-unfolding reference_in number_in digits_in begins encode
+unfolding reference_in char_ref_in digits_in begins encode
 cr_back tail = refl
 
 -- ---- a byte of a value

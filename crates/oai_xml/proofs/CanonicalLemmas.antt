@@ -16,9 +16,9 @@ use Rattle.oai_xml.specs.QNames.{is_name_byte, is_qname}
 use Rattle.oai_xml.specs.Parts.{past_spaces}
 use Rattle.oai_xml.specs.Trees.{Attribute, Content, Tree, nothing, byte, element, spelled_attribute, spelled_content, spelled, start_tag, end_tag}
 use Rattle.oai_xml.specs.Namespaces.{Scope}
-use Rattle.oai_xml.specs.Whole.{names_of, within, is_content_whole, is_whole, Spells, IsElement}
+use Rattle.oai_xml.specs.Whole.{names_of, within, is_content_whole, is_whole, SpellsTree, IsElement}
 use Rattle.oai_xml.specs.Contents.{element_in, content_in}
-use Rattle.oai_xml.specs.Documents.{begins_spaces, opening_in, misc_in, root_in, prolog_in, tail_in, document_in, legal_len, legal_front, lines, normalized, place_of, placed, is_spelled_text, accepted, element_of, canonical, tree_in}
+use Rattle.oai_xml.specs.Documents.{begins_spaces, opening_in, misc_in, root_in, prolog_in, tail_in, document_in, legal_len, legal_front, lines, normalized, place_of, with_fault_place, is_spelled_text, accepted_tree, element_of, canonical, tree_in}
 use Rattle.oai_xml.specs.declared.limits.TheConstants.{MAX_DEPTH}
 use Rattle.oai_xml.proofs.TagBacks.{begun_apart, named}
 use Rattle.oai_xml.proofs.ContentBacks.{Whole, tag_parts, tree_parts, content_parts, byte_part, behind_tag, spelled_text, tree_back}
@@ -38,7 +38,7 @@ spelling_cut t u x y whole other same =
     let both = same_read (t, x) (u, y) (sym one ∙ ap (element_in (content_in steps) MAX_DEPTH []) texts ∙ two) in
     (ap (λ (w : Tree × List ℕ). w.0) both, ap (λ (w : Tree × List ℕ). w.1) both)
 
-pub one_tree : (bytes : List ℕ) (t u : Tree) → Spells bytes t → Spells bytes u → t ≡ u
+pub one_tree : (bytes : List ℕ) (t u : Tree) → SpellsTree bytes t → SpellsTree bytes u → t ≡ u
 one_tree bytes t u a b =
     (spelling_cut t u [] [] a.whole b.whole (append-nil (spelled t) ∙ sym a.bytes_are ∙ b.bytes_are ∙ sym (append-nil (spelled u)))).0
 
@@ -185,16 +185,16 @@ lines_same (b ∷ bytes) free =
 
 -- ---- an element is read as itself
 
-pub accepted_so : (text : List ℕ) (t : Tree) → eqb (legal_len (chars text)) (length text) ≡ true → is_spelled_text t ≡ true → accepted text t ≡ Ok t
-unfolding accepted
+pub accepted_so : (text : List ℕ) (t : Tree) → eqb (legal_len (chars text)) (length text) ≡ true → is_spelled_text t ≡ true → accepted_tree text t ≡ Ok t
+unfolding accepted_tree
 accepted_so text t whole spelled_so =
     cond-true (eqb (legal_len (chars text)) (length text) && is_spelled_text t) _ _ (and_from (eqb (legal_len (chars text)) (length text)) (is_spelled_text t) whole spelled_so)
 
-pub read_so : (text : List ℕ) (t : Tree) → document_in (normalized (legal_front text)) ≡ Ok t → accepted text t ≡ Ok t → element_of text ≡ Ok t
+pub read_so : (text : List ℕ) (t : Tree) → document_in (normalized (legal_front text)) ≡ Ok t → accepted_tree text t ≡ Ok t → element_of text ≡ Ok t
 unfolding element_of
-read_so text t is taken = ap (λ r. placed (legal_front text) r >>= λ tree. accepted text tree) is ∙ taken
+read_so text t is taken = ap (λ r. with_fault_place (legal_front text) r >>= λ tree. accepted_tree text tree) is ∙ taken
 
-pub element_read_back : (bytes : List ℕ) (t : Tree) → Spells bytes t → element_of bytes ≡ Ok t
+pub element_read_back : (bytes : List ℕ) (t : Tree) → SpellsTree bytes t → element_of bytes ≡ Ok t
 element_read_back bytes t s =
     let len = legal_whole bytes s.utf8 s.characters in
     let front : legal_front bytes ≡ bytes = ap (λ n. take n bytes) len ∙ take_all (length bytes) bytes (omega arith) in
@@ -211,7 +211,7 @@ canonical_of text t is = ap (λ r. r >>= λ tree. Ok (spelled tree)) is
 pub canonical_again : (bytes : List ℕ) → IsElement bytes → canonical bytes ≡ Ok bytes
 canonical_again bytes e = canonical_of bytes e.0 (element_read_back bytes e.0 e.1) ∙ ap (λ (w : List ℕ). Ok w) (sym e.1.bytes_are)
 
-pub tree_again : (bytes : List ℕ) (t : Tree) → Spells bytes t → tree_in bytes ≡ Some t
+pub tree_again : (bytes : List ℕ) (t : Tree) → SpellsTree bytes t → tree_in bytes ≡ Some t
 unfolding tree_in
 tree_again bytes t s = ap result_ok (element_read_back bytes t s)
 
@@ -225,30 +225,30 @@ document_whole bytes t is =
     let f = bound_ok (tail_in e.0.1) (λ end. Ok e.0.0) t e.2 in
     ap is_whole (sym (same_ok e.0.0 t f.2)) ∙ element_whole_read (content_in (suc (length a.0))) (content_reads_whole (suc (length a.0))) MAX_DEPTH [] a.0 e.0 e.1
 
-placed_ok : (front : List ℕ) (r : Result Tree ℕ) (t : Tree) → placed front r ≡ Ok t → r ≡ Ok t
+placed_ok : (front : List ℕ) (r : Result Tree ℕ) (t : Tree) → with_fault_place front r ≡ Ok t → r ≡ Ok t
 placed_ok front (Ok a) t is = is
 placed_ok front (Err left) t is = absurd (no_ok (place_of front left) t is)
 
-accepted_as : (text : List ℕ) (a t : Tree) → accepted text a ≡ Ok t → (is_spelled_text a ≡ true) × (a ≡ t)
-unfolding accepted
+accepted_as : (text : List ℕ) (a t : Tree) → accepted_tree text a ≡ Ok t → (is_spelled_text a ≡ true) × (a ≡ t)
+unfolding accepted_tree
 accepted_as text a t is =
     let ok = if_ok (eqb (legal_len (chars text)) (length text) && is_spelled_text a) (Ok a) (legal_len (chars text)) t is in
     ((and_parts (eqb (legal_len (chars text)) (length text)) (is_spelled_text a) ok.0).1, same_ok a t ok.1)
 
-pub element_spells : (text : List ℕ) (t : Tree) → element_of text ≡ Ok t → Spells (spelled t) t
+pub element_spells : (text : List ℕ) (t : Tree) → element_of text ≡ Ok t → SpellsTree (spelled t) t
 unfolding element_of
 element_spells text t is =
-    let r = bound_ok (placed (legal_front text) (document_in (normalized (legal_front text)))) (λ tree. accepted text tree) t is in
+    let r = bound_ok (with_fault_place (legal_front text) (document_in (normalized (legal_front text)))) (λ tree. accepted_tree text tree) t is in
     let taken = accepted_as text r.0 t r.2 in
     let whole = document_whole (normalized (legal_front text)) r.0 (placed_ok (legal_front text) (document_in (normalized (legal_front text))) r.0 r.1) in
     let parts = and_parts (is_utf8 (spelled r.0)) (is_xml_text (spelled r.0)) taken.0 in
-    subst (λ w. Spells (spelled w) w) taken.1 (record { whole = whole; bytes_are = refl; characters = parts.1; utf8 = IsUtf8-from_is_utf8 (spelled r.0) parts.0 })
+    subst (λ w. SpellsTree (spelled w) w) taken.1 (record { whole = whole; bytes_are = refl; characters = parts.1; utf8 = IsUtf8-from_is_utf8 (spelled r.0) parts.0 })
 
-pub canonical_tree : (text e : List ℕ) → canonical text ≡ Ok e → (t : Tree) × (tree_in text ≡ Some t) × Spells e t × (tree_in e ≡ Some t)
+pub canonical_tree : (text e : List ℕ) → canonical text ≡ Ok e → (t : Tree) × (tree_in text ≡ Some t) × SpellsTree e t × (tree_in e ≡ Some t)
 unfolding canonical tree_in
 canonical_tree text e is =
     let r = bound_ok (element_of text) (λ tree. Ok (spelled tree)) e is in
     let s = element_spells text r.0 r.1 in
     let same = same_ok (spelled r.0) e r.2 in
-    let spells = subst (λ w. Spells w r.0) same s in
+    let spells = subst (λ w. SpellsTree w r.0) same s in
     (r.0, ap result_ok r.1, spells, tree_again e r.0 spells)

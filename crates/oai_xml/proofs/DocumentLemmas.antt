@@ -10,11 +10,11 @@ use Rattle.oai_xml.specs.Answers.{Stops, StopsIn}
 use Rattle.oai_xml.specs.Readings.{Passing, ◌>>=◌, past}
 use Rattle.oai_xml.specs.Trees.{Tree, spelled}
 use Rattle.oai_xml.specs.Contents.{element_in, content_in}
-use Rattle.oai_xml.specs.Documents.{opening_in, misc_in, prolog_in, tail_in, root_in, document_in, legal_len, legal_front, lines, normalized, origin, placed, place_of, is_spelled_text, accepted, element_of, canonical}
-use Rattle.oai_xml.specs.Reads.{IsRead, IsFrontRead, IsTaken, IsFaultOf, IsAtSamePlace}
-use Rattle.oai_xml.specs.declared.faults.Stop.{Stop}
-use Rattle.oai_xml.specs.declared.faults.Stop.TheVariants.{At}
-use Rattle.oai_xml.specs.declared.faults.Stop.TheVariants as stop
+use Rattle.oai_xml.specs.Documents.{opening_in, misc_in, prolog_in, tail_in, root_in, document_in, legal_len, legal_front, lines, normalized, origin, with_fault_place, place_of, is_spelled_text, accepted_tree, element_of, canonical}
+use Rattle.oai_xml.specs.Reads.{IsCanonicalResult, IsFrontRead, IsTakenAsElement, IsFaultOf, IsAtSamePlace}
+use Rattle.oai_xml.specs.declared.faults.ParseStop.{ParseStop}
+use Rattle.oai_xml.specs.declared.faults.ParseStop.TheVariants.{At}
+use Rattle.oai_xml.specs.declared.faults.ParseStop.TheVariants as stop
 use Rattle.oai_xml.specs.declared.faults.XmlFault.{XmlFault}
 use Rattle.oai_xml.specs.declared.faults.XmlFault.TheVariants.{Refused}
 use Rattle.oai_xml.specs.declared.faults.XmlFault.TheVariants as fault
@@ -27,7 +27,7 @@ document_steps bytes r is = ap (λ r. r >>= λ rest. root_in rest >>= λ e. tail
 pub prolog_fails : (bytes : List ℕ) (left : ℕ) → prolog_in bytes ≡ Err left → document_in bytes ≡ Err left
 prolog_fails bytes left is = document_steps bytes (Err left) is
 
-pub root_stops : (bytes tag : List ℕ) (s : Stop) → prolog_in bytes ≡ Ok tag → StopsIn (λ steps. element_in (content_in steps) MAX_DEPTH [] tag) tag s → Stops (document_in bytes) s
+pub root_stops : (bytes tag : List ℕ) (s : ParseStop) → prolog_in bytes ≡ Ok tag → StopsIn (λ steps. element_in (content_in steps) MAX_DEPTH [] tag) tag s → Stops (document_in bytes) s
 root_stops bytes tag (At fault) is wrong =
     document_steps bytes (Ok tag) is ∙ ap (λ r. r >>= λ e. tail_in e.1 >>= λ end. Ok e.0) (wrong (suc (length tag)) (omega arith))
 root_stops bytes tag stop.NoMemory is wrong = tt
@@ -65,9 +65,9 @@ tail_wrong bytes left is = tail_steps bytes (Err left) is
 
 -- ---- a whole text
 
-element_steps : (text : List ℕ) (r : Result Tree ℕ) → document_in (normalized (legal_front text)) ≡ r → element_of text ≡ (placed (legal_front text) r >>= λ tree. accepted text tree)
+element_steps : (text : List ℕ) (r : Result Tree ℕ) → document_in (normalized (legal_front text)) ≡ r → element_of text ≡ (with_fault_place (legal_front text) r >>= λ tree. accepted_tree text tree)
 unfolding element_of
-element_steps text r is = ap (λ r. placed (legal_front text) r >>= λ tree. accepted text tree) is
+element_steps text r is = ap (λ r. with_fault_place (legal_front text) r >>= λ tree. accepted_tree text tree) is
 
 canonical_steps : (text : List ℕ) (r : Result Tree ℕ) → element_of text ≡ r → canonical text ≡ (r >>= λ tree. Ok (spelled tree))
 unfolding canonical
@@ -75,8 +75,8 @@ canonical_steps text r is = ap (λ r. r >>= λ tree. Ok (spelled tree)) is
 
 -- what the front was read as, taken
 pub read_as : (text front bytes : List ℕ) (legal : ℕ) (result : Result (List ℕ) XmlFault) → legal ≡ legal_len (chars text) → front ≡ take legal text
-    → (tree : Tree) × (document_in (normalized front) ≡ Ok tree) × (bytes ≡ spelled tree) → IsTaken legal (length text) bytes result → IsRead text result
-unfolding accepted
+    → (tree : Tree) × (document_in (normalized front) ≡ Ok tree) × (bytes ≡ spelled tree) → IsTakenAsElement legal (length text) bytes result → IsCanonicalResult text result
+unfolding accepted_tree
 read_as text front bytes legal (Ok element) len cut reading taken =
     let tree = reading.0 in
     let at : front ≡ legal_front text = cut ∙ ap (λ n. take n text) len in
@@ -96,7 +96,7 @@ read_as text front bytes legal (Err (Refused offset cause)) len cut reading take
 read_as text front bytes legal (Err fault.NoMemory) len cut reading taken = tt
 
 -- a fault of the front
-pub refused_as : (text front new : List ℕ) (legal : ℕ) (f : XmlFault) → legal ≡ legal_len (chars text) → front ≡ take legal text → IsFrontRead front new (Err f) → IsRead text (Err f)
+pub refused_as : (text front new : List ℕ) (legal : ℕ) (f : XmlFault) → legal ≡ legal_len (chars text) → front ≡ take legal text → IsFrontRead front new (Err f) → IsCanonicalResult text (Err f)
 refused_as text front new legal (Refused offset cause) len cut wrong =
     let at : front ≡ legal_front text = cut ∙ ap (λ n. take n text) len in
     canonical_steps text (Err (place_of (legal_front text) wrong.0))
@@ -105,7 +105,7 @@ refused_as text front new legal (Refused offset cause) len cut wrong =
 refused_as text front new legal fault.NoMemory len cut wrong = tt
 
 -- a fault by another cause
-pub same_place : (text : List ℕ) (f g : XmlFault) → IsAtSamePlace f g → IsRead text (Err f) → IsRead text (Err g)
+pub same_place : (text : List ℕ) (f g : XmlFault) → IsAtSamePlace f g → IsCanonicalResult text (Err f) → IsCanonicalResult text (Err g)
 same_place text (Refused offset cause) (Refused place other) same is = is ∙ ap (λ (n : ℕ). Err n) (sym same)
 same_place text (Refused offset cause) fault.NoMemory same is = absurd same
 same_place text fault.NoMemory (Refused place other) same is = absurd same
@@ -127,7 +127,7 @@ pub front_read : (text bytes old new : List ℕ) → normalized text ≡ bytes �
     → (t : Tree) × (document_in (normalized text) ≡ Ok t) × (new ≡ spelled t)
 front_read text bytes old new same none leaves = (leaves.0, ap document_in same ∙ leaves.1, leaves.2 ∙ ap (λ (w : List ℕ). w ++ spelled leaves.0) none)
 
-pub front_refused : (text bytes new : List ℕ) (s : Stop) (f : XmlFault) → normalized text ≡ bytes → Stops (document_in bytes) s → IsFaultOf text (length bytes) s f → IsFrontRead text new (Err f)
+pub front_refused : (text bytes new : List ℕ) (s : ParseStop) (f : XmlFault) → normalized text ≡ bytes → Stops (document_in bytes) s → IsFaultOf text (length bytes) s f → IsFrontRead text new (Err f)
 unfolding place_of
 front_refused text bytes new (At a) (Refused offset cause) same wrong at =
     (a.left, ap document_in same ∙ wrong, at ∙ ap (λ w. origin false text (length w - a.left)) (sym same))

@@ -13,8 +13,8 @@ use Rattle.oai_xml.specs.Trees.{Content, Tree, nothing, followed_by, text_of, al
 use Rattle.oai_xml.specs.Namespaces.{Scope, declared}
 use Rattle.oai_xml.specs.Whole.{within}
 use Rattle.oai_xml.specs.Contents.{ReadsContent, whole_start_in, inside_in, element_in, section_in, left_out_in, left_out_comment_in, cdata_section_in, markup_in, content_in}
-use Rattle.oai_xml.specs.declared.faults.Stop.{Stop}
-use Rattle.oai_xml.specs.declared.faults.Stop.TheVariants.{At, NoMemory}
+use Rattle.oai_xml.specs.declared.faults.ParseStop.{ParseStop}
+use Rattle.oai_xml.specs.declared.faults.ParseStop.TheVariants.{At, NoMemory}
 use Rattle.oai_xml.proofs.Goings.{goes_none, goes_then, goes_end, goes_wrong}
 use Rattle.oai_xml.proofs.Spellings.{nothing_spelled, tree_spelled, followed_spelled, text_spelled, alone_spelled, followed_none, followed_joins}
 use Rattle.oai_xml.proofs.Pieces.{contents, piece_goes, piece_wrong, content_closed, piece_markup, piece_reference, piece_character, run_goes}
@@ -50,12 +50,12 @@ element_ill_inside content levels scope bytes s left some is inside =
     element_steps content levels scope bytes (Ok s) some is ∙ ap (λ r. r >>= λ c. read (tree_of s.0 c.0) c.1) inside
 
 -- as the code does it
-pub element_start_stops : (levels : ℕ) (scope : Scope) (bytes : List ℕ) (stop : Stop) → eqb levels 0 ≡ false → Stops (whole_start_in scope bytes) stop
+pub element_start_stops : (levels : ℕ) (scope : Scope) (bytes : List ℕ) (stop : ParseStop) → eqb levels 0 ≡ false → Stops (whole_start_in scope bytes) stop
     → StopsIn (λ steps. element_in (content_in steps) levels scope bytes) bytes stop
 element_start_stops levels scope bytes (At fault) some is = λ steps enough. element_ill_start (content_in steps) levels scope bytes fault.left some is
 element_start_stops levels scope bytes NoMemory some is = tt
 
-pub element_inside_stops : (levels : ℕ) (scope inner : Scope) (bytes name closing : List ℕ) (s : Start × List ℕ) (stop : Stop) → eqb levels 0 ≡ false → whole_start_in scope bytes ≡ Ok s
+pub element_inside_stops : (levels : ℕ) (scope inner : Scope) (bytes name closing : List ℕ) (s : Start × List ℕ) (stop : ParseStop) → eqb levels 0 ≡ false → whole_start_in scope bytes ≡ Ok s
     → name ≡ s.0.name → closing ≡ s.1 → inner ≡ within scope s.0.attributes → length closing < length bytes
     → StopsIn (λ steps. inside_in (content_in steps) (levels - 1) inner name closing) closing stop → StopsIn (λ steps. element_in (content_in steps) levels scope bytes) bytes stop
 element_inside_stops levels scope inner bytes name closing s (At fault) some is named at scoped shorter wrong =
@@ -100,7 +100,7 @@ unfolding inside_in
 inside_full content levels scope name bytes r none is =
     cond-false (begins (codes "/") bytes) _ _ none ∙ ap (λ r. r >>= λ rest. content levels scope rest >>= λ c. end_in name c.1 >>= λ rest. read c.0 rest) is
 
-pub inside_stops : (levels : ℕ) (scope : Scope) (name bytes inner : List ℕ) (stop : Stop) → begins (codes "/") bytes ≡ false → past (codes ">") bytes ≡ Ok inner → length inner < length bytes
+pub inside_stops : (levels : ℕ) (scope : Scope) (name bytes inner : List ℕ) (stop : ParseStop) → begins (codes "/") bytes ≡ false → past (codes ">") bytes ≡ Ok inner → length inner < length bytes
     → StopsIn (λ steps. content_in steps levels scope inner) inner stop → StopsIn (λ steps. inside_in (content_in steps) levels scope name bytes) bytes stop
 inside_stops levels scope name bytes inner (At fault) none is shorter wrong =
     λ steps enough. inside_full (content_in steps) levels scope name bytes (Ok inner) none is
@@ -151,7 +151,7 @@ content_done levels scope now_scope bytes rest tag old now done so here is = (
   ),
 )
 
-pub content_stops : (levels : ℕ) (scope now_scope : Scope) (bytes rest old now : List ℕ) (done : Content) (stop : Stop) → ContentSoFar levels scope bytes rest now_scope old now done
+pub content_stops : (levels : ℕ) (scope now_scope : Scope) (bytes rest old now : List ℕ) (done : Content) (stop : ParseStop) → ContentSoFar levels scope bytes rest now_scope old now done
     → StopsIn (λ steps. content_in steps levels now_scope rest) rest stop → StopsIn (λ steps. content_in steps levels scope bytes) bytes stop
 content_stops levels scope now_scope bytes rest old now done (At fault) so wrong =
     goes_wrong followed_by (contents levels scope) bytes rest done fault.left so.goes
@@ -160,7 +160,7 @@ content_stops levels scope now_scope bytes rest old now done NoMemory so wrong =
 
 -- ---- one piece
 
-pub markup_piece : (levels : ℕ) (scope new_scope : Scope) (bytes tag old new : List ℕ) (result : Result (Bor (List ℕ)) Stop) → begins (codes "</") bytes ≡ false → begins (codes "<") bytes ≡ true
+pub markup_piece : (levels : ℕ) (scope new_scope : Scope) (bytes tag old new : List ℕ) (result : Result (Bor (List ℕ)) ParseStop) → begins (codes "</") bytes ≡ false → begins (codes "<") bytes ≡ true
     → tag ≡ behind (codes "<") bytes → length tag < length bytes → IfOk result (λ rest. length rest.now < length tag)
     → LeavesIn (λ rest c. (rest.now ≡ c.1) × (new_scope ≡ scope) × (new ≡ old ++ spelled_content c.0)) (λ steps. markup_in (content_in steps) levels scope tag) tag result
     → LeavesPiece followed_by (contents levels scope) (λ rest. rest.now) (λ rest piece. (new_scope ≡ scope) × (new ≡ old ++ spelled_content piece)) bytes result
@@ -177,7 +177,7 @@ markup_piece levels scope new_scope bytes tag old new (Err (At fault)) apart her
     (λ steps enough. piece_markup (content_in steps) levels scope bytes here ∙ ap (markup_in (content_in steps) levels scope) (sym is) ∙ leaves steps (omega arith))
 markup_piece levels scope new_scope bytes tag old new (Err NoMemory) apart here is shorter within leaves = tt
 
-pub reference_piece : (levels : ℕ) (scope : Scope) (bytes name old new : List ℕ) (result : Result (Bor (List ℕ)) Stop) → begins (codes "</") bytes ≡ false → begins (codes "<") bytes ≡ false
+pub reference_piece : (levels : ℕ) (scope : Scope) (bytes name old new : List ℕ) (result : Result (Bor (List ℕ)) ParseStop) → begins (codes "</") bytes ≡ false → begins (codes "<") bytes ≡ false
     → begins (codes "&") bytes ≡ true → name ≡ behind (codes "&") bytes → length name < length bytes → IfOk result (λ rest. length rest.now < length name)
     → Leaves (λ rest c. (rest.now ≡ c.1) × (new ≡ old ++ escaped_text c.0)) (reference_in name) result
     → LeavesPiece followed_by (contents levels scope) (λ rest. rest.now) (λ rest piece. (scope ≡ scope) × (new ≡ old ++ spelled_content piece)) bytes result
@@ -195,7 +195,7 @@ reference_piece levels scope bytes name old new (Err (At fault)) apart none here
     ∙ ap (λ r. r >>= λ r. read (text_of r.0) r.1) leaves)
 reference_piece levels scope bytes name old new (Err NoMemory) apart none here is shorter within leaves = tt
 
-pub characters_piece : (levels : ℕ) (scope : Scope) (bytes old new : List ℕ) (result : Result (Bor (List ℕ)) Stop) → begins (codes "</") bytes ≡ false → begins (codes "<") bytes ≡ false
+pub characters_piece : (levels : ℕ) (scope : Scope) (bytes old new : List ℕ) (result : Result (Bor (List ℕ)) ParseStop) → begins (codes "</") bytes ≡ false → begins (codes "<") bytes ≡ false
     → begins (codes "&") bytes ≡ false → AreCharacters bytes old new result
     → LeavesPiece followed_by (contents levels scope) (λ rest. rest.now) (λ rest piece. (scope ≡ scope) × (new ≡ old ++ spelled_content piece)) bytes result
 characters_piece levels scope bytes old new (Ok rest) apart none other are =
@@ -229,7 +229,7 @@ pub markup_element : (content : ReadsContent) (levels : ℕ) (scope : Scope) (by
 unfolding markup_in
 markup_element content levels scope bytes none other = cond-false (begins (codes "!") bytes) _ _ none ∙ cond-false (begins (codes "?") bytes) _ _ other
 
-pub section_leaves : (levels : ℕ) (scope : Scope) (bytes old new : List ℕ) (result : Result (Bor (List ℕ)) Stop) → begins (codes "!") bytes ≡ true
+pub section_leaves : (levels : ℕ) (scope : Scope) (bytes old new : List ℕ) (result : Result (Bor (List ℕ)) ParseStop) → begins (codes "!") bytes ≡ true
     → Leaves (λ rest c. (rest.now ≡ c.1) × (new ≡ old ++ spelled_content c.0)) (section_in bytes) result
     → LeavesIn (λ rest c. (rest.now ≡ c.1) × (scope ≡ scope) × (new ≡ old ++ spelled_content c.0)) (λ steps. markup_in (content_in steps) levels scope bytes) bytes result
 section_leaves levels scope bytes old new (Ok rest) here leaves =
@@ -249,7 +249,7 @@ pub left_out_fails : (levels : ℕ) (scope : Scope) (bytes : List ℕ) (left : �
     → (steps : ℕ) → length bytes < steps → markup_in (content_in steps) levels scope bytes ≡ Err left
 left_out_fails levels scope bytes left none here is steps enough = markup_left_out (content_in steps) levels scope bytes none here ∙ is
 
-pub element_leaves : (levels : ℕ) (scope new_scope : Scope) (bytes old new : List ℕ) (result : Result (Bor (List ℕ)) Stop) → begins (codes "!") bytes ≡ false → begins (codes "?") bytes ≡ false
+pub element_leaves : (levels : ℕ) (scope new_scope : Scope) (bytes old new : List ℕ) (result : Result (Bor (List ℕ)) ParseStop) → begins (codes "!") bytes ≡ false → begins (codes "?") bytes ≡ false
     → LeavesIn (λ rest e. (rest.now ≡ e.1) × (new_scope ≡ scope) × (new ≡ old ++ spelled e.0)) (λ steps. element_in (content_in steps) levels scope bytes) bytes result
     → LeavesIn (λ rest c. (rest.now ≡ c.1) × (new_scope ≡ scope) × (new ≡ old ++ spelled_content c.0)) (λ steps. markup_in (content_in steps) levels scope bytes) bytes result
 element_leaves levels scope new_scope bytes old new (Ok rest) none other leaves =

@@ -1,6 +1,6 @@
 -- Readings in steps: one piece after another.
 use Rattle.std.proofs.Common.{◌≡◌, ◌∙◌, ◌<◌, ℕ, List, Ok, Err, length, refl, sym, ap}
-use Rattle.oai_xml.specs.Answers.{before, Goes, GoesOn}
+use Rattle.oai_xml.specs.Answers.{before, Goes, ContinuesAs}
 use Rattle.oai_xml.specs.Readings.{Reading, Passing}
 
 -- pieces that are joined in whatever order are joined the same way
@@ -45,10 +45,10 @@ goes_wrong join reading bytes rest a left first last steps enough =
 
 -- ---- where nothing is kept
 
-pub on_none : (passing : ℕ → List ℕ → Passing) (bytes : List ℕ) → GoesOn passing bytes bytes
+pub on_none : (passing : ℕ → List ℕ → Passing) (bytes : List ℕ) → ContinuesAs passing bytes bytes
 on_none passing bytes = record { goes_on = λ steps enough. (steps, enough, refl) }
 
-pub on_then : (passing : ℕ → List ℕ → Passing) (bytes mid rest : List ℕ) → GoesOn passing bytes mid → GoesOn passing mid rest → GoesOn passing bytes rest
+pub on_then : (passing : ℕ → List ℕ → Passing) (bytes mid rest : List ℕ) → ContinuesAs passing bytes mid → ContinuesAs passing mid rest → ContinuesAs passing bytes rest
 on_then passing bytes mid rest first second = record {
   goes_on = λ steps enough.
       let one = first.goes_on steps enough in
@@ -56,6 +56,6 @@ on_then passing bytes mid rest first second = record {
       (two.0, two.1, one.2 ∙ two.2);
 }
 
-pub on_end : (passing : ℕ → List ℕ → Passing) (bytes rest : List ℕ) (end : Passing) → GoesOn passing bytes rest → ((steps : ℕ) → length rest < steps → passing steps rest ≡ end)
+pub on_end : (passing : ℕ → List ℕ → Passing) (bytes rest : List ℕ) (end : Passing) → ContinuesAs passing bytes rest → ((steps : ℕ) → length rest < steps → passing steps rest ≡ end)
     → (steps : ℕ) → length bytes < steps → passing steps bytes ≡ end
 on_end passing bytes rest end first last steps enough = let one = first.goes_on steps enough in one.2 ∙ last one.0 one.1

@@ -13,7 +13,7 @@ use Rattle.oai_names.specs.Characters.{is_xml_char, is_xml_text}
 use Rattle.oai_names.specs.Escapes.{attribute_spelling, escaped, escaped_attribute, escaped_text, text_spelling}
 use Rattle.oai_names.proofs.Lists.{all-weaker}
 use Rattle.oai_xml.specs.Trees.{Attribute, Content, Tree, nothing, byte, element, end_tag, spelled, spelled_attribute, spelled_content, start_tag}
-use Rattle.oai_xml.specs.LegalTexts.{are_elements_legal, first_text, is_legal_attribute, is_legal_tag, is_legal_text, is_legal_tree}
+use Rattle.oai_xml.specs.LegalTexts.{are_elements_legal, is_legal_attribute, is_legal_tag, is_legal_text, is_legal_tree, leading_text}
 use Rattle.oai_xml.proofs.Spellings.{byte_spelled, element_spelled, nothing_spelled, tree_spelled}
 
 -- ---- legal texts
@@ -220,29 +220,29 @@ unfolding escaped
 nothing_escaped = refl
 
 -- behind a text that is part of the first one
-content_legal : (c : Content) (front : List ℕ) → Legal (front ++ first_text c) → are_elements_legal c ≡ true → Legal (escaped_text front ++ spelled_content c)
-unfolding first_text are_elements_legal escaped
+content_legal : (c : Content) (front : List ℕ) → Legal (front ++ leading_text c) → are_elements_legal c ≡ true → Legal (escaped_text front ++ spelled_content c)
+unfolding leading_text are_elements_legal escaped
 content_legal nothing front text is =
     subst (λ w. Legal (escaped_text front ++ w)) (sym nothing_spelled)
     (both (escaped_text front) [] (escaped_legal text_spelling of_text front (subst Legal (append-nil front) text)) nothing_legal)
 content_legal (byte b rest) front text is =
-    let more : Legal (front ++ b ∷ [] ++ first_text rest) = subst Legal (sym (append_assoc front (b ∷ []) (first_text rest))) text in
+    let more : Legal (front ++ b ∷ [] ++ leading_text rest) = subst Legal (sym (append_assoc front (b ∷ []) (leading_text rest))) text in
     subst Legal (sym (byte_behind front b rest)) (content_legal rest (front ++ b ∷ []) more is)
 content_legal (element n a i rest) front text is =
-    let outer = and_parts (is_legal_tag n a && (is_legal_text (first_text i) && are_elements_legal i)) (is_legal_text (first_text rest) && are_elements_legal rest) is in
-    let tag = and_parts (is_legal_tag n a) (is_legal_text (first_text i) && are_elements_legal i) outer.0 in
-    let inside = and_parts (is_legal_text (first_text i)) (are_elements_legal i) tag.1 in
-    let others = and_parts (is_legal_text (first_text rest)) (are_elements_legal rest) outer.1 in
+    let outer = and_parts (is_legal_tag n a && (is_legal_text (leading_text i) && are_elements_legal i)) (is_legal_text (leading_text rest) && are_elements_legal rest) is in
+    let tag = and_parts (is_legal_tag n a) (is_legal_text (leading_text i) && are_elements_legal i) outer.0 in
+    let inside = and_parts (is_legal_text (leading_text i)) (are_elements_legal i) tag.1 in
+    let others = and_parts (is_legal_text (leading_text rest)) (are_elements_legal rest) outer.1 in
     subst (λ w. Legal (escaped_text front ++ w)) (sym (element_spelled n a i rest))
     (both (escaped_text front) _ (escaped_legal text_spelling of_text front (subst Legal (append-nil front) text))
     (both (start_tag n a) _ (start_legal n a tag.0)
-    (both (spelled_content i) _ (content_legal i [] (legal (first_text i) inside.0) inside.1)
-    (both (end_tag n) (spelled_content rest) (end_legal n a tag.0) (content_legal rest [] (legal (first_text rest) others.0) others.1)))))
+    (both (spelled_content i) _ (content_legal i [] (legal (leading_text i) inside.0) inside.1)
+    (both (end_tag n) (spelled_content rest) (end_legal n a tag.0) (content_legal rest [] (legal (leading_text rest) others.0) others.1)))))
 
 pub spelled_legal : (t : Tree) → is_legal_tree t ≡ true → is_legal_text (spelled t) ≡ true
 spelled_legal t is =
-    let outer = and_parts (is_legal_tag t.name t.attributes) (is_legal_text (first_text t.content) && are_elements_legal t.content) is in
-    let inside = and_parts (is_legal_text (first_text t.content)) (are_elements_legal t.content) outer.1 in
+    let outer = and_parts (is_legal_tag t.name t.attributes) (is_legal_text (leading_text t.content) && are_elements_legal t.content) is in
+    let inside = and_parts (is_legal_text (leading_text t.content)) (are_elements_legal t.content) outer.1 in
     tested (spelled t) (subst Legal (sym (tree_spelled t))
     (both (start_tag t.name t.attributes) _ (start_legal t.name t.attributes outer.0)
-    (both (spelled_content t.content) (end_tag t.name) (subst (λ (w : List ℕ). Legal (w ++ spelled_content t.content)) nothing_escaped (content_legal t.content [] (legal (first_text t.content) inside.0) inside.1)) (end_legal t.name t.attributes outer.0))))
+    (both (spelled_content t.content) (end_tag t.name) (subst (λ (w : List ℕ). Legal (w ++ spelled_content t.content)) nothing_escaped (content_legal t.content [] (legal (leading_text t.content) inside.0) inside.1)) (end_legal t.name t.attributes outer.0))))

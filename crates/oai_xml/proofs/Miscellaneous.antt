@@ -2,7 +2,7 @@
 use Rattle.std.proofs.Common.{◌≡◌, ◌∙◌, ◌<◌, ℕ, zero, suc, true, false, List, Ok, Err, length, ap, arith}
 use Rattle.std.specs.Prelude.{codes}
 use Rattle.std.proofs.lemmas.Bool.{cond-true, cond-false}
-use Rattle.oai_xml.specs.Answers.{GoesOn}
+use Rattle.oai_xml.specs.Answers.{ContinuesAs}
 use Rattle.oai_xml.specs.Readings.{Passing, ◌>>=◌, begins}
 use Rattle.oai_xml.specs.Parts.{past_spaces}
 use Rattle.oai_xml.specs.Documents.{misc_in, whole_comment_in, whole_instruction_in}
@@ -24,18 +24,18 @@ end_step steps bytes none other = cond-false (begins (codes "<!") (past_spaces b
 
 -- one thing that is passed
 went_on : (bytes rest : List ℕ) (one : Passing) → length rest < length bytes → one ≡ Ok rest → ((steps : ℕ) → misc_in (suc steps) bytes ≡ (one >>= λ rest. misc_in steps rest))
-    → GoesOn misc_in bytes rest
+    → ContinuesAs misc_in bytes rest
 went_on bytes rest one shorter is step = record { goes_on = by_steps }
   where
     by_steps : (steps : ℕ) → length bytes < steps → (others : ℕ) × (length rest < others) × (misc_in steps bytes ≡ misc_in others rest)
     by_steps zero enough = absurd (omega arith)
     by_steps (suc steps) enough = (steps, omega arith, step steps ∙ ap (λ r. r >>= λ rest. misc_in steps rest) is)
 
-pub comment_passed : (bytes rest : List ℕ) → begins (codes "<!") (past_spaces bytes) ≡ true → length rest < length bytes → whole_comment_in (past_spaces bytes) ≡ Ok rest → GoesOn misc_in bytes rest
+pub comment_passed : (bytes rest : List ℕ) → begins (codes "<!") (past_spaces bytes) ≡ true → length rest < length bytes → whole_comment_in (past_spaces bytes) ≡ Ok rest → ContinuesAs misc_in bytes rest
 comment_passed bytes rest here shorter is = went_on bytes rest (whole_comment_in (past_spaces bytes)) shorter is (λ steps. comment_in_step steps bytes here)
 
 pub instruction_passed : (bytes rest : List ℕ) → begins (codes "<!") (past_spaces bytes) ≡ false → begins (codes "<?") (past_spaces bytes) ≡ true → length rest < length bytes
-    → whole_instruction_in (past_spaces bytes) ≡ Ok rest → GoesOn misc_in bytes rest
+    → whole_instruction_in (past_spaces bytes) ≡ Ok rest → ContinuesAs misc_in bytes rest
 instruction_passed bytes rest none here shorter is =
     went_on bytes rest (whole_instruction_in (past_spaces bytes)) shorter is (λ steps. instruction_in_step steps bytes none here)
 

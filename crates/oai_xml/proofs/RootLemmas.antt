@@ -6,7 +6,7 @@ use Rattle.oai_xml.specs.QNames.{local_of}
 use Rattle.oai_xml.specs.Namespaces.{Scope, space_of}
 use Rattle.oai_xml.specs.Tags.{Start}
 use Rattle.oai_xml.specs.Trees.{Attribute, Tree, spelled, spelled_content}
-use Rattle.oai_xml.specs.Whole.{Spells, within}
+use Rattle.oai_xml.specs.Whole.{SpellsTree, within}
 use Rattle.oai_xml.specs.Contents.{whole_start_in}
 use Rattle.oai_xml.specs.Roots.{RootName, named_so, root_of, IsRootOf}
 use Rattle.oai_xml.specs.declared.limits.TheConstants.{MAX_DEPTH}
@@ -26,7 +26,7 @@ first_tag : (tag : List ℕ) → past (codes "<") (60 ∷ tag) ≡ Ok tag
 unfolding past
 first_tag tag = refl
 
-start_of : (t : Tree) (bytes : List ℕ) → Spells bytes t
+start_of : (t : Tree) (bytes : List ℕ) → SpellsTree bytes t
     → (rest : List ℕ) × (whole_start_in [] (behind_tag t []) ≡ Ok (record { name = t.name; attributes = t.attributes }, rest))
 unfolding behind_tag
 start_of t bytes s =
@@ -35,7 +35,7 @@ start_of t bytes s =
       whole_start_back [] t.name (spelled_content t.content ++ 60 ∷ 47 ∷ (t.name ++ 62 ∷ [])) t.attributes (tag_parts [] t.name t.attributes parts.1),
     )
 
-pub only_root : (t : Tree) (bytes : List ℕ) (root : RootName) → Spells bytes t → IsRootOf bytes root → root ≡ root_of t
+pub only_root : (t : Tree) (bytes : List ℕ) (root : RootName) → SpellsTree bytes t → IsRootOf bytes root → root ≡ root_of t
 only_root t bytes root s is =
     let text : bytes ≡ 60 ∷ behind_tag t [] = s.bytes_are ∙ sym (append-nil (spelled t)) ∙ spelled_text t [] in
     let tag : is.1 ≡ behind_tag t [] = same_ok is.1 (behind_tag t []) (sym is.3 ∙ ap (past (codes "<")) text ∙ first_tag (behind_tag t [])) in

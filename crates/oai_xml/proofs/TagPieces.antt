@@ -13,8 +13,8 @@ use Rattle.oai_xml.specs.Trees.{Attribute, spelled_attribute, start_tag}
 use Rattle.oai_xml.specs.Namespaces.{Declaration, Scope, declared, declaration_of, declared_prefix, is_declaring}
 use Rattle.oai_xml.specs.Whole.{names_of, within, has_default, are_names_whole}
 use Rattle.oai_xml.specs.Contents.{completion, completed, completed_start, closed_start, whole_start_in}
-use Rattle.oai_xml.specs.declared.faults.Stop.{Stop}
-use Rattle.oai_xml.specs.declared.faults.Stop.TheVariants.{At, NoMemory}
+use Rattle.oai_xml.specs.declared.faults.ParseStop.{ParseStop}
+use Rattle.oai_xml.specs.declared.faults.ParseStop.TheVariants.{At, NoMemory}
 use Rattle.oai_xml.proofs.Goings.{goes_none, goes_then, goes_end, goes_wrong}
 use Rattle.oai_xml.proofs.ValueLemmas.{cat, cat_joins}
 use Rattle.oai_xml.proofs.AttributeLemmas.{attribute_goes, attribute_wrong, attributes_closed, tells_none, tells_then}
@@ -47,7 +47,7 @@ attributes_whole bytes rest next n n1 s s1 o o1 done so at here = (
   (at, subst (λ w. Tells w n n1 s s1 o o1) (sym (append-nil done)) so.tells),
 )
 
-pub attributes_stop : (bytes rest : List ℕ) (n n1 : List (List ℕ)) (s s1 : Scope) (o o1 : List ℕ) (done : List Attribute) (stop : Stop)
+pub attributes_stop : (bytes rest : List ℕ) (n n1 : List (List ℕ)) (s s1 : Scope) (o o1 : List ℕ) (done : List Attribute) (stop : ParseStop)
     → AttributesSoFar bytes rest n n1 s s1 o o1 done → ends_tag (past_spaces rest) ≡ false → Stops (spaced_attribute_in rest) stop → StopsIn (λ steps. attributes_in steps bytes) bytes stop
 attributes_stop bytes rest n n1 s s1 o o1 done (At fault) so apart wrong = goes_wrong cat attributes_in bytes rest done fault.left so.goes (attribute_wrong rest fault.left apart wrong)
 attributes_stop bytes rest n n1 s s1 o o1 done NoMemory so apart wrong = tt
@@ -177,7 +177,7 @@ unattributed bytes name behind left is wrong =
     ap (λ r. r >>= λ n. attributes_in (suc (length n.1)) n.1 >>= λ a. read (record { name = n.0; attributes = a.0 }) a.1) is
     ∙ ap (λ r. r >>= λ a. read (record { name = name; attributes = a.0 }) a.1) wrong
 
-pub start_stops : (scope : Scope) (bytes name behind : List ℕ) (stop : Stop) → qname_in bytes ≡ Ok (name, behind) → StopsIn (λ steps. attributes_in steps behind) behind stop
+pub start_stops : (scope : Scope) (bytes name behind : List ℕ) (stop : ParseStop) → qname_in bytes ≡ Ok (name, behind) → StopsIn (λ steps. attributes_in steps behind) behind stop
     → Stops (whole_start_in scope bytes) stop
 start_stops scope bytes name behind (At fault) is wrong =
     unstarted scope bytes fault.left (unattributed bytes name behind fault.left is (wrong (suc (length behind)) (omega arith)))

@@ -7,8 +7,8 @@ use Rattle.oai_names.specs.Escapes.{escaped, escaped_attribute, attribute_spelli
 use Rattle.oai_xml.specs.Answers.{Goes, Leaves, LeavesPiece, StopsIn, formed, is_closed}
 use Rattle.oai_xml.specs.Parts.{reference_in}
 use Rattle.oai_xml.specs.Tags.{value_in, value_byte}
-use Rattle.oai_xml.specs.declared.faults.Stop.{Stop}
-use Rattle.oai_xml.specs.declared.faults.Stop.TheVariants.{At, NoMemory}
+use Rattle.oai_xml.specs.declared.faults.ParseStop.{ParseStop}
+use Rattle.oai_xml.specs.declared.faults.ParseStop.TheVariants.{At, NoMemory}
 use Rattle.oai_xml.specs.declared.values.Form.{Form}
 use Rattle.oai_xml.specs.declared.values.Form.TheVariants.{Plain, Spelled}
 use Rattle.oai_xml.proofs.Goings.{goes_none, goes_then, goes_end, goes_wrong}
@@ -44,7 +44,7 @@ marked_piece quote bytes tail b is cut same =
     subst P (ap (λ (x : ℕ). x ∷ tail) (sym same) ∙ sym cut) (value_marked quote tail (markup_apart quote is))
 
 -- a reference
-pub referred_piece : (form : Form) (quote : ℕ) (bytes tail old new : List ℕ) (b : ℕ) (result : Result (Bor (List ℕ)) Stop) → (eqb quote 34 || eqb quote 39) ≡ true → bytes ≡ b ∷ tail → b ≡ 38
+pub referred_piece : (form : Form) (quote : ℕ) (bytes tail old new : List ℕ) (b : ℕ) (result : Result (Bor (List ℕ)) ParseStop) → (eqb quote 34 || eqb quote 39) ≡ true → bytes ≡ b ∷ tail → b ≡ 38
     → Leaves (λ rest c. (rest.now ≡ c.1) × (new ≡ old ++ formed form c.0)) (reference_in tail) result → IfOk result (λ rest. length rest.now < length tail)
     → LeavesPiece cat (values quote) (λ rest. rest.now) (λ rest piece. new ≡ old ++ formed form piece) bytes result
 referred_piece form quote bytes tail old new b (Ok rest) is cut same leaves shorter =
@@ -95,7 +95,7 @@ pub value_cut_off : (form : Form) (quote : ℕ) (bytes rest old new done : List 
     → (steps : ℕ) → length bytes < steps → value_in steps quote bytes ≡ Err 0
 value_cut_off form quote bytes rest old new done so none = goes_wrong cat (values quote) bytes rest done 0 so.goes (value_ends quote rest none)
 
-pub value_stops : (form : Form) (quote : ℕ) (bytes rest old new done : List ℕ) (stop : Stop) → SoFar form quote bytes rest old new done
+pub value_stops : (form : Form) (quote : ℕ) (bytes rest old new done : List ℕ) (stop : ParseStop) → SoFar form quote bytes rest old new done
     → StopsIn (λ steps. value_in steps quote rest) rest stop → StopsIn (λ steps. value_in steps quote bytes) bytes stop
 value_stops form quote bytes rest old new done (At fault) so wrong = goes_wrong cat (values quote) bytes rest done fault.left so.goes wrong
 value_stops form quote bytes rest old new done NoMemory so wrong = tt

@@ -10,36 +10,36 @@ use Rattle.oai_xml.specs.Readings.{Reading, Passing}
 use Rattle.oai_xml.specs.Parts.{past_spaces}
 use Rattle.oai_xml.specs.Contents.{character_in}
 use Rattle.oai_xml.specs.Documents.{misc_in}
-use Rattle.oai_xml.specs.declared.faults.Fault.{Fault}
-use Rattle.oai_xml.specs.declared.faults.Stop.{Stop}
-use Rattle.oai_xml.specs.declared.faults.Stop.TheVariants.{At, NoMemory}
+use Rattle.oai_xml.specs.declared.faults.ParseFault.{ParseFault}
+use Rattle.oai_xml.specs.declared.faults.ParseStop.{ParseStop}
+use Rattle.oai_xml.specs.declared.faults.ParseStop.TheVariants.{At, NoMemory}
 use Rattle.oai_xml.specs.declared.values.Form.{Form}
 use Rattle.oai_xml.specs.declared.values.Form.TheVariants.{Plain, Spelled}
 
 -- ---- answers
 
 -- what a function answers that reads so: `see` is what it hands out, as what is read
-abbrev pub Gives : {R A : Type 0} → (R → A) → Result A ℕ → Result R Fault → Type 0
+abbrev pub Gives : {R A : Type 0} → (R → A) → Result A ℕ → Result R ParseFault → Type 0
 Gives see reading (Ok r) = reading ≡ Ok (see r)
 Gives see reading (Err fault) = reading ≡ Err fault.left
 
 -- a reading that stops so: at a fault, or since memory is wanting
-abbrev pub Stops : {A : Type 0} → Result A ℕ → Stop → Type 0
+abbrev pub Stops : {A : Type 0} → Result A ℕ → ParseStop → Type 0
 Stops reading (At fault) = reading ≡ Err fault.left
 Stops reading NoMemory = Unit {0}
 
 -- the same of what is read in steps, no more of them than there are bytes
-abbrev pub StopsIn : {A : Type 0} → (ℕ → Result A ℕ) → List ℕ → Stop → Type 0
+abbrev pub StopsIn : {A : Type 0} → (ℕ → Result A ℕ) → List ℕ → ParseStop → Type 0
 StopsIn reading bytes (At fault) = (steps : ℕ) → length bytes < steps → reading steps ≡ Err fault.left
 StopsIn reading bytes NoMemory = Unit {0}
 
 -- what a function answers that needs memory, where what is read leaves something behind
-abbrev pub Leaves : {R A : Type 0} → (R → A → Type 0) → Result A ℕ → Result R Stop → Type 0
+abbrev pub Leaves : {R A : Type 0} → (R → A → Type 0) → Result A ℕ → Result R ParseStop → Type 0
 Leaves {A = A} left reading (Ok r) = (a : A) × (reading ≡ Ok a) × left r a
 Leaves left reading (Err stop) = Stops reading stop
 
 -- the same of what is read in steps
-abbrev pub LeavesIn : {R A : Type 0} → (R → A → Type 0) → (ℕ → Result A ℕ) → List ℕ → Result R Stop → Type 0
+abbrev pub LeavesIn : {R A : Type 0} → (R → A → Type 0) → (ℕ → Result A ℕ) → List ℕ → Result R ParseStop → Type 0
 LeavesIn {A = A} left reading bytes (Ok r) = (a : A) × ((steps : ℕ) → length bytes < steps → reading steps ≡ Ok a) × left r a
 LeavesIn left reading bytes (Err stop) = StopsIn reading bytes stop
 
@@ -55,7 +55,7 @@ pub record Goes {A : Type 0} (join : A → A → A) (reading : ℕ → List ℕ 
   pub goes : (steps : ℕ) → length bytes < steps → (others : ℕ) × (length rest < others) × (reading steps bytes ≡ before join piece (reading others rest))
 
 -- what a function answers that reads one such piece
-abbrev pub LeavesPiece : {R A : Type 0} → (A → A → A) → (ℕ → List ℕ → Reading A) → (R → List ℕ) → (R → A → Type 0) → List ℕ → Result R Stop → Type 0
+abbrev pub LeavesPiece : {R A : Type 0} → (A → A → A) → (ℕ → List ℕ → Reading A) → (R → List ℕ) → (R → A → Type 0) → List ℕ → Result R ParseStop → Type 0
 LeavesPiece {A = A} join reading rest left bytes (Ok r) = (piece : A) × Goes join reading bytes (rest r) piece × left r piece
 LeavesPiece join reading rest left bytes (Err stop) = StopsIn (λ steps. reading steps bytes) bytes stop
 
@@ -84,7 +84,7 @@ pub record Tells (attributes : List Attribute) (names new_names : List (List ℕ
   pub out_is : new_out ≡ out ++ flat_map spelled_attribute attributes
 
 -- what adds to the scope what an attribute of that name declares, of which the value is read once more
-abbrev pub Declares : List ℕ → Reading (List ℕ) → Scope → Scope → Result (Unit {0}) Stop → Type 0
+abbrev pub Declares : List ℕ → Reading (List ℕ) → Scope → Scope → Result (Unit {0}) ParseStop → Type 0
 Declares name reading old new (Ok done) =
     (value : List ℕ) (rest : List ℕ) → reading ≡ Ok (value, rest) → new ≡ old ++ declared (record { name = name; value = value } ∷ [])
 Declares name reading old new (Err stop) = Stops reading stop
@@ -96,7 +96,7 @@ abbrev pub is_bare_text_byte : ℕ → Bool
 is_bare_text_byte b = not (b == 38) && not (b == 60) && not (b == 62) && not (b == 93) && not (b == 13)
 
 -- what a function answers that appends some of a text: bytes that stand for themselves, or one byte
-abbrev pub AreCharacters : List ℕ → List ℕ → List ℕ → Result (Bor (List ℕ)) Stop → Type 0
+abbrev pub AreCharacters : List ℕ → List ℕ → List ℕ → Result (Bor (List ℕ)) ParseStop → Type 0
 AreCharacters bytes old new (Ok rest) =
     (run : List ℕ) × (bytes ≡ run ++ rest.now) × (0 < length run) × (new ≡ old ++ escaped_text run)
     × ((list_all is_bare_text_byte run ≡ true) ⊎ (character_in bytes ≡ Ok (text_of run, rest.now)))
@@ -105,16 +105,16 @@ AreCharacters bytes old new (Err stop) = Stops (character_in bytes) stop
 -- ---- miscellaneous
 
 -- in however many steps the bytes are passed, they come to the same as the rest
-pub record GoesOn (passing : ℕ → List ℕ → Passing) (bytes rest : List ℕ) : Type 0 where
+pub record ContinuesAs (passing : ℕ → List ℕ → Passing) (bytes rest : List ℕ) : Type 0 where
   pub goes_on : (steps : ℕ) → length bytes < steps → (others : ℕ) × (length rest < others) × (passing steps bytes ≡ passing others rest)
 
 -- what a function answers that passes bytes in steps, no more of them than there are bytes
-abbrev pub PassesIn : (ℕ → List ℕ → Passing) → List ℕ → Result (Bor (List ℕ)) Fault → Type 0
+abbrev pub PassesIn : (ℕ → List ℕ → Passing) → List ℕ → Result (Bor (List ℕ)) ParseFault → Type 0
 PassesIn passing bytes (Ok rest) = (steps : ℕ) → length bytes < steps → passing steps bytes ≡ Ok rest.now
 PassesIn passing bytes (Err fault) = (steps : ℕ) → length bytes < steps → passing steps bytes ≡ Err fault.left
 
 -- what a function answers that passes one of them, and the white space before it: none where the white space is all
-abbrev pub PassesOne : List ℕ → Result (Option (Bor (List ℕ))) Fault → Type 0
-PassesOne bytes (Ok (Some rest)) = GoesOn misc_in bytes rest.now × (length rest.now < length bytes)
+abbrev pub PassesOne : List ℕ → Result (Option (Bor (List ℕ))) ParseFault → Type 0
+PassesOne bytes (Ok (Some rest)) = ContinuesAs misc_in bytes rest.now × (length rest.now < length bytes)
 PassesOne bytes (Ok None) = (steps : ℕ) → length bytes < steps → misc_in steps bytes ≡ Ok (past_spaces bytes)
 PassesOne bytes (Err fault) = (steps : ℕ) → length bytes < steps → misc_in steps bytes ≡ Err fault.left

@@ -20,8 +20,8 @@ quote_in [] = Err 0
 quote_in (b ∷ bytes) = if b == 34 || b == 39 then read b bytes else Err (length (b ∷ bytes))
 
 -- S, a name, Eq and a quote, which is what is read
-unfoldable pub named_in : List ℕ → List ℕ → Reading ℕ
-named_in name bytes = past_space bytes >>= λ start. past name start >>= λ equals. past_equals equals >>= λ quoted. quote_in quoted
+unfoldable pub pseudo_attribute_in : List ℕ → List ℕ → Reading ℕ
+pseudo_attribute_in name bytes = past_space bytes >>= λ start. past name start >>= λ equals. past_equals equals >>= λ quoted. quote_in quoted
 
 -- [26] VersionNum ::= '1.' [0-9]+
 unfoldable pub version_number_in : List ℕ → Passing
@@ -30,7 +30,7 @@ version_number_in bytes = past (codes "1.") bytes >>= λ rest.
 
 -- [24] VersionInfo ::= S 'version' Eq ("'" VersionNum "'" | '"' VersionNum '"')
 unfoldable pub version_in : List ℕ → Passing
-version_in bytes = named_in (codes "version") bytes >>= λ q. version_number_in q.1 >>= λ rest. past (q.0 ∷ []) rest
+version_in bytes = pseudo_attribute_in (codes "version") bytes >>= λ q. version_number_in q.1 >>= λ rest. past (q.0 ∷ []) rest
 
 -- the one encoding of texts, whatever the case of its letters
 unfoldable pub utf_8_in : List ℕ → Passing
@@ -40,17 +40,17 @@ utf_8_in bytes = if str_eq_ignore_ascii_case (take 5 bytes) (codes "UTF-8") then
 unfoldable pub encoding_in : List ℕ → Passing
 encoding_in bytes =
     if not (begins (codes "encoding") (past_spaces bytes)) then Ok bytes
-    else (named_in (codes "encoding") bytes >>= λ q. utf_8_in q.1 >>= λ rest. past (q.0 ∷ []) rest)
+    else (pseudo_attribute_in (codes "encoding") bytes >>= λ q. utf_8_in q.1 >>= λ rest. past (q.0 ∷ []) rest)
 
 -- 'yes' | 'no'
-unfoldable pub answer_in : List ℕ → Passing
-answer_in bytes = if begins (codes "y") bytes then past (codes "yes") bytes else past (codes "no") bytes
+unfoldable pub yes_or_no_in : List ℕ → Passing
+yes_or_no_in bytes = if begins (codes "y") bytes then past (codes "yes") bytes else past (codes "no") bytes
 
 -- [32] SDDecl ::= S 'standalone' Eq (("'" ('yes' | 'no') "'") | ('"' ('yes' | 'no') '"')), or nothing
 unfoldable pub standalone_in : List ℕ → Passing
 standalone_in bytes =
     if not (begins (codes "standalone") (past_spaces bytes)) then Ok bytes
-    else (named_in (codes "standalone") bytes >>= λ q. answer_in q.1 >>= λ rest. past (q.0 ∷ []) rest)
+    else (pseudo_attribute_in (codes "standalone") bytes >>= λ q. yes_or_no_in q.1 >>= λ rest. past (q.0 ∷ []) rest)
 
 -- [23] XMLDecl ::= '<?xml' VersionInfo EncodingDecl? SDDecl? S? '?>', behind the '<?xml'
 unfoldable pub declaration_in : List ℕ → Passing
@@ -129,22 +129,22 @@ origin cr (b ∷ bytes) n =
 unfoldable pub place_of : List ℕ → ℕ → ℕ
 place_of text left = origin false text (length (normalized text) - left)
 
-abbrev pub placed : {A : Type 0} → List ℕ → Result A ℕ → Result A ℕ
-placed text (Ok a) = Ok a
-placed text (Err left) = Err (place_of text left)
+abbrev pub with_fault_place : {A : Type 0} → List ℕ → Result A ℕ → Result A ℕ
+with_fault_place text (Ok a) = Ok a
+with_fault_place text (Err left) = Err (place_of text left)
 
 -- the tree's spelling is a text of XML's characters, as that of each tree is that is read of such a text
 abbrev pub is_spelled_text : Tree → Bool
 is_spelled_text tree = is_utf8 (spelled tree) && is_xml_text (spelled tree)
 
 -- the tree, if that is so, and if all of the text was read: what was read is the front up to the first illegal character
-unfoldable pub accepted : List ℕ → Tree → Result Tree ℕ
-accepted text tree = if legal_len (chars text) == length text && is_spelled_text tree then Ok tree else Err (legal_len (chars text))
+unfoldable pub accepted_tree : List ℕ → Tree → Result Tree ℕ
+accepted_tree text tree = if legal_len (chars text) == length text && is_spelled_text tree then Ok tree else Err (legal_len (chars text))
 
 -- the tree of a text, or the place of its first fault: the byte from which on no bytes could make it one; of an illegal character, a name or an
 -- entity its first byte; of the namespaces or the size of a start tag the byte that closes it
 unfoldable pub element_of : List ℕ → Result Tree ℕ
-element_of text = placed (legal_front text) (document_in (normalized (legal_front text))) >>= λ tree. accepted text tree
+element_of text = with_fault_place (legal_front text) (document_in (normalized (legal_front text))) >>= λ tree. accepted_tree text tree
 
 -- the canonical text of a text, or the place of its first fault
 unfoldable pub canonical : List ℕ → Result (List ℕ) ℕ

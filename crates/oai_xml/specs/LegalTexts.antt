@@ -10,10 +10,10 @@ abbrev pub is_legal_text : List ℕ → Bool
 is_legal_text text = is_utf8 text && is_xml_text text
 
 -- the text that contents begin with, up to their first element
-unfoldable pub first_text : Content → List ℕ
-first_text nothing = []
-first_text (byte b rest) = b ∷ first_text rest
-first_text (element name attributes inside rest) = []
+unfoldable pub leading_text : Content → List ℕ
+leading_text nothing = []
+leading_text (byte b rest) = b ∷ leading_text rest
+leading_text (element name attributes inside rest) = []
 
 -- the name and the value of an attribute are such texts
 abbrev pub is_legal_attribute : Attribute → Bool
@@ -28,10 +28,10 @@ are_elements_legal nothing = true
 are_elements_legal (byte b rest) = are_elements_legal rest
 are_elements_legal (element name attributes inside rest) =
     is_legal_tag name attributes
-    && (is_legal_text (first_text inside) && are_elements_legal inside)
-    && (is_legal_text (first_text rest) && are_elements_legal rest)
+    && (is_legal_text (leading_text inside) && are_elements_legal inside)
+    && (is_legal_text (leading_text rest) && are_elements_legal rest)
 
 -- all texts in an element
 abbrev pub is_legal_tree : Tree → Bool
 is_legal_tree t =
-    is_legal_tag t.name t.attributes && (is_legal_text (first_text t.content) && are_elements_legal t.content)
+    is_legal_tag t.name t.attributes && (is_legal_text (leading_text t.content) && are_elements_legal t.content)

@@ -54,8 +54,8 @@ digits_in base value (b ∷ bytes) =
     else Err (length (b ∷ bytes)))
 
 -- [66] CharRef ::= '&#' [0-9]+ ';' | '&#x' [0-9a-fA-F]+ ';'
-unfoldable pub number_in : List ℕ → Reading (List ℕ)
-number_in bytes = if begins (codes "x") bytes then digits_in 16 0 (behind (codes "x") bytes) else digits_in 10 0 bytes
+unfoldable pub char_ref_in : List ℕ → Reading (List ℕ)
+char_ref_in bytes = if begins (codes "x") bytes then digits_in 16 0 (behind (codes "x") bytes) else digits_in 10 0 bytes
 
 -- [68] EntityRef ::= '&' Name ';', of the five names that need no declaration (section 4.6)
 unfoldable pub entity_in : List ℕ → Reading (List ℕ)
@@ -69,7 +69,7 @@ entity_in bytes =
 
 -- [67] Reference ::= EntityRef | CharRef
 unfoldable pub reference_in : List ℕ → Reading (List ℕ)
-reference_in bytes = if begins (codes "#") bytes then number_in (behind (codes "#") bytes) else entity_in bytes
+reference_in bytes = if begins (codes "#") bytes then char_ref_in (behind (codes "#") bytes) else entity_in bytes
 
 -- ---- comments and processing instructions, which are left out
 

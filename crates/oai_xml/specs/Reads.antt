@@ -4,17 +4,17 @@ use Rattle.std.specs.Str.{is_utf8}
 use Rattle.oai_names.specs.Characters.{is_xml_text}
 use Rattle.oai_xml.specs.Trees.{Tree, spelled}
 use Rattle.oai_xml.specs.Documents.{document_in, normalized, origin, place_of, canonical}
-use Rattle.oai_xml.specs.declared.faults.Stop.{Stop}
-use Rattle.oai_xml.specs.declared.faults.Stop.TheVariants.{At}
-use Rattle.oai_xml.specs.declared.faults.Stop.TheVariants as stop
+use Rattle.oai_xml.specs.declared.faults.ParseStop.{ParseStop}
+use Rattle.oai_xml.specs.declared.faults.ParseStop.TheVariants.{At}
+use Rattle.oai_xml.specs.declared.faults.ParseStop.TheVariants as stop
 use Rattle.oai_xml.specs.declared.faults.XmlFault.{XmlFault}
 use Rattle.oai_xml.specs.declared.faults.XmlFault.TheVariants.{Refused, NoMemory}
 
 -- the canonical text of a text, or the place of its first fault. Of the cause nothing is said
-abbrev pub IsRead : List ℕ → Result (List ℕ) XmlFault → Type 0
-IsRead text (Ok element) = canonical text ≡ Ok element
-IsRead text (Err (Refused offset cause)) = canonical text ≡ Err offset
-IsRead text (Err NoMemory) = Unit {0}
+abbrev pub IsCanonicalResult : List ℕ → Result (List ℕ) XmlFault → Type 0
+IsCanonicalResult text (Ok element) = canonical text ≡ Ok element
+IsCanonicalResult text (Err (Refused offset cause)) = canonical text ≡ Err offset
+IsCanonicalResult text (Err NoMemory) = Unit {0}
 
 -- ---- words of the code's own
 
@@ -25,10 +25,10 @@ IsFrontRead text new (Err (Refused offset cause)) = (left : ℕ) × (document_in
 IsFrontRead text new (Err NoMemory) = Unit {0}
 
 -- the bytes, taken as an element
-abbrev pub IsTaken : ℕ → ℕ → List ℕ → Result (List ℕ) XmlFault → Type 0
-IsTaken legal len bytes (Ok element) = (element ≡ bytes) × ((legal == len) && (is_utf8 bytes && is_xml_text bytes) ≡ true)
-IsTaken legal len bytes (Err (Refused offset cause)) = (offset ≡ legal) × ((legal == len) && (is_utf8 bytes && is_xml_text bytes) ≡ false)
-IsTaken legal len bytes (Err NoMemory) = Unit {0}
+abbrev pub IsTakenAsElement : ℕ → ℕ → List ℕ → Result (List ℕ) XmlFault → Type 0
+IsTakenAsElement legal len bytes (Ok element) = (element ≡ bytes) × ((legal == len) && (is_utf8 bytes && is_xml_text bytes) ≡ true)
+IsTakenAsElement legal len bytes (Err (Refused offset cause)) = (offset ≡ legal) × ((legal == len) && (is_utf8 bytes && is_xml_text bytes) ≡ false)
+IsTakenAsElement legal len bytes (Err NoMemory) = Unit {0}
 
 -- a fault, perhaps by another cause
 abbrev pub IsAtSamePlace : XmlFault → XmlFault → Type 0
@@ -38,7 +38,7 @@ IsAtSamePlace NoMemory (Refused place other) = ⊥
 IsAtSamePlace NoMemory NoMemory = Unit {0}
 
 -- a fault, by its place in the text itself: where that many bytes are so normalized
-abbrev pub IsFaultOf : List ℕ → ℕ → Stop → XmlFault → Type 0
+abbrev pub IsFaultOf : List ℕ → ℕ → ParseStop → XmlFault → Type 0
 IsFaultOf text len (At fault) (Refused offset cause) = offset ≡ origin false text (len - fault.left)
 IsFaultOf text len (At fault) NoMemory = ⊥
 IsFaultOf text len stop.NoMemory (Refused offset cause) = ⊥

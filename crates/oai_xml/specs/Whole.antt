@@ -60,11 +60,11 @@ is_whole t = is_whole_in MAX_DEPTH [] t
 -- ---- bytes that are an element
 
 -- the bytes are the spelling of the tree, which is whole and of XML's characters
-pub record Spells (bytes : List ℕ) (tree : Tree) : Type 0 where
+pub record SpellsTree (bytes : List ℕ) (tree : Tree) : Type 0 where
   pub whole : is_whole tree ≡ true
   pub bytes_are : bytes ≡ spelled tree
   pub characters : is_xml_text bytes ≡ true
   pub utf8 : IsUtf8 bytes
 
 abbrev pub IsElement : List ℕ → Type 0
-IsElement bytes = (tree : Tree) × Spells bytes tree
+IsElement bytes = (tree : Tree) × SpellsTree bytes tree

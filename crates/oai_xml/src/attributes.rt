@@ -4,7 +4,7 @@ ghost use Rattle.oai_xml.specs.Tags as spec;
 ghost use Rattle.oai_xml.specs.Trees.{spelled_attribute};
 
 use crate::declarations::{Declared, Name, declared_prefix, is_declaring};
-use crate::faults::{Stop, XmlCause};
+use crate::faults::{ParseStop, XmlCause};
 use crate::literals::{begins, fault_at};
 use crate::names::qname;
 use crate::spaces::{past_equals, past_space, past_spaces};
@@ -19,7 +19,7 @@ pub(crate) fn attributes<'a>(
     names: &mut Vec<Name<'a>>,
     scope: &mut Vec<Declared<'a>>,
     out: &mut Vec<u8>,
-) -> Result<&'a [u8], Stop>
+) -> Result<&'a [u8], ParseStop>
     ensures leaves { LeavesIn (λ rest a. (rest.now ≡ a.1) × Tells a.0 names.old.items names.new.items scope.old.items scope.new.items out.old.items out.new.items)
         (λ steps. spec.attributes_in steps bytes.now) bytes.now result }
     ensures within { IfOk result (λ rest. length rest.now ≤ length bytes.now) }
@@ -51,14 +51,14 @@ fn spaced_attribute<'a>(
     names: &mut Vec<Name<'a>>,
     scope: &mut Vec<Declared<'a>>,
     out: &mut Vec<u8>,
-) -> Result<&'a [u8], Stop>
+) -> Result<&'a [u8], ParseStop>
     ensures leaves { Leaves (λ rest a. (rest.now ≡ a.1) × Tells (a.0 ∷ []) names.old.items names.new.items scope.old.items scope.new.items out.old.items out.new.items)
         (spec.spaced_attribute_in bytes.now) result }
     ensures shorter { IfOk result (λ rest. length rest.now < length bytes.now) }
 {
     match past_space(bytes) {
         Ok(rest) => attribute(alloc, rest, names, scope, out),
-        Err(fault) => Err(Stop::At(fault)),
+        Err(fault) => Err(ParseStop::At(fault)),
     }
 }
 
@@ -70,18 +70,18 @@ fn attribute<'a>(
     names: &mut Vec<Name<'a>>,
     scope: &mut Vec<Declared<'a>>,
     out: &mut Vec<u8>,
-) -> Result<&'a [u8], Stop>
+) -> Result<&'a [u8], ParseStop>
     ensures leaves { Leaves (λ rest a. (rest.now ≡ a.1) × Tells (a.0 ∷ []) names.old.items names.new.items scope.old.items scope.new.items out.old.items out.new.items)
         (spec.attribute_in bytes.now) result }
     ensures shorter { IfOk result (λ rest. length rest.now < length bytes.now) }
 {
     let (name, behind) = match qname(bytes) {
         Ok(read) => read,
-        Err(fault) => return Err(Stop::At(fault)),
+        Err(fault) => return Err(ParseStop::At(fault)),
     };
     let value = match past_equals(behind) {
         Ok(rest) => rest,
-        Err(fault) => return Err(Stop::At(fault)),
+        Err(fault) => return Err(ParseStop::At(fault)),
     };
     let rest = spell(name, value, out)?;
     names.push(Name { text: name })?;
@@ -90,7 +90,7 @@ fn attribute<'a>(
 }
 
 /// Appends an attribute of that name, of which the value stands here, and answers what stands behind the value.
-fn spell<'a>(name: &[u8], value: &'a [u8], out: &mut Vec<u8>) -> Result<&'a [u8], Stop>
+fn spell<'a>(name: &[u8], value: &'a [u8], out: &mut Vec<u8>) -> Result<&'a [u8], ParseStop>
     ensures leaves { Leaves (λ rest v. (rest.now ≡ v.1) × (out.new.items ≡ out.old.items ++ spelled_attribute (record { name = name.now; value = v.0 }))) (spec.quoted_in value.now) result }
     ensures shorter { IfOk result (λ rest. length rest.now < length value.now) }
 {
@@ -108,7 +108,7 @@ fn declare<'a>(
     name: &'a [u8],
     value: &[u8],
     scope: &mut Vec<Declared<'a>>,
-) -> Result<(), Stop>
+) -> Result<(), ParseStop>
     ensures { Declares name.now (spec.quoted_in value.now) scope.old.items scope.new.items result }
 {
     if !is_declaring(name) {

@@ -5,14 +5,14 @@ ghost use Rattle.oai_names.specs.Escapes.{escaped_text, text_spelling};
 ghost use Rattle.oai_xml.specs.Answers.{Leaves, is_bare_text_byte, AreCharacters};
 ghost use Rattle.oai_xml.specs.Parts.{reference_in};
 
-use crate::faults::{Fault, Stop, XmlCause};
+use crate::faults::{ParseFault, ParseStop, XmlCause};
 use crate::literals::{begins, fault_at};
 use crate::references::reference;
 use oai_names::escape_text;
 use std::alloc::AllocError;
 
 /// Appends bytes of a text that stand for themselves, or one that does not.
-pub(crate) fn characters<'a>(bytes: &'a [u8], out: &mut Vec<u8>) -> Result<&'a [u8], Stop>
+pub(crate) fn characters<'a>(bytes: &'a [u8], out: &mut Vec<u8>) -> Result<&'a [u8], ParseStop>
     ensures { AreCharacters bytes.now out.old.items out.new.items result }
 {
     let (run, rest) = bytes.split_at(bare_len(bytes));
@@ -21,13 +21,13 @@ pub(crate) fn characters<'a>(bytes: &'a [u8], out: &mut Vec<u8>) -> Result<&'a [
         return Ok(rest);
     }
     if begins(b"]]>", bytes) {
-        return Err(Stop::At(Fault {
+        return Err(ParseStop::At(ParseFault {
             left: bytes.len() - 2,
             cause: XmlCause::Section,
         }));
     }
     let Some((b, tail)) = bytes.split_first() else {
-        return Err(Stop::At(Fault {
+        return Err(ParseStop::At(ParseFault {
             left: 0,
             cause: XmlCause::Ends,
         }));
@@ -56,7 +56,7 @@ fn is_bare_text_byte(b: u8) -> bool
 }
 
 /// Appends the character that a reference stands for, behind its `&`.
-pub(crate) fn referenced<'a>(bytes: &'a [u8], out: &mut Vec<u8>) -> Result<&'a [u8], Stop>
+pub(crate) fn referenced<'a>(bytes: &'a [u8], out: &mut Vec<u8>) -> Result<&'a [u8], ParseStop>
     ensures leaves { Leaves (λ rest c. (rest.now ≡ c.1) × (out.new.items ≡ out.old.items ++ escaped_text c.0)) (reference_in bytes.now) result }
     ensures shorter { IfOk result (λ rest. length rest.now < length bytes.now) }
 {
@@ -66,7 +66,7 @@ pub(crate) fn referenced<'a>(bytes: &'a [u8], out: &mut Vec<u8>) -> Result<&'a [
             escape_text(c.encode_utf8(&mut buffer), out)?;
             Ok(rest)
         }
-        Err(fault) => Err(Stop::At(fault)),
+        Err(fault) => Err(ParseStop::At(fault)),
     }
 }
 

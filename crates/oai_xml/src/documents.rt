@@ -4,7 +4,7 @@ ghost use Rattle.oai_xml.specs.Documents as spec;
 ghost use Rattle.oai_xml.specs.Trees.{spelled};
 
 use crate::elements::element;
-use crate::faults::{Fault, Stop, XmlCause};
+use crate::faults::{ParseFault, ParseStop, XmlCause};
 use crate::instructions::{past_comment, past_instruction};
 use crate::limits::MAX_DEPTH;
 use crate::literals::{begins, fault_at, past};
@@ -13,12 +13,12 @@ use crate::spaces::past_spaces;
 use std::alloc::Global;
 
 /// Reads a document, and appends its element as it is spelled (production [1]).
-pub(crate) fn document(alloc: Global, bytes: &[u8], out: &mut Vec<u8>) -> Result<(), Stop>
+pub(crate) fn document(alloc: Global, bytes: &[u8], out: &mut Vec<u8>) -> Result<(), ParseStop>
     ensures { Leaves (λ _ tree. out.new.items ≡ out.old.items ++ spelled tree) (spec.document_in bytes.now) result }
 {
     let tag = match past_prolog(bytes) {
         Ok(tag) => tag,
-        Err(fault) => return Err(Stop::At(fault)),
+        Err(fault) => return Err(ParseStop::At(fault)),
     };
     let mut scope = Vec::new(alloc);
     let behind = match element(alloc, MAX_DEPTH, tag, &mut scope, out) {
@@ -27,12 +27,12 @@ pub(crate) fn document(alloc: Global, bytes: &[u8], out: &mut Vec<u8>) -> Result
     };
     match past_end(behind) {
         Ok(()) => Ok(()),
-        Err(fault) => Err(Stop::At(fault)),
+        Err(fault) => Err(ParseStop::At(fault)),
     }
 }
 
 /// Passes what stands before the root, and its `<`.
-fn past_prolog(bytes: &[u8]) -> Result<&[u8], Fault>
+fn past_prolog(bytes: &[u8]) -> Result<&[u8], ParseFault>
     ensures { Gives (λ rest. rest.now) (spec.prolog_in bytes.now) result }
 {
     let opened = match past_opening(bytes) {
@@ -46,7 +46,7 @@ fn past_prolog(bytes: &[u8]) -> Result<&[u8], Fault>
 }
 
 /// Passes what stands behind the root, where nothing more may follow.
-fn past_end(bytes: &[u8]) -> Result<(), Fault>
+fn past_end(bytes: &[u8]) -> Result<(), ParseFault>
     ensures { Gives (λ _. []) (spec.tail_in bytes.now) result }
 {
     let rest = match past_misc(bytes) {
@@ -60,7 +60,7 @@ fn past_end(bytes: &[u8]) -> Result<(), Fault>
 }
 
 /// Passes comments, processing instructions and white space (production [27]).
-fn past_misc(bytes: &[u8]) -> Result<&[u8], Fault>
+fn past_misc(bytes: &[u8]) -> Result<&[u8], ParseFault>
     ensures gives { PassesIn spec.misc_in bytes.now result }
     ensures within { IfOk result (λ rest. length rest.now ≤ length bytes.now) }
 {
@@ -75,7 +75,7 @@ fn past_misc(bytes: &[u8]) -> Result<&[u8], Fault>
 }
 
 /// Passes white space and a comment or a processing instruction, if one stands behind it.
-fn past_one(bytes: &[u8]) -> Result<Option<&[u8]>, Fault>
+fn past_one(bytes: &[u8]) -> Result<Option<&[u8]>, ParseFault>
     ensures { PassesOne bytes.now result }
 {
     let next = past_spaces(bytes);
@@ -96,7 +96,7 @@ fn past_one(bytes: &[u8]) -> Result<Option<&[u8]>, Fault>
 
 /// Passes a comment, from its first byte on.
 #[tactic(auto, unfolding(crate::specs::Documents::whole_comment_in))]
-fn comment(bytes: &[u8]) -> Result<&[u8], Fault>
+fn comment(bytes: &[u8]) -> Result<&[u8], ParseFault>
     ensures gives { Gives (λ rest. rest.now) (spec.whole_comment_in bytes.now) result }
     ensures shorter { IfOk result (λ rest. length rest.now < length bytes.now) }
 {
@@ -108,7 +108,7 @@ fn comment(bytes: &[u8]) -> Result<&[u8], Fault>
 
 /// Passes a processing instruction, from its first byte on.
 #[tactic(auto, unfolding(crate::specs::Documents::whole_instruction_in))]
-fn instruction(bytes: &[u8]) -> Result<&[u8], Fault>
+fn instruction(bytes: &[u8]) -> Result<&[u8], ParseFault>
     ensures gives { Gives (λ rest. rest.now) (spec.whole_instruction_in bytes.now) result }
     ensures shorter { IfOk result (λ rest. length rest.now < length bytes.now) }
 {

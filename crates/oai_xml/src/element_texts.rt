@@ -1,8 +1,8 @@
 ghost use Rattle.std.specs.Prelude.{◌≡◌, ◌++◌, ◌-◌, ℕ, List, [], true, IfOk};
-ghost use Rattle.oai_xml.specs.Reads.{IsAtSamePlace, IsFaultOf, IsFrontRead, IsRead, IsTaken};
+ghost use Rattle.oai_xml.specs.Reads.{IsAtSamePlace, IsCanonicalResult, IsFaultOf, IsFrontRead, IsTakenAsElement};
 
 use crate::documents::document;
-use crate::faults::{Stop, XmlCause, XmlFault};
+use crate::faults::{ParseStop, XmlCause, XmlFault};
 use crate::lines::{normalized, origin};
 use crate::places::legal_len;
 use oai_names::is_xml_text;
@@ -28,7 +28,7 @@ impl ElementText {
     /// Reads the element that a text is: a document without a document type, within the limits. The error is the place of
     /// its first fault, or out of memory.
     pub fn read(alloc: Global, text: &str) -> Result<ElementText, XmlFault>
-        ensures { IsRead text.now result }
+        ensures { IsCanonicalResult text.now result }
     {
         let legal = legal_len(text);
         let (front, _) = text.as_bytes().split_at(legal);
@@ -77,7 +77,7 @@ fn at_character(fault: XmlFault, legal: usize, len: usize) -> XmlFault
 
 /// The element, if it is a text of XML's characters, and if all of the text was read.
 fn taken(legal: usize, len: usize, out: Vec<u8>) -> Result<ElementText, XmlFault>
-    ensures { IsTaken legal len out.items result }
+    ensures { IsTakenAsElement legal len out.items result }
 {
     let Ok(text) = String::from_utf8(out) else {
         return Err(XmlFault::Refused {
@@ -116,14 +116,14 @@ fn read_front(alloc: Global, text: &[u8], out: &mut Vec<u8>) -> Result<(), XmlFa
 }
 
 /// The fault of a text, of which so many bytes are left when its line ends are LF.
-fn fault_of(text: &[u8], len: usize, stop: Stop) -> XmlFault
+fn fault_of(text: &[u8], len: usize, stop: ParseStop) -> XmlFault
     ensures { IsFaultOf text.now len stop result }
 {
     match stop {
-        Stop::At(fault) => XmlFault::Refused {
+        ParseStop::At(fault) => XmlFault::Refused {
             offset: origin(text, len.saturating_sub(fault.left)),
             cause: fault.cause,
         },
-        Stop::NoMemory => XmlFault::NoMemory,
+        ParseStop::NoMemory => XmlFault::NoMemory,
     }
 }

@@ -6,7 +6,7 @@ ghost use Rattle.oai_xml.specs.Trees.{followed_by, nothing, spelled, spelled_con
 
 use crate::characters::{characters, push_text, referenced};
 use crate::declarations::Declared;
-use crate::faults::{Fault, Stop, XmlCause};
+use crate::faults::{ParseFault, ParseStop, XmlCause};
 use crate::instructions::{past_comment, past_instruction};
 use crate::literals::{begins, behind, fault_at, past, up_to};
 use crate::tags::{past_end, push_end, start};
@@ -21,13 +21,13 @@ pub(crate) fn element<'a>(
     bytes: &'a [u8],
     scope: &mut Vec<Declared<'a>>,
     out: &mut Vec<u8>,
-) -> Result<&'a [u8], Stop>
+) -> Result<&'a [u8], ParseStop>
     ensures leaves { LeavesIn (λ rest e. (rest.now ≡ e.1) × (scope.new.items ≡ scope.old.items) × (out.new.items ≡ out.old.items ++ spelled e.0))
         (λ steps. spec.element_in (spec.content_in steps) levels scope.old.items bytes.now) bytes.now result }
     ensures shorter { IfOk result (λ rest. length rest.now < length bytes.now) }
 {
     if levels == 0 {
-        return Err(Stop::At(fault_at(bytes, XmlCause::Depth)));
+        return Err(ParseStop::At(fault_at(bytes, XmlCause::Depth)));
     }
     let outer = scope.as_slice().len();
     let (name, closing) = match start(alloc, bytes, scope, out) {
@@ -52,7 +52,7 @@ fn inside<'a>(
     bytes: &'a [u8],
     scope: &mut Vec<Declared<'a>>,
     out: &mut Vec<u8>,
-) -> Result<&'a [u8], Stop>
+) -> Result<&'a [u8], ParseStop>
     ensures leaves { LeavesIn (λ rest c. (rest.now ≡ c.1) × (scope.new.items ≡ scope.old.items) × (out.new.items ≡ out.old.items ++ spelled_content c.0))
         (λ steps. spec.inside_in (spec.content_in steps) levels scope.old.items name.now bytes.now) bytes.now result }
     ensures shorter { IfOk result (λ rest. length rest.now < length bytes.now) }
@@ -60,12 +60,12 @@ fn inside<'a>(
     if begins(b"/", bytes) {
         return match past(b"/>", bytes, XmlCause::Syntax) {
             Ok(rest) => Ok(rest),
-            Err(fault) => Err(Stop::At(fault)),
+            Err(fault) => Err(ParseStop::At(fault)),
         };
     }
     let inner = match past(b">", bytes, XmlCause::Syntax) {
         Ok(inner) => inner,
-        Err(fault) => return Err(Stop::At(fault)),
+        Err(fault) => return Err(ParseStop::At(fault)),
     };
     let behind = match content(alloc, levels, inner, scope, out) {
         Ok(behind) => behind,
@@ -73,7 +73,7 @@ fn inside<'a>(
     };
     match past_end(name, behind) {
         Ok(rest) => Ok(rest),
-        Err(fault) => Err(Stop::At(fault)),
+        Err(fault) => Err(ParseStop::At(fault)),
     }
 }
 
@@ -85,7 +85,7 @@ fn content<'a>(
     bytes: &'a [u8],
     scope: &mut Vec<Declared<'a>>,
     out: &mut Vec<u8>,
-) -> Result<&'a [u8], Stop>
+) -> Result<&'a [u8], ParseStop>
     ensures leaves { LeavesIn (λ rest c. (rest.now ≡ c.1) × (scope.new.items ≡ scope.old.items) × (out.new.items ≡ out.old.items ++ spelled_content c.0))
         (λ steps. spec.content_in steps levels scope.old.items bytes.now) bytes.now result }
     ensures shorter { IfOk result (λ rest. length rest.now < length bytes.now) }
@@ -111,7 +111,7 @@ fn piece<'a>(
     bytes: &'a [u8],
     scope: &mut Vec<Declared<'a>>,
     out: &mut Vec<u8>,
-) -> Result<&'a [u8], Stop>
+) -> Result<&'a [u8], ParseStop>
     requires { begins (codes "</") bytes.now ≡ false }
     ensures leaves { LeavesPiece followed_by (λ steps bytes. spec.content_in steps levels scope.old.items bytes) (λ rest. rest.now)
         (λ rest piece. (scope.new.items ≡ scope.old.items) × (out.new.items ≡ out.old.items ++ spelled_content piece)) bytes.now result }
@@ -135,7 +135,7 @@ fn markup<'a>(
     bytes: &'a [u8],
     scope: &mut Vec<Declared<'a>>,
     out: &mut Vec<u8>,
-) -> Result<&'a [u8], Stop>
+) -> Result<&'a [u8], ParseStop>
     ensures leaves { LeavesIn (λ rest c. (rest.now ≡ c.1) × (scope.new.items ≡ scope.old.items) × (out.new.items ≡ out.old.items ++ spelled_content c.0))
         (λ steps. spec.markup_in (spec.content_in steps) levels scope.old.items bytes.now) bytes.now result }
     ensures shorter { IfOk result (λ rest. length rest.now < length bytes.now) }
@@ -146,7 +146,7 @@ fn markup<'a>(
     if begins(b"?", bytes) {
         return match left_out(bytes) {
             Ok(rest) => Ok(rest),
-            Err(fault) => Err(Stop::At(fault)),
+            Err(fault) => Err(ParseStop::At(fault)),
         };
     }
     element(alloc, levels, bytes, scope, out)
@@ -154,14 +154,14 @@ fn markup<'a>(
 
 /// Reads a comment or a CDATA section, behind its `<`.
 #[tactic(auto, unfolding(crate::specs::Contents::section_in))]
-fn section<'a>(bytes: &'a [u8], out: &mut Vec<u8>) -> Result<&'a [u8], Stop>
+fn section<'a>(bytes: &'a [u8], out: &mut Vec<u8>) -> Result<&'a [u8], ParseStop>
     ensures leaves { Leaves (λ rest c. (rest.now ≡ c.1) × (out.new.items ≡ out.old.items ++ spelled_content c.0)) (spec.section_in bytes.now) result }
     ensures shorter { IfOk result (λ rest. length rest.now < length bytes.now) }
 {
     if begins(b"!-", bytes) {
         return match left_out_comment(bytes) {
             Ok(rest) => Ok(rest),
-            Err(fault) => Err(Stop::At(fault)),
+            Err(fault) => Err(ParseStop::At(fault)),
         };
     }
     match cdata(bytes) {
@@ -169,13 +169,13 @@ fn section<'a>(bytes: &'a [u8], out: &mut Vec<u8>) -> Result<&'a [u8], Stop>
             push_text(text, out)?;
             Ok(rest)
         }
-        Err(fault) => Err(Stop::At(fault)),
+        Err(fault) => Err(ParseStop::At(fault)),
     }
 }
 
 /// Passes a comment, behind its `<`.
 #[tactic(auto, unfolding(crate::specs::Contents::left_out_comment_in))]
-fn left_out_comment(bytes: &[u8]) -> Result<&[u8], Fault>
+fn left_out_comment(bytes: &[u8]) -> Result<&[u8], ParseFault>
     ensures gives { Gives (λ rest. (nothing, rest.now)) (spec.left_out_comment_in bytes.now) result }
     ensures shorter { IfOk result (λ rest. length rest.now < length bytes.now) }
 {
@@ -187,7 +187,7 @@ fn left_out_comment(bytes: &[u8]) -> Result<&[u8], Fault>
 
 /// Passes a processing instruction, behind its `<`.
 #[tactic(auto, unfolding(crate::specs::Contents::left_out_in))]
-fn left_out(bytes: &[u8]) -> Result<&[u8], Fault>
+fn left_out(bytes: &[u8]) -> Result<&[u8], ParseFault>
     ensures gives { Gives (λ rest. (nothing, rest.now)) (spec.left_out_in bytes.now) result }
     ensures shorter { IfOk result (λ rest. length rest.now < length bytes.now) }
 {
@@ -199,7 +199,7 @@ fn left_out(bytes: &[u8]) -> Result<&[u8], Fault>
 
 /// The text of a CDATA section, behind its `<`, and what stands behind the section (production [18]).
 #[tactic(auto, unfolding(crate::specs::Contents::cdata_section_in))]
-fn cdata(bytes: &[u8]) -> Result<(&[u8], &[u8]), Fault>
+fn cdata(bytes: &[u8]) -> Result<(&[u8], &[u8]), ParseFault>
     ensures gives { Gives (λ r. (r.0.now, r.1.now)) (spec.cdata_section_in bytes.now) result }
     ensures shorter { IfOk result (λ r. length r.1.now < length bytes.now) }
 {

@@ -54,47 +54,47 @@ pub enum XmlFault {
 
 /// A fault of bytes that are read: how many of them are left from it on, and what it is.
 #[derive(Clone, Copy)]
-pub(crate) struct Fault {
+pub(crate) struct ParseFault {
     pub(crate) left: usize,
     pub(crate) cause: XmlCause,
 }
 
 /// Why a reading that needs memory stopped.
 #[derive(Clone, Copy)]
-pub(crate) enum Stop {
-    At(Fault),
+pub(crate) enum ParseStop {
+    At(ParseFault),
     NoMemory,
 }
 
-impl From<Fault> for Stop {
+impl From<ParseFault> for ParseStop {
     ghost use Rattle.std.specs.Prelude.{◌≡◌};
-    ghost use Rattle.oai_xml.specs.declared.faults.Stop.TheVariants.{At};
+    ghost use Rattle.oai_xml.specs.declared.faults.ParseStop.TheVariants.{At};
 
     ghost from_gives = { λ fault stop. stop ≡ At fault };
 
-    fn from(fault: Fault) -> Stop {
-        Stop::At(fault)
+    fn from(fault: ParseFault) -> ParseStop {
+        ParseStop::At(fault)
     }
 }
 
-impl From<AllocError> for Stop {
+impl From<AllocError> for ParseStop {
     ghost use Rattle.std.specs.Prelude.{◌≡◌};
-    ghost use Rattle.oai_xml.specs.declared.faults.Stop.TheVariants.{NoMemory};
+    ghost use Rattle.oai_xml.specs.declared.faults.ParseStop.TheVariants.{NoMemory};
 
     ghost from_gives = { λ _ stop. stop ≡ NoMemory };
 
-    fn from(_: AllocError) -> Stop {
-        Stop::NoMemory
+    fn from(_: AllocError) -> ParseStop {
+        ParseStop::NoMemory
     }
 }
 
-impl<T: Drop> From<AllocFailed<T>> for Stop {
+impl<T: Drop> From<AllocFailed<T>> for ParseStop {
     ghost use Rattle.std.specs.Prelude.{◌≡◌};
-    ghost use Rattle.oai_xml.specs.declared.faults.Stop.TheVariants.{NoMemory};
+    ghost use Rattle.oai_xml.specs.declared.faults.ParseStop.TheVariants.{NoMemory};
 
     ghost from_gives = { λ _ stop. stop ≡ NoMemory };
 
-    fn from(_: AllocFailed<T>) -> Stop {
-        Stop::NoMemory
+    fn from(_: AllocFailed<T>) -> ParseStop {
+        ParseStop::NoMemory
     }
 }

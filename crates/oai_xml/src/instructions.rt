@@ -2,14 +2,14 @@ ghost use Rattle.std.specs.Prelude.{◌≡◌, ◌<◌, length, IfOk};
 ghost use Rattle.oai_xml.specs.Answers.{Gives};
 ghost use Rattle.oai_xml.specs.Parts as spec;
 
-use crate::faults::{Fault, XmlCause};
+use crate::faults::{ParseFault, XmlCause};
 use crate::literals::{begins, past, up_to};
 use crate::names::past_target;
 use crate::spaces::past_space;
 
 /// Passes a comment, behind its `<!--` (production [15]).
 #[tactic(auto, unfolding(crate::specs::Parts::comment_in))]
-pub(crate) fn past_comment(bytes: &[u8]) -> Result<&[u8], Fault>
+pub(crate) fn past_comment(bytes: &[u8]) -> Result<&[u8], ParseFault>
     ensures gives { Gives (λ rest. rest.now) (spec.comment_in bytes.now) result }
     ensures shorter { IfOk result (λ rest. length rest.now < length bytes.now) }
 {
@@ -21,7 +21,7 @@ pub(crate) fn past_comment(bytes: &[u8]) -> Result<&[u8], Fault>
 
 /// Passes a processing instruction, behind its `<?` (production [16]).
 #[tactic(auto, unfolding(crate::specs::Parts::instruction_in))]
-pub(crate) fn past_instruction(bytes: &[u8]) -> Result<&[u8], Fault>
+pub(crate) fn past_instruction(bytes: &[u8]) -> Result<&[u8], ParseFault>
     ensures gives { Gives (λ rest. rest.now) (spec.instruction_in bytes.now) result }
     ensures shorter { IfOk result (λ rest. length rest.now < length bytes.now) }
 {
@@ -33,7 +33,7 @@ pub(crate) fn past_instruction(bytes: &[u8]) -> Result<&[u8], Fault>
 
 /// Passes what stands behind the target of a processing instruction.
 #[tactic(auto, unfolding(crate::specs::Parts::instruction_end_in))]
-fn past_instruction_end(bytes: &[u8]) -> Result<&[u8], Fault>
+fn past_instruction_end(bytes: &[u8]) -> Result<&[u8], ParseFault>
     ensures gives { Gives (λ rest. rest.now) (spec.instruction_end_in bytes.now) result }
     ensures shorter { IfOk result (λ rest. length rest.now < length bytes.now) }
 {

@@ -2,7 +2,7 @@ ghost use Rattle.std.specs.Prelude.{◌≡◌, ◌++◌, ℕ, List, true, Ok, Er
 ghost use Rattle.oai_xml.specs.Documents.{canonical, tree_in};
 ghost use Rattle.oai_xml.specs.LegalTexts.{is_legal_text, is_legal_tree};
 ghost use Rattle.oai_xml.specs.Trees.{Tree, spelled};
-ghost use Rattle.oai_xml.specs.Whole.{IsElement, Spells, is_whole};
+ghost use Rattle.oai_xml.specs.Whole.{IsElement, SpellsTree, is_whole};
 
 /// The bytes determine the tree. A tree stands in a longer text in one way: its spelling is separable from whatever
 /// follows; so bytes spell one tree at most, and of two elements with something behind them that are the same bytes, both are
@@ -10,7 +10,7 @@ ghost use Rattle.oai_xml.specs.Whole.{IsElement, Spells, is_whole};
 pub fn spelling_law()
     ensures trees { (t u : Tree) (x y : List ℕ) → is_whole t ≡ true → is_whole u ≡ true
         → spelled t ++ x ≡ spelled u ++ y → (t ≡ u) × (x ≡ y) }
-    ensures tree { (bytes : List ℕ) (t u : Tree) → Spells bytes t → Spells bytes u → t ≡ u }
+    ensures tree { (bytes : List ℕ) (t u : Tree) → SpellsTree bytes t → SpellsTree bytes u → t ≡ u }
     ensures elements { (e f x y : List ℕ) → IsElement e → IsElement f → e ++ x ≡ f ++ y → (e ≡ f) × (x ≡ y) }
 {}
 
@@ -19,7 +19,7 @@ pub fn spelling_law()
 pub fn canonical_law()
     ensures element { (text e : List ℕ) → canonical text ≡ Ok e → IsElement e }
     ensures tree { (text e : List ℕ) → canonical text ≡ Ok e
-        → (t : Tree) × (tree_in text ≡ Some t) × Spells e t × (tree_in e ≡ Some t) }
+        → (t : Tree) × (tree_in text ≡ Some t) × SpellsTree e t × (tree_in e ≡ Some t) }
     ensures again { (e : List ℕ) → IsElement e → canonical e ≡ Ok e }
     ensures faulty { (text : List ℕ) (offset : ℕ) → canonical text ≡ Err offset → ¬ (IsElement text) }
 {}

@@ -2,7 +2,7 @@ ghost use Rattle.std.specs.Prelude.{◌≡◌, ◌+◌, ◌<◌, true, false, le
 ghost use Rattle.oai_xml.specs.Answers.{Gives};
 ghost use Rattle.oai_xml.specs.Readings as spec;
 
-use crate::faults::{Fault, XmlCause};
+use crate::faults::{ParseFault, XmlCause};
 
 /// Whether the bytes begin with the literal.
 pub(crate) fn begins(literal: &[u8], bytes: &[u8]) -> bool
@@ -23,7 +23,11 @@ pub(crate) fn behind<'a>(literal: &[u8], bytes: &'a [u8]) -> Option<&'a [u8]>
 
 /// Passes the literal, which has to stand here. A fault is at the first byte that is another.
 #[tactic(auto, using(crate::proofs::LiteralLemmas::past_step, crate::proofs::LiteralLemmas::past_other, crate::proofs::LiteralLemmas::past_short, crate::proofs::LiteralLemmas::past_end))]
-pub(crate) fn past<'a>(literal: &[u8], bytes: &'a [u8], cause: XmlCause) -> Result<&'a [u8], Fault>
+pub(crate) fn past<'a>(
+    literal: &[u8],
+    bytes: &'a [u8],
+    cause: XmlCause,
+) -> Result<&'a [u8], ParseFault>
     ensures gives { Gives (λ rest. rest.now) (spec.past literal.now bytes.now) result }
     ensures shorter { IfOk result (λ rest. length rest.now + length literal.now ≡ length bytes.now) }
 {
@@ -32,7 +36,7 @@ pub(crate) fn past<'a>(literal: &[u8], bytes: &'a [u8], cause: XmlCause) -> Resu
         match rest.split_first() {
             Some((b, tail)) if *b == *expected => rest = tail,
             Some(_) => return Err(fault_at(rest, cause)),
-            None => return Err(Fault {
+            None => return Err(ParseFault {
                 left: 0,
                 cause: XmlCause::Ends,
             }),
@@ -43,7 +47,7 @@ pub(crate) fn past<'a>(literal: &[u8], bytes: &'a [u8], cause: XmlCause) -> Resu
 
 /// The text up to the first place where the mark stands, and what stands behind the mark.
 #[tactic(auto, using(crate::proofs::LiteralLemmas::up_to_step, crate::proofs::LiteralLemmas::up_to_found, crate::proofs::LiteralLemmas::up_to_end))]
-pub(crate) fn up_to<'a>(mark: &[u8], bytes: &'a [u8]) -> Result<(&'a [u8], &'a [u8]), Fault>
+pub(crate) fn up_to<'a>(mark: &[u8], bytes: &'a [u8]) -> Result<(&'a [u8], &'a [u8]), ParseFault>
     ensures gives { Gives (λ r. (r.0.now, r.1.now)) (spec.up_to mark.now bytes.now) result }
     ensures shorter { IfOk result (λ r. length r.0.now + length mark.now + length r.1.now ≡ length bytes.now) }
 {
@@ -54,14 +58,14 @@ pub(crate) fn up_to<'a>(mark: &[u8], bytes: &'a [u8]) -> Result<(&'a [u8], &'a [
             None => {}
         }
     }
-    Err(Fault {
+    Err(ParseFault {
         left: 0,
         cause: XmlCause::Ends,
     })
 }
 
 /// The fault at the first of these bytes.
-pub(crate) fn fault_at(bytes: &[u8], cause: XmlCause) -> Fault
+pub(crate) fn fault_at(bytes: &[u8], cause: XmlCause) -> ParseFault
     ensures { result.left ≡ length bytes.now }
 {
     let cause = if bytes.is_empty() {
@@ -69,7 +73,7 @@ pub(crate) fn fault_at(bytes: &[u8], cause: XmlCause) -> Fault
     } else {
         cause
     };
-    Fault {
+    ParseFault {
         left: bytes.len(),
         cause,
     }

@@ -7,12 +7,12 @@ ghost use Rattle.oai_xml.specs.Parts.{qname_in, is_target, name_in};
 ghost use Rattle.oai_xml.specs.QNames as spec;
 ghost use Rattle.oai_xml.specs.Ascii.{is_ascii_ncname, starts_name};
 
-use crate::faults::{Fault, XmlCause};
+use crate::faults::{ParseFault, XmlCause};
 use crate::literals::fault_at;
 
 /// The QName that stands here, and what stands behind it (production [NS 7]).
 #[tactic(auto, unfolding(crate::specs::Parts::name_in))]
-pub(crate) fn qname(bytes: &[u8]) -> Result<(&[u8], &[u8]), Fault>
+pub(crate) fn qname(bytes: &[u8]) -> Result<(&[u8], &[u8]), ParseFault>
     ensures gives { Gives (λ r. (r.0.now, r.1.now)) (qname_in bytes.now) result }
     ensures shorter { IfOk result (λ r. length r.1.now < length bytes.now) }
 {
@@ -25,7 +25,7 @@ pub(crate) fn qname(bytes: &[u8]) -> Result<(&[u8], &[u8]), Fault>
 
 /// Passes the target of a processing instruction (production [17]).
 #[tactic(auto, unfolding(crate::specs::Parts::name_in))]
-pub(crate) fn past_target(bytes: &[u8]) -> Result<(&[u8], &[u8]), Fault>
+pub(crate) fn past_target(bytes: &[u8]) -> Result<(&[u8], &[u8]), ParseFault>
     ensures gives { Gives (λ r. (r.0.now, r.1.now)) (name_in is_target bytes.now) result }
     ensures shorter { IfOk result (λ r. length r.1.now < length bytes.now) }
 {

@@ -4,13 +4,13 @@ ghost use Rattle.std.specs.Char.{is_ascii_digit};
 ghost use Rattle.oai_xml.specs.Answers.{Gives};
 ghost use Rattle.oai_xml.specs.Documents as spec;
 
-use crate::faults::{Fault, XmlCause};
+use crate::faults::{ParseFault, XmlCause};
 use crate::literals::{begins, behind, fault_at, past};
 use crate::spaces::{past_equals, past_space, past_spaces};
 
 /// Passes the XML declaration, if there is one.
 #[tactic(auto, unfolding(crate::specs::Documents::opening_in))]
-pub(crate) fn past_opening(bytes: &[u8]) -> Result<&[u8], Fault>
+pub(crate) fn past_opening(bytes: &[u8]) -> Result<&[u8], ParseFault>
     ensures gives { Gives (λ rest. rest.now) (spec.opening_in bytes.now) result }
     ensures within { IfOk result (λ rest. length rest.now ≤ length bytes.now) }
 {
@@ -29,7 +29,7 @@ fn begins_spaces(bytes: &[u8]) -> bool
 
 /// Passes the XML declaration, behind its `<?xml` (production [23]).
 #[tactic(auto, unfolding(crate::specs::Documents::declaration_in))]
-fn past_declaration(bytes: &[u8]) -> Result<&[u8], Fault>
+fn past_declaration(bytes: &[u8]) -> Result<&[u8], ParseFault>
     ensures gives { Gives (λ rest. rest.now) (spec.declaration_in bytes.now) result }
     ensures within { IfOk result (λ rest. length rest.now ≤ length bytes.now) }
 {
@@ -42,7 +42,7 @@ fn past_declaration(bytes: &[u8]) -> Result<&[u8], Fault>
 
 /// Passes the version (production [24]).
 #[tactic(auto, unfolding(crate::specs::Documents::version_in))]
-fn past_version(bytes: &[u8]) -> Result<&[u8], Fault>
+fn past_version(bytes: &[u8]) -> Result<&[u8], ParseFault>
     ensures gives { Gives (λ rest. rest.now) (spec.version_in bytes.now) result }
     ensures within { IfOk result (λ rest. length rest.now ≤ length bytes.now) }
 {
@@ -53,9 +53,9 @@ fn past_version(bytes: &[u8]) -> Result<&[u8], Fault>
 }
 
 /// Passes white space, a name, `=` and a quote, and answers the quote.
-#[tactic(auto, unfolding(crate::specs::Documents::named_in))]
-fn past_name<'a>(name: &[u8], bytes: &'a [u8]) -> Result<(u8, &'a [u8]), Fault>
-    ensures gives { Gives (λ r. (r.0, r.1.now)) (spec.named_in name.now bytes.now) result }
+#[tactic(auto, unfolding(crate::specs::Documents::pseudo_attribute_in))]
+fn past_name<'a>(name: &[u8], bytes: &'a [u8]) -> Result<(u8, &'a [u8]), ParseFault>
+    ensures gives { Gives (λ r. (r.0, r.1.now)) (spec.pseudo_attribute_in name.now bytes.now) result }
     ensures within { IfOk result (λ r. length r.1.now ≤ length bytes.now) }
 {
     let start = past_space(bytes)?;
@@ -67,7 +67,7 @@ fn past_name<'a>(name: &[u8], bytes: &'a [u8]) -> Result<(u8, &'a [u8]), Fault>
 
 /// Passes the number of a version (production [26]).
 #[tactic(auto, unfolding(crate::specs::Documents::version_number_in))]
-fn past_version_number(bytes: &[u8]) -> Result<&[u8], Fault>
+fn past_version_number(bytes: &[u8]) -> Result<&[u8], ParseFault>
     ensures gives { Gives (λ rest. rest.now) (spec.version_number_in bytes.now) result }
     ensures within { IfOk result (λ rest. length rest.now ≤ length bytes.now) }
 {
@@ -94,7 +94,7 @@ fn digits_len(bytes: &[u8]) -> usize
 
 /// Passes the encoding, if it is named: UTF-8 (production [80]).
 #[tactic(auto, unfolding(crate::specs::Documents::encoding_in))]
-fn past_encoding(bytes: &[u8]) -> Result<&[u8], Fault>
+fn past_encoding(bytes: &[u8]) -> Result<&[u8], ParseFault>
     ensures gives { Gives (λ rest. rest.now) (spec.encoding_in bytes.now) result }
     ensures within { IfOk result (λ rest. length rest.now ≤ length bytes.now) }
 {
@@ -109,7 +109,7 @@ fn past_encoding(bytes: &[u8]) -> Result<&[u8], Fault>
 
 /// Passes the name of the one encoding that texts have, whatever the case of its letters.
 #[tactic(auto, unfolding(crate::specs::Documents::utf_8_in))]
-fn past_utf_8(bytes: &[u8]) -> Result<&[u8], Fault>
+fn past_utf_8(bytes: &[u8]) -> Result<&[u8], ParseFault>
     ensures gives { Gives (λ rest. rest.now) (spec.utf_8_in bytes.now) result }
     ensures within { IfOk result (λ rest. length rest.now ≤ length bytes.now) }
 {
@@ -121,7 +121,7 @@ fn past_utf_8(bytes: &[u8]) -> Result<&[u8], Fault>
 
 /// Skips the standalone declaration, if there is one (production [32]).
 #[tactic(auto, unfolding(crate::specs::Documents::standalone_in))]
-fn past_standalone(bytes: &[u8]) -> Result<&[u8], Fault>
+fn past_standalone(bytes: &[u8]) -> Result<&[u8], ParseFault>
     ensures gives { Gives (λ rest. rest.now) (spec.standalone_in bytes.now) result }
     ensures within { IfOk result (λ rest. length rest.now ≤ length bytes.now) }
 {
@@ -135,9 +135,9 @@ fn past_standalone(bytes: &[u8]) -> Result<&[u8], Fault>
 }
 
 /// Passes `yes` or `no`.
-#[tactic(auto, unfolding(crate::specs::Documents::answer_in))]
-fn past_answer(bytes: &[u8]) -> Result<&[u8], Fault>
-    ensures gives { Gives (λ rest. rest.now) (spec.answer_in bytes.now) result }
+#[tactic(auto, unfolding(crate::specs::Documents::yes_or_no_in))]
+fn past_answer(bytes: &[u8]) -> Result<&[u8], ParseFault>
+    ensures gives { Gives (λ rest. rest.now) (spec.yes_or_no_in bytes.now) result }
     ensures within { IfOk result (λ rest. length rest.now ≤ length bytes.now) }
 {
     if begins(b"y", bytes) {
@@ -148,7 +148,7 @@ fn past_answer(bytes: &[u8]) -> Result<&[u8], Fault>
 
 /// The quote that stands here.
 #[tactic(auto, unfolding(crate::specs::Documents::quote_in))]
-fn quote(bytes: &[u8]) -> Result<(u8, &[u8]), Fault>
+fn quote(bytes: &[u8]) -> Result<(u8, &[u8]), ParseFault>
     ensures gives { Gives (λ r. (r.0, r.1.now)) (spec.quote_in bytes.now) result }
     ensures within { IfOk result (λ r. length r.1.now ≤ length bytes.now) }
 {

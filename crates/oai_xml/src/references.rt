@@ -4,15 +4,15 @@ ghost use Rattle.oai_names.specs.Characters.{is_xml_char};
 ghost use Rattle.oai_xml.specs.Answers.{Gives};
 ghost use Rattle.oai_xml.specs.Parts as spec;
 
-use crate::faults::{Fault, XmlCause};
+use crate::faults::{ParseFault, XmlCause};
 use crate::literals::{behind, fault_at};
 
 /// The greatest number of a character.
 const LAST_CHAR: u32 = 0x10FFFF;
 
 /// The character that a reference stands for, behind its `&`, and what stands behind the reference (production [67]).
-#[tactic(auto, unfolding(crate::specs::Parts::reference_in, crate::specs::Parts::number_in))]
-pub(crate) fn reference(bytes: &[u8]) -> Result<(char, &[u8]), Fault>
+#[tactic(auto, unfolding(crate::specs::Parts::reference_in, crate::specs::Parts::char_ref_in))]
+pub(crate) fn reference(bytes: &[u8]) -> Result<(char, &[u8]), ParseFault>
     ensures gives { Gives (λ r. (encode_utf8 r.0, r.1.now)) (spec.reference_in bytes.now) result }
     ensures shorter { IfOk result (λ r. length r.1.now < length bytes.now) }
 {
@@ -23,9 +23,9 @@ pub(crate) fn reference(bytes: &[u8]) -> Result<(char, &[u8]), Fault>
 }
 
 /// The character of a number (production [66]).
-#[tactic(auto, unfolding(crate::specs::Parts::number_in))]
-fn number(bytes: &[u8]) -> Result<(char, &[u8]), Fault>
-    ensures gives { Gives (λ r. (encode_utf8 r.0, r.1.now)) (spec.number_in bytes.now) result }
+#[tactic(auto, unfolding(crate::specs::Parts::char_ref_in))]
+fn number(bytes: &[u8]) -> Result<(char, &[u8]), ParseFault>
+    ensures gives { Gives (λ r. (encode_utf8 r.0, r.1.now)) (spec.char_ref_in bytes.now) result }
     ensures shorter { IfOk result (λ r. length r.1.now < length bytes.now) }
 {
     match behind(b"x", bytes) {
@@ -36,7 +36,7 @@ fn number(bytes: &[u8]) -> Result<(char, &[u8]), Fault>
 
 /// Digits, and the `;` behind them.
 #[tactic(auto, unfolding(crate::specs::Parts::digits_in))]
-fn digits(base: u32, bytes: &[u8]) -> Result<(char, &[u8]), Fault>
+fn digits(base: u32, bytes: &[u8]) -> Result<(char, &[u8]), ParseFault>
     requires { base ≤ 16 }
     ensures gives { Gives (λ r. (encode_utf8 r.0, r.1.now)) (spec.digits_in base 0 bytes.now) result }
     ensures shorter { IfOk result (λ r. length r.1.now < length bytes.now) }
@@ -56,7 +56,7 @@ fn digits(base: u32, bytes: &[u8]) -> Result<(char, &[u8]), Fault>
         }
         rest = tail;
     }
-    Err(Fault {
+    Err(ParseFault {
         left: 0,
         cause: XmlCause::Ends,
     })
@@ -109,7 +109,7 @@ fn legal_char(value: u32) -> Option<char>
 
 /// One of the five entities that need no declaration (production [68], section 4.6).
 #[tactic(auto, unfolding(crate::specs::Parts::entity_in))]
-fn entity(bytes: &[u8]) -> Result<(char, &[u8]), Fault>
+fn entity(bytes: &[u8]) -> Result<(char, &[u8]), ParseFault>
     ensures gives { Gives (λ r. (encode_utf8 r.0, r.1.now)) (spec.entity_in bytes.now) result }
     ensures shorter { IfOk result (λ r. length r.1.now < length bytes.now) }
 {

@@ -1,10 +1,10 @@
 ghost use Rattle.std.specs.Prelude.{◌≡◌, IfOk};
 ghost use Rattle.oai_xml.specs.Roots.{IsRootOf, root_of};
 ghost use Rattle.oai_xml.specs.Trees.{Tree};
-ghost use Rattle.oai_xml.specs.Whole.{Spells};
+ghost use Rattle.oai_xml.specs.Whole.{SpellsTree};
 
 use crate::element_texts::ElementText;
-use crate::faults::{Stop, XmlCause};
+use crate::faults::{ParseStop, XmlCause};
 use crate::literals::past;
 use crate::names::local_of;
 use crate::namespaces::space_of;
@@ -30,7 +30,7 @@ impl Model for Root {
 impl Root {
     /// The root of an element. The error is out of memory.
     pub fn of(alloc: Global, element: &ElementText) -> Result<Root, AllocError>
-        ensures { (t : Tree) → Spells element.now t → IfOk result (λ root. root ≡ root_of t) }
+        ensures { (t : Tree) → SpellsTree element.now t → IfOk result (λ root. root ≡ root_of t) }
     {
         match read_root(alloc, element.as_str().as_bytes()) {
             Ok(root) => Ok(root),
@@ -54,12 +54,12 @@ impl Root {
 }
 
 /// Reads the first tag of a text.
-fn read_root(alloc: Global, bytes: &[u8]) -> Result<Root, Stop>
+fn read_root(alloc: Global, bytes: &[u8]) -> Result<Root, ParseStop>
     ensures { IfOk result (λ root. IsRootOf bytes.now root) }
 {
     let tag = match past(b"<", bytes, XmlCause::Syntax) {
         Ok(tag) => tag,
-        Err(fault) => return Err(Stop::At(fault)),
+        Err(fault) => return Err(ParseStop::At(fault)),
     };
     let mut scope = Vec::new(alloc);
     let mut out = Vec::new(alloc);

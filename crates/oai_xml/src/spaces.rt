@@ -2,7 +2,7 @@ ghost use Rattle.std.specs.Prelude.{◌≡◌, ◌<◌, ◌≤◌, length, IfOk}
 ghost use Rattle.oai_xml.specs.Answers.{Gives};
 ghost use Rattle.oai_xml.specs.Parts as spec;
 
-use crate::faults::{Fault, XmlCause};
+use crate::faults::{ParseFault, XmlCause};
 use crate::literals::{fault_at, past};
 
 /// Passes the white space that stands here, if there is some.
@@ -30,7 +30,7 @@ pub(crate) fn is_space(b: u8) -> bool
 
 /// Passes white space, of which there has to be some.
 #[tactic(auto, unfolding(crate::specs::Parts::past_space))]
-pub(crate) fn past_space(bytes: &[u8]) -> Result<&[u8], Fault>
+pub(crate) fn past_space(bytes: &[u8]) -> Result<&[u8], ParseFault>
     ensures gives { Gives (λ rest. rest.now) (spec.past_space bytes.now) result }
     ensures shorter { IfOk result (λ rest. length rest.now < length bytes.now) }
 {
@@ -43,7 +43,7 @@ pub(crate) fn past_space(bytes: &[u8]) -> Result<&[u8], Fault>
 
 /// Passes `=`, and white space around it (production [25]).
 #[tactic(auto, unfolding(crate::specs::Parts::past_equals))]
-pub(crate) fn past_equals(bytes: &[u8]) -> Result<&[u8], Fault>
+pub(crate) fn past_equals(bytes: &[u8]) -> Result<&[u8], ParseFault>
     ensures gives { Gives (λ rest. rest.now) (spec.past_equals bytes.now) result }
     ensures shorter { IfOk result (λ rest. length rest.now < length bytes.now) }
 {

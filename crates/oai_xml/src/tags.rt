@@ -7,7 +7,7 @@ ghost use Rattle.oai_xml.specs.Whole.{within};
 
 use crate::attributes::attributes;
 use crate::declarations::{Declared, Name};
-use crate::faults::{Fault, Stop, XmlCause};
+use crate::faults::{ParseFault, ParseStop, XmlCause};
 use crate::literals::{fault_at, past};
 use crate::names::qname;
 use crate::namespaces::{are_names_whole, has_default};
@@ -21,14 +21,14 @@ pub(crate) fn start<'a>(
     bytes: &'a [u8],
     scope: &mut Vec<Declared<'a>>,
     out: &mut Vec<u8>,
-) -> Result<(&'a [u8], &'a [u8]), Stop>
+) -> Result<(&'a [u8], &'a [u8]), ParseStop>
     ensures leaves { Leaves (λ r s. (r.0.now ≡ s.0.name) × (r.1.now ≡ s.1) × (scope.new.items ≡ within scope.old.items s.0.attributes)
         × (out.new.items ≡ out.old.items ++ start_tag s.0.name s.0.attributes)) (spec.whole_start_in scope.old.items bytes.now) result }
     ensures shorter { IfOk result (λ r. length r.1.now < length bytes.now) }
 {
     let (name, behind) = match qname(bytes) {
         Ok(read) => read,
-        Err(fault) => return Err(Stop::At(fault)),
+        Err(fault) => return Err(ParseStop::At(fault)),
     };
     let outer = scope.as_slice().len();
     out.push(b'<')?;
@@ -40,7 +40,7 @@ pub(crate) fn start<'a>(
     };
     complete(alloc, &mut names, scope, out)?;
     if !are_names_whole(scope, outer, name, &names) {
-        return Err(Stop::At(fault_at(rest, XmlCause::Tag)));
+        return Err(ParseStop::At(fault_at(rest, XmlCause::Tag)));
     }
     out.push(b'>')?;
     Ok((name, rest))
@@ -69,7 +69,7 @@ fn complete<'a>(
 
 /// Reads an end tag of that name, behind its `</` (production [NS 13]).
 #[tactic(auto, unfolding(crate::specs::Tags::end_in))]
-pub(crate) fn past_end<'a>(name: &[u8], bytes: &'a [u8]) -> Result<&'a [u8], Fault>
+pub(crate) fn past_end<'a>(name: &[u8], bytes: &'a [u8]) -> Result<&'a [u8], ParseFault>
     ensures gives { Gives (λ rest. rest.now) (end_in name.now bytes.now) result }
     ensures shorter { IfOk result (λ rest. length rest.now < length bytes.now) }
 {

@@ -6,7 +6,7 @@ ghost use Rattle.oai_names.specs.Escapes.{attribute_spelling};
 ghost use Rattle.oai_xml.specs.Parts.{reference_in};
 ghost use Rattle.oai_xml.specs.Tags as spec;
 
-use crate::faults::{Fault, Stop, XmlCause};
+use crate::faults::{ParseFault, ParseStop, XmlCause};
 use crate::literals::fault_at;
 use crate::references::reference;
 use crate::spaces::is_space;
@@ -22,18 +22,27 @@ pub(crate) enum Form {
 
 /// Appends a value, from its first quote on (production [10]), and answers what stands behind it.
 #[tactic(auto, unfolding(crate::specs::Tags::quoted_in))]
-pub(crate) fn quoted<'a>(form: Form, bytes: &'a [u8], out: &mut Vec<u8>) -> Result<&'a [u8], Stop>
+pub(crate) fn quoted<'a>(
+    form: Form,
+    bytes: &'a [u8],
+    out: &mut Vec<u8>,
+) -> Result<&'a [u8], ParseStop>
     ensures leaves { Leaves (λ rest value. (rest.now ≡ value.1) × (out.new.items ≡ out.old.items ++ formed form value.0)) (spec.quoted_in bytes.now) result }
     ensures shorter { IfOk result (λ rest. length rest.now < length bytes.now) }
 {
     match bytes.split_first() {
         Some((quote, rest)) if *quote == b'"' || *quote == b'\'' => value(form, *quote, rest, out),
-        _ => Err(Stop::At(fault_at(bytes, XmlCause::Syntax))),
+        _ => Err(ParseStop::At(fault_at(bytes, XmlCause::Syntax))),
     }
 }
 
 /// Appends what is left of a value that is closed by that quote.
-fn value<'a>(form: Form, quote: u8, bytes: &'a [u8], out: &mut Vec<u8>) -> Result<&'a [u8], Stop>
+fn value<'a>(
+    form: Form,
+    quote: u8,
+    bytes: &'a [u8],
+    out: &mut Vec<u8>,
+) -> Result<&'a [u8], ParseStop>
     requires { (quote == 34 || quote == 39) ≡ true }
     ensures leaves { LeavesIn (λ rest value. (rest.now ≡ value.1) × (out.new.items ≡ out.old.items ++ formed form value.0)) (λ steps. spec.value_in steps quote bytes.now) bytes.now result }
     ensures shorter { IfOk result (λ rest. length rest.now ≤ length bytes.now) }
@@ -48,7 +57,7 @@ fn value<'a>(form: Form, quote: u8, bytes: &'a [u8], out: &mut Vec<u8>) -> Resul
             Err(stop) => return Err(stop),
         }
     }
-    Err(Stop::At(Fault {
+    Err(ParseStop::At(ParseFault {
         left: 0,
         cause: XmlCause::Ends,
     }))
@@ -60,7 +69,7 @@ fn value_piece<'a>(
     quote: u8,
     bytes: &'a [u8],
     out: &mut Vec<u8>,
-) -> Result<&'a [u8], Stop>
+) -> Result<&'a [u8], ParseStop>
     requires quote { (quote == 34 || quote == 39) ≡ true }
     requires apart { is_closed quote bytes.now ≡ false }
     ensures leaves { LeavesPiece (λ a b. a ++ b) (λ steps bytes. spec.value_in steps quote bytes) (λ rest. rest.now)
@@ -73,13 +82,13 @@ fn value_piece<'a>(
         return Ok(rest);
     }
     let Some((b, tail)) = bytes.split_first() else {
-        return Err(Stop::At(Fault {
+        return Err(ParseStop::At(ParseFault {
             left: 0,
             cause: XmlCause::Ends,
         }));
     };
     if *b == b'<' {
-        return Err(Stop::At(fault_at(bytes, XmlCause::Value)));
+        return Err(ParseStop::At(fault_at(bytes, XmlCause::Value)));
     }
     if *b == b'&' {
         return character(form, tail, out);
@@ -108,7 +117,7 @@ fn is_bare_value_byte(b: u8) -> bool
 }
 
 /// Appends the character that a reference stands for, behind its `&`.
-fn character<'a>(form: Form, bytes: &'a [u8], out: &mut Vec<u8>) -> Result<&'a [u8], Stop>
+fn character<'a>(form: Form, bytes: &'a [u8], out: &mut Vec<u8>) -> Result<&'a [u8], ParseStop>
     ensures leaves { Leaves (λ rest c. (rest.now ≡ c.1) × (out.new.items ≡ out.old.items ++ formed form c.0)) (reference_in bytes.now) result }
     ensures shorter { IfOk result (λ rest. length rest.now < length bytes.now) }
 {
@@ -117,7 +126,7 @@ fn character<'a>(form: Form, bytes: &'a [u8], out: &mut Vec<u8>) -> Result<&'a [
             push_char(form, c, out)?;
             Ok(rest)
         }
-        Err(fault) => Err(Stop::At(fault)),
+        Err(fault) => Err(ParseStop::At(fault)),
     }
 }
 

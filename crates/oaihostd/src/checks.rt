@@ -2,7 +2,7 @@
 use crate::configurations::{Failure, read_checked};
 use oai_config::{Config, NamedConfig};
 use oai_reports::LineFile;
-use oai_startup::{Stop as Other, check_config, config_in, read_file, warnings_in};
+use oai_startup::{Stop, check_config, config_in, read_file, warnings_in};
 use std::io;
 
 /// Writes how many repositories the configuration in the file has, and its warnings on standard error. If there is a
@@ -37,7 +37,7 @@ fn check_lines(
     };
     let bytes = match read_file(rt, path) {
         Ok(bytes) => bytes,
-        Err(Other::CannotRead) => return Err(Failure::NoLines),
+        Err(Stop::CannotRead) => return Err(Failure::NoLines),
         Err(stop) => return Err(Failure::from(stop)),
     };
     let mut file = LineFile::new(rt.alloc(), &named.config);
@@ -66,14 +66,14 @@ fn check_line(rt: &HostRuntime, file: &mut LineFile<'_>, line: &[u8]) -> Result<
             Ok(())
         }
         Ok(None) => Ok(()),
-        Err(_) => Err(Failure::from(Other::NoMemory)),
+        Err(_) => Err(Failure::from(Stop::NoMemory)),
     }
 }
 
 /// Writes how many lines there are and how many are refused.
 fn write_sum(rt: &HostRuntime, name: &str, read: u64, refused: u64) -> Result<(), Failure> {
     if println!(rt; "repository {name}: {read} lines, {refused} refused").is_err() {
-        return Err(Failure::from(Other::OutputFault));
+        return Err(Failure::from(Stop::OutputFault));
     }
     if refused != 0 {
         return Err(Failure::Refused);

@@ -7,15 +7,17 @@ ghost use Rattle.oai_archive.specs.Stops as spec;
 
 mod checks;
 mod configurations;
+mod elements;
 
 use checks::run_check;
 use clap::Error;
 use configurations::{Failure, read_checked};
-use oai_archive::{ReadFile, Stop, VERSION, dump_repository, verify_journal};
+use elements::run_xml;
+use oai_archive::{ReadFile, ServerStop, VERSION, dump_repository, verify_journal};
 use oai_arguments::{Called, Serving, read_arguments};
 use oai_daemon::{Ended, HostPlace, checkpoint_folder, serve};
 use oai_reports::report_of;
-use oai_startup::Stop as Other;
+use oai_startup::Stop;
 use sqlite_std_file::Wary;
 use std::env;
 use std::fs::File;
@@ -41,18 +43,18 @@ fn called_with(rt: &HostRuntime, version: &str, words: &[String]) -> ExitCode {
 }
 
 /// The words that the program is called with.
-fn words_of(rt: &(impl Env + AllocGlobal)) -> Result<Vec<String>, Stop> {
+fn words_of(rt: &(impl Env + AllocGlobal)) -> Result<Vec<String>, ServerStop> {
     let Ok(arguments) = env::args(rt) else {
-        return Err(Stop::Common(Other::NoMemory));
+        return Err(ServerStop::Common(Stop::NoMemory));
     };
     match arguments.collect(rt.alloc()) {
         Ok(words) => Ok(words),
-        Err(_) => Err(Stop::Common(Other::NoMemory)),
+        Err(_) => Err(ServerStop::Common(Stop::NoMemory)),
     }
 }
 
 /// What the program says of its version.
-fn version_of(rt: &impl AllocGlobal) -> Result<String, Stop> {
+fn version_of(rt: &impl AllocGlobal) -> Result<String, ServerStop> {
     Ok(format!(in rt.alloc(); "(journal version {VERSION})")?)
 }
 
@@ -72,6 +74,7 @@ fn run(rt: &HostRuntime, called: Called<'_>) -> Result<(), Failure> {
             folder,
             is_quiet,
         } => { run_checkpoint(rt, config, folder, is_quiet) }
+        Called::Xml(path) => run_xml(rt, path),
     }
 }
 
@@ -95,7 +98,9 @@ fn warn_of(rt: &impl Eprint, address: IpAddr) {
 }
 
 /// Why the program stops, where its service ended, or did not begin.
-fn outcome_of<S: Drop, K: Drop, H: Drop>(ended: Result<Ended<S, K, H>, Stop>) -> Result<(), Stop> {
+fn outcome_of<S: Drop, K: Drop, H: Drop>(
+    ended: Result<Ended<S, K, H>, ServerStop>,
+) -> Result<(), ServerStop> {
     match ended {
         Ok(ended) => ended.outcome(),
         Err(stop) => Err(stop),
@@ -106,7 +111,7 @@ fn outcome_of<S: Drop, K: Drop, H: Drop>(ended: Result<Ended<S, K, H>, Stop>) ->
 fn run_verify(
     rt: &(impl Files<File = File> + Print + AllocGlobal),
     folder: &str,
-) -> Result<(), Stop> {
+) -> Result<(), ServerStop> {
     let journal = open_to_read(rt, folder)?;
     verify_journal(rt.alloc(), journal, &mut io::writer(rt))
 }
@@ -116,10 +121,10 @@ fn run_dump(
     rt: &(impl Files<File = File> + Print + AllocGlobal),
     folder: &str,
     name: &str,
-) -> Result<(), Stop> {
+) -> Result<(), ServerStop> {
     let journal = open_to_read(rt, folder)?;
     let Ok(mut writer) = BufWriter::new(rt.alloc(), io::writer(rt)) else {
-        return Err(Stop::Common(Other::NoMemory));
+        return Err(ServerStop::Common(Stop::NoMemory));
     };
     dump_repository(rt.alloc(), journal, name, &mut writer)
 }
@@ -128,12 +133,14 @@ fn run_dump(
 fn open_to_read(
     rt: &(impl Files<File = File> + AllocGlobal),
     folder: &str,
-) -> Result<ReadFile, Stop> {
+) -> Result<ReadFile, ServerStop> {
     let path = format!(in rt.alloc(); "{folder}/journal")?;
     match File::open(rt, path.as_str()) {
         Ok(file) => Ok(ReadFile::new(file)),
-        Err(error) if error.kind() == ErrorKind::OutOfMemory => Err(Stop::Common(Other::NoMemory)),
-        Err(_) => Err(Stop::CannotOpen),
+        Err(error) if error.kind() == ErrorKind::OutOfMemory => Err(ServerStop::Common(
+            Stop::NoMemory,
+        )),
+        Err(_) => Err(ServerStop::CannotOpen),
     }
 }
 
@@ -158,13 +165,14 @@ fn exit_of(rt: &(impl Eprint + AllocGlobal), done: Result<(), Failure>) -> ExitC
         Err(Failure::Config(fault, text)) => {
             let report = report_of(rt.alloc(), &text, fault);
             if report.is_empty() {
-                return stopped(rt, Stop::Common(Other::BadConfig(fault)));
+                return stopped(rt, ServerStop::Common(Stop::BadConfig(fault)));
             }
             let _ = eprint!(rt; "{report}");
-            ExitCode::from(Other::BadConfig(fault).status())
+            ExitCode::from(Stop::BadConfig(fault).status())
         }
         Err(Failure::NoRepository) => misused(rt, "check: no such repository"),
         Err(Failure::NoLines) => misused(rt, "lines: cannot read"),
+        Err(Failure::NoElement) => misused(rt, "xml: cannot read"),
         Err(Failure::Refused) => ExitCode::FAILURE,
     }
 }
@@ -179,14 +187,14 @@ fn misused(rt: &impl Eprint, message: &str) -> ExitCode {
 fn answered(rt: &HostRuntime, error: &Error) -> ExitCode {
     match (error.print(rt), error.use_stderr()) {
         (Ok(()), false) => ExitCode::SUCCESS,
-        (Err(_), false) => stopped(rt, Stop::Common(Other::OutputFault)),
+        (Err(_), false) => stopped(rt, ServerStop::Common(Stop::OutputFault)),
         (_, true) => ExitCode::from(2),
     }
 }
 
 /// Writes to standard error why the program stopped. If that fails, its status still shows it.
-fn stopped(rt: &impl Eprint, stop: Stop) -> ExitCode
-    ensures { exit_status result ≡ spec.status_of stop }
+fn stopped(rt: &impl Eprint, stop: ServerStop) -> ExitCode
+    ensures { exit_status result ≡ spec.server_status_of stop }
 {
     let _ = eprintln!(rt; "{stop}");
     ExitCode::from(stop.status())

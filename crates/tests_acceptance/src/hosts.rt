@@ -49,7 +49,7 @@ fn over_pages(
         return out.write_all(b"no configuration\n");
     };
     match host_on(alloc, config, MemoryDevice::new(alloc)) {
-        Ok(mut host) => perform(alloc, &mut host, way, lines, out),
+        Ok(mut host) => perform_by_way(alloc, &mut host, way, lines, out),
         Err(_) => out.write_all(b"no host\n"),
     }
 }
@@ -129,13 +129,13 @@ fn over<V: Versions + Drop>(
         return out.write_all(b"no configuration\n");
     };
     match Host::new(alloc, config, store) {
-        Ok(mut host) => perform(alloc, &mut host, way, lines, out),
+        Ok(mut host) => perform_by_way(alloc, &mut host, way, lines, out),
         Err(fault) => writeln!(out, "no host: {fault}"),
     }
 }
 
 /// Performs the lines.
-fn perform<V: Versions + Drop>(
+fn perform_by_way<V: Versions + Drop>(
     alloc: Global,
     host: &mut Host<V>,
     way: Way,

@@ -38,7 +38,7 @@ fn perform_file(rt: &(impl Files + Print + AllocGlobal), path: &str) -> io::Resu
     let text = with_repeats(alloc, text.as_str())?;
     let mut out = BufWriter::new(alloc, io::writer(rt))?;
     for block in text.split("\n== ").skip(1) {
-        perform(alloc, Script::read(block), &mut out)?;
+        perform_script(alloc, Script::read(block), &mut out)?;
     }
     out.flush()
 }
@@ -57,7 +57,7 @@ fn without_comments(alloc: Global, text: &str) -> Result<String, AllocError> {
 
 /// Performs the script over each of its stores, and writes what it is answered over the first, and over each other one that this
 /// is the same, or what else it is.
-fn perform<W: Write>(alloc: Global, script: Script<'_>, out: &mut W) -> io::Result<()> {
+fn perform_script<W: Write>(alloc: Global, script: Script<'_>, out: &mut W) -> io::Result<()> {
     let mut first = Vec::new(alloc);
     for (place, store) in script.stores.split(' ').enumerate() {
         let mut answers = Vec::new(alloc);

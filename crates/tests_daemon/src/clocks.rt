@@ -1,6 +1,6 @@
 //! Clocks in memory, and what a server does whose clock jumps.
 use crate::places::{MemoryPlace, configuration, served};
-use oai_archive::Stop;
+use oai_archive::ServerStop;
 use std::alloc::Global;
 use std::cell::Cell;
 use std::io;
@@ -56,7 +56,7 @@ fn clock_jumps(rt: HostRuntime) {
     let mut place = MemoryPlace::new(rt.alloc(), 100).expect(&rt, "place");
     place.rounds = 10;
     let ended = served(&mut place, &clock, configuration());
-    assert_eq!(&rt; ended, Ok(Err(Stop::Jumped(1_704_240_002))));
+    assert_eq!(&rt; ended, Ok(Err(ServerStop::Jumped(1_704_240_002))));
 }
 
 /// One that gained a day goes on.
@@ -71,7 +71,7 @@ fn clock_gains_a_day(rt: HostRuntime) {
     let ended = served(&mut place, &clock, configuration());
     assert_eq!(&rt;
         ended,
-        Ok(Err(Stop::Common(oai_startup::Stop::SocketFault)))
+        Ok(Err(ServerStop::Common(oai_startup::Stop::SocketFault)))
     );
 }
 
@@ -82,7 +82,7 @@ fn assert_calls(rt: &impl Abort, alloc: Global, moment: i64, calls: &str) {
     let ended = served(&mut place, &Standing, configuration());
     assert_eq!(rt;
         ended,
-        Ok(Err(Stop::Common(oai_startup::Stop::SocketFault)))
+        Ok(Err(ServerStop::Common(oai_startup::Stop::SocketFault)))
     );
     assert_eq!(rt; place.calls.as_str(), calls);
 }

@@ -1,7 +1,7 @@
 //! What a repository holds, as the lines of a dump.
 use crate::places::{add_record, first_body};
-use oai_archive::{Stop, dump_repository};
-use oai_journal::{FileJournal, Kind, Record};
+use oai_archive::{ServerStop, dump_repository};
+use oai_journal::{FileJournal, Kind, LogRecord};
 use sqlite_disk::{Disk, Memory};
 use std::alloc::Global;
 use std::panic::Expect;
@@ -12,7 +12,7 @@ const FIRST: i64 = 1_704_067_200;
 
 /// A journal in memory that begins so.
 pub(crate) fn begun(rt: &impl Abort, alloc: Global) -> FileJournal<Memory> {
-    let first = Record {
+    let first = LogRecord {
         moment: FIRST,
         kind: Kind::Journal,
         name: b"oaihostd",
@@ -29,7 +29,7 @@ pub(crate) fn deposit(
     seconds: i64,
     lines: &str,
 ) {
-    let record = Record {
+    let record = LogRecord {
         moment: FIRST.saturating_add(seconds),
         kind: Kind::Deposit,
         name: b"a",
@@ -44,7 +44,7 @@ pub(crate) fn assert_dumped<D: Disk + Drop>(
     alloc: Global,
     disk: D,
     name: &str,
-    wanted: Result<(), Stop>,
+    wanted: Result<(), ServerStop>,
     text: &str,
 ) {
     let mut written = Vec::new(alloc);
@@ -84,6 +84,6 @@ fn dumped_lines(rt: HostRuntime) {
 #[test]
 fn unknown_repository(rt: HostRuntime) {
     let journal = begun(&rt, rt.alloc());
-    let wanted = Err(Stop::NoRepository);
+    let wanted = Err(ServerStop::NoRepository);
     assert_dumped(&rt, rt.alloc(), journal.into_disk(), "b", wanted, "");
 }

@@ -1,6 +1,6 @@
 //! Journals to which a server writes while they are read, and damaged ones, verified and dumped.
 use crate::dumps::{assert_dumped, begun, deposit};
-use oai_archive::{Stop, verify_journal};
+use oai_archive::{ServerStop, verify_journal};
 use sqlite_disk::{Disk, Tally};
 use std::alloc::Global;
 use std::io::{self, ErrorKind};
@@ -133,7 +133,7 @@ fn assert_verified(
     rt: &impl Abort,
     alloc: Global,
     file: Growing,
-    wanted: Result<(), Stop>,
+    wanted: Result<(), ServerStop>,
     text: &str,
 ) {
     let mut written = Vec::new(alloc);
@@ -181,9 +181,9 @@ fn damage(rt: HostRuntime) {
     let alloc = rt.alloc();
     let gate = bytes(&rt, alloc, 1).len().saturating_sub(1);
     for before in [2usize, 9, 80] {
-        let wanted = Err(Stop::Damaged(gate));
+        let wanted = Err(ServerStop::Damaged(gate));
         assert_verified(&rt, alloc, changed(&rt, alloc, before), wanted, "");
-        let wanted = Err(Stop::Damaged(gate));
+        let wanted = Err(ServerStop::Damaged(gate));
         assert_dumped(&rt, alloc, changed(&rt, alloc, before), "a", wanted, "");
     }
 }

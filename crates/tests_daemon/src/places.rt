@@ -3,12 +3,12 @@ ghost use Rattle.oai_archive.specs.Readings.{IsReadBack};
 ghost use Rattle.oai_journal.specs.Recovered.{disk_of};
 ghost use Rattle.std.specs.Prelude.{IsTrue};
 
-use oai_archive::Stop;
+use oai_archive::ServerStop;
 use oai_daemon::{Ended, Note, Place, serve};
 use oai_device::MemoryDevice;
-use oai_journal::{FileJournal, Journal, Kind, Record, Recovery};
+use oai_journal::{FileJournal, Journal, Kind, LogRecord, Recovery};
 use oai_serving::{Readiness, Sockets, Stream};
-use oai_startup::Stop as Other;
+use oai_startup::Stop;
 use sqlite_disk::{Disk, Memory};
 use std::alloc::{AllocError, Global};
 use std::io::{self, ErrorKind};
@@ -34,15 +34,15 @@ pub(crate) fn served<C: Clock>(
     place: &mut MemoryPlace,
     clock: &C,
     text: &[u8],
-) -> Result<Result<(), Stop>, Stop> {
+) -> Result<Result<(), ServerStop>, ServerStop> {
     let alloc = place.alloc();
     outcome_of(serve(alloc, place, clock, text))
 }
 
 /// How the service ended, or why it did not begin.
 fn outcome_of<S: Drop, K: Drop, H: Drop>(
-    ended: Result<Ended<S, K, H>, Stop>,
-) -> Result<Result<(), Stop>, Stop> {
+    ended: Result<Ended<S, K, H>, ServerStop>,
+) -> Result<Result<(), ServerStop>, ServerStop> {
     match ended {
         Ok(ended) => Ok(ended.outcome()),
         Err(stop) => Err(stop),
@@ -95,18 +95,18 @@ impl MemoryPlace {
     }
 
     /// Takes note of a call.
-    fn call(&mut self, word: &str) -> Result<(), Stop> {
+    fn call(&mut self, word: &str) -> Result<(), ServerStop> {
         self.calls.push_str(word)?;
         self.calls.push(' ')?;
         if self.left == 0 {
-            return Err(Stop::Common(Other::DeviceFault));
+            return Err(ServerStop::Common(Stop::DeviceFault));
         }
         self.left -= 1;
         Ok(())
     }
 
     /// A disk with the folder's journal: the first record, and the tick.
-    fn journal(&self) -> Result<Memory, Stop> {
+    fn journal(&self) -> Result<Memory, ServerStop> {
         match &self.other {
             Some(other) => self.journal_of(other.as_bytes(), self.tick),
             None => self.journal_of(self.body, self.tick),
@@ -114,25 +114,25 @@ impl MemoryPlace {
     }
 
     /// A disk with a journal of a first record with that body, and of the tick.
-    fn journal_of(&self, body: &[u8], tick: Option<i64>) -> Result<Memory, Stop> {
-        let first = Record {
+    fn journal_of(&self, body: &[u8], tick: Option<i64>) -> Result<Memory, ServerStop> {
+        let first = LogRecord {
             moment: 1_704_067_200,
             kind: Kind::Journal,
             name: self.name,
             body,
         };
         if !first.is_fit() {
-            return Err(Stop::NotOurs);
+            return Err(ServerStop::NotOurs);
         }
         match FileJournal::create(self.alloc, Memory::new(self.alloc), &first) {
             Ok(journal) => with_tick(journal, tick),
-            Err(_) => Err(Stop::CannotWrite),
+            Err(_) => Err(ServerStop::CannotWrite),
         }
     }
 }
 
 /// The disk of the journal, to which a tick at that moment is added, if there is one.
-fn with_tick(mut journal: FileJournal<Memory>, tick: Option<i64>) -> Result<Memory, Stop> {
+fn with_tick(mut journal: FileJournal<Memory>, tick: Option<i64>) -> Result<Memory, ServerStop> {
     if let Some(moment) = tick {
         add_tick(&mut journal, moment)?;
     }
@@ -140,8 +140,8 @@ fn with_tick(mut journal: FileJournal<Memory>, tick: Option<i64>) -> Result<Memo
 }
 
 /// Adds a tick at that moment to the journal, and commits it.
-fn add_tick<J: Journal>(journal: &mut J, moment: i64) -> Result<(), Stop> {
-    let tick = Record {
+fn add_tick<J: Journal>(journal: &mut J, moment: i64) -> Result<(), ServerStop> {
+    let tick = LogRecord {
         moment,
         kind: Kind::Tick,
         name: b"a",
@@ -151,18 +151,21 @@ fn add_tick<J: Journal>(journal: &mut J, moment: i64) -> Result<(), Stop> {
 }
 
 /// Adds a record behind the first one, and commits it.
-pub(crate) fn add_record<J: Journal>(journal: &mut J, record: &Record<'_>) -> Result<(), Stop> {
+pub(crate) fn add_record<J: Journal>(
+    journal: &mut J,
+    record: &LogRecord<'_>,
+) -> Result<(), ServerStop> {
     if !record.is_fit() || record.kind.is_first() {
-        return Err(Stop::CannotWrite);
+        return Err(ServerStop::CannotWrite);
     }
     match journal.reserve(record.body.len()) {
         Ok(()) => {}
-        Err(_) => return Err(Stop::CannotWrite),
+        Err(_) => return Err(ServerStop::CannotWrite),
     }
     journal.append(record);
     match journal.commit() {
         Ok(()) => Ok(()),
-        Err(_) => Err(Stop::CannotWrite),
+        Err(_) => Err(ServerStop::CannotWrite),
     }
 }
 
@@ -179,38 +182,38 @@ impl Place for MemoryPlace {
 
     type Port = Quiet;
 
-    fn lock(&mut self) -> Result<(), Stop> {
+    fn lock(&mut self) -> Result<(), ServerStop> {
         self.call("lock")
     }
 
-    fn listen(&mut self) -> Result<Quiet, Stop> {
+    fn listen(&mut self) -> Result<Quiet, ServerStop> {
         self.call("listen")?;
         Ok(Quiet {
             rounds: self.rounds,
         })
     }
 
-    fn find_journal(&mut self) -> Result<bool, Stop> {
+    fn find_journal(&mut self) -> Result<bool, ServerStop> {
         self.call("find")?;
         Ok(self.found)
     }
 
-    fn read_journal(&mut self) -> Result<Memory, Stop> {
+    fn read_journal(&mut self) -> Result<Memory, ServerStop> {
         self.call("read")?;
         self.journal()
     }
 
-    fn begin_journal(&mut self) -> Result<Memory, Stop> {
+    fn begin_journal(&mut self) -> Result<Memory, ServerStop> {
         self.call("begin")?;
         Ok(Memory::new(self.alloc))
     }
 
-    fn open_begun(&mut self) -> Result<Memory, Stop> {
+    fn open_begun(&mut self) -> Result<Memory, ServerStop> {
         self.call("begun")?;
         self.journal_of(self.body, self.behind)
     }
 
-    fn keep_journal(&mut self, _begun: &Recovery<Memory>) -> Result<(), Stop>
+    fn keep_journal(&mut self, _begun: &Recovery<Memory>) -> Result<(), ServerStop>
         requires synced { IsTrue (⟦<Memory as Disk>⟧.is_clean (disk_of _begun.now))
             → IsReadBack ⟦<Memory as Disk>⟧.seen ⟦<Memory as Disk>⟧.may_leave _begun.now }
     {
@@ -219,17 +222,17 @@ impl Place for MemoryPlace {
         Ok(())
     }
 
-    fn open_journal(&mut self) -> Result<Memory, Stop> {
+    fn open_journal(&mut self) -> Result<Memory, ServerStop> {
         self.call("open")?;
         self.journal()
     }
 
-    fn empty_pages(&mut self) -> Result<MemoryDevice, Stop> {
+    fn empty_pages(&mut self) -> Result<MemoryDevice, ServerStop> {
         self.call("pages")?;
         Ok(MemoryDevice::new(self.alloc))
     }
 
-    fn announce(&mut self, _port: &Quiet) -> Result<(), Stop> {
+    fn announce(&mut self, _port: &Quiet) -> Result<(), ServerStop> {
         self.call("announce")
     }
 
@@ -253,7 +256,7 @@ pub(crate) struct Quiet {
 impl Sockets<Nothing> for Quiet {
     fn wait(&mut self, _most: Duration) -> io::Result<usize> {
         if self.rounds == 0 {
-            return Err(io::Error::from(ErrorKind::Other));
+            return Err(io::Error::from(ErrorKind::Stop));
         }
         self.rounds -= 1;
         Ok(0)
@@ -282,11 +285,11 @@ pub(crate) struct Nothing;
 
 impl Stream for Nothing {
     fn read(&mut self, _buffer: &mut [u8]) -> io::Result<usize> {
-        Err(io::Error::from(ErrorKind::Other))
+        Err(io::Error::from(ErrorKind::Stop))
     }
 
     fn write(&mut self, _bytes: &[u8]) -> io::Result<usize> {
-        Err(io::Error::from(ErrorKind::Other))
+        Err(io::Error::from(ErrorKind::Stop))
     }
 
     fn finish(&mut self) {}

@@ -1,8 +1,8 @@
 //! The order of the steps at startup, and where startup stops.
 use crate::clocks::Standing;
 use crate::places::{MemoryPlace, configuration, served};
-use oai_archive::{Aspect, Difference, Stop};
-use oai_startup::Stop as Other;
+use oai_archive::{Aspect, Difference, ServerStop};
+use oai_startup::Stop;
 use std::alloc::Global;
 use std::panic::Expect;
 use std::process::Abort;
@@ -13,7 +13,7 @@ const FOUND: &str = "lock listen find read pages open recovered announce ";
 const BEGUN: &str = "lock listen find begin pages begun recovered keep announce ";
 
 /// A start in that place, or the service behind it, stops so, after these calls.
-fn assert_start(rt: &impl Abort, place: &mut MemoryPlace, wanted: Stop, calls: &str) {
+fn assert_start(rt: &impl Abort, place: &mut MemoryPlace, wanted: ServerStop, calls: &str) {
     let stop = match served(place, &Standing, configuration()) {
         Ok(ended) => ended,
         Err(stop) => Err(stop),
@@ -36,10 +36,20 @@ fn calls(place: &MemoryPlace) -> usize {
 #[test]
 fn starts(rt: HostRuntime) {
     let mut place = MemoryPlace::new(rt.alloc(), 100).expect(&rt, "place");
-    assert_start(&rt, &mut place, Stop::Common(Other::SocketFault), FOUND);
+    assert_start(
+        &rt,
+        &mut place,
+        ServerStop::Common(Stop::SocketFault),
+        FOUND,
+    );
     let mut place = MemoryPlace::new(rt.alloc(), 100).expect(&rt, "place");
     place.found = false;
-    assert_start(&rt, &mut place, Stop::Common(Other::SocketFault), BEGUN);
+    assert_start(
+        &rt,
+        &mut place,
+        ServerStop::Common(Stop::SocketFault),
+        BEGUN,
+    );
 }
 
 /// A journal that was begun and has a record when it is read back is not kept.
@@ -49,7 +59,7 @@ fn begun_journal_has_a_record(rt: HostRuntime) {
     place.found = false;
     place.behind = Some(1_704_067_200);
     let calls = "lock listen find begin pages begun recovered ";
-    assert_start(&rt, &mut place, Stop::CannotWrite, calls);
+    assert_start(&rt, &mut place, ServerStop::CannotWrite, calls);
 }
 
 /// A fault at any step ends a start there, but one of a report.
@@ -59,7 +69,7 @@ fn faults_at_each_step(rt: HostRuntime) {
         let mut place = MemoryPlace::new(rt.alloc(), count).expect(&rt, "place");
         place.found = false;
         let stop = served(&mut place, &Standing, configuration());
-        assert_eq!(&rt; stop, Err(Stop::Common(Other::DeviceFault)));
+        assert_eq!(&rt; stop, Err(ServerStop::Common(Stop::DeviceFault)));
         assert!(&rt; BEGUN.starts_with(place.calls.as_str()));
         assert_eq!(&rt; calls(&place), count as usize + 1);
     }
@@ -71,13 +81,13 @@ fn other_journals(rt: HostRuntime) {
     let begun = "lock listen find read ";
     let mut place = MemoryPlace::new(rt.alloc(), 100).expect(&rt, "place");
     place.name = b"other";
-    assert_start(&rt, &mut place, Stop::NotOurs, begun);
+    assert_start(&rt, &mut place, ServerStop::NotOurs, begun);
     let mut place = MemoryPlace::new(rt.alloc(), 100).expect(&rt, "place");
     place.body = b"2\n{}";
-    assert_start(&rt, &mut place, Stop::OfVersion(2), begun);
+    assert_start(&rt, &mut place, ServerStop::OfVersion(2), begun);
     let mut place = MemoryPlace::new(rt.alloc(), 100).expect(&rt, "place");
     place.body = b"{}";
-    assert_start(&rt, &mut place, Stop::NotOurs, begun);
+    assert_start(&rt, &mut place, ServerStop::NotOurs, begun);
 }
 
 /// A journal of a configuration whose repository has that name, that number of pages in the cache, granularity and title.
@@ -108,7 +118,13 @@ fn body_of(
 }
 
 /// A start on a journal of that configuration ends so, behind these calls.
-fn assert_other(rt: &impl Abort, alloc: Global, body: Option<String>, wanted: Stop, calls: &str) {
+fn assert_other(
+    rt: &impl Abort,
+    alloc: Global,
+    body: Option<String>,
+    wanted: ServerStop,
+    calls: &str,
+) {
     let body = body.expect(rt, "memory");
     let mut place = MemoryPlace::new(alloc, 100).expect(rt, "place");
     place.other = Some(body);
@@ -116,9 +132,9 @@ fn assert_other(rt: &impl Abort, alloc: Global, body: Option<String>, wanted: St
 }
 
 /// That the server cannot go on with another aspect of the repository.
-fn differs(alloc: Global, repository: &str, aspect: Aspect) -> Option<Stop> {
+fn differs(alloc: Global, repository: &str, aspect: Aspect) -> Option<ServerStop> {
     let repository = String::from_str(alloc, repository).ok()?;
-    Some(Stop::OtherConfig(Difference { repository, aspect }))
+    Some(ServerStop::OtherConfig(Difference { repository, aspect }))
 }
 
 /// Another order of members and another cache are the same configuration; with another name for people the server goes on by a checkpoint; and
@@ -126,7 +142,7 @@ fn differs(alloc: Global, repository: &str, aspect: Aspect) -> Option<Stop> {
 #[test]
 fn other_configurations(rt: HostRuntime) {
     let alloc = rt.alloc();
-    let waits = Stop::Common(Other::SocketFault);
+    let waits = ServerStop::Common(Stop::SocketFault);
     assert_other(
         &rt,
         alloc,
@@ -134,7 +150,7 @@ fn other_configurations(rt: HostRuntime) {
         waits,
         FOUND,
     );
-    let waits = Stop::Common(Other::SocketFault);
+    let waits = ServerStop::Common(Stop::SocketFault);
     let by_a_checkpoint =
         "lock listen find read pages recovered begin pages begun recovered keep other announce ";
     assert_other(
@@ -168,7 +184,7 @@ fn no_configuration(rt: HostRuntime) {
     let mut place = MemoryPlace::new(rt.alloc(), 100).expect(&rt, "place");
     let stop = served(&mut place, &Standing, b"{}");
     match stop {
-        Err(Stop::Common(Other::BadConfig(_))) => {}
+        Err(ServerStop::Common(Stop::BadConfig(_))) => {}
         _ => assert!(&rt; false),
     }
     assert_eq!(&rt; place.calls.as_str(), "");

@@ -1,8 +1,8 @@
 //! What a server says where it stops, and with which status.
-use oai_archive::{Aspect, Difference, Stop};
+use oai_archive::{Aspect, Difference, ServerStop};
 use oai_daemon::Note;
 use oai_item::Fault;
-use oai_startup::Stop as Other;
+use oai_startup::Stop;
 use std::alloc::Global;
 use std::fmt::Display;
 use std::panic::Expect;
@@ -17,7 +17,7 @@ fn assert_shown<T: Display + Drop>(rt: &impl Abort, alloc: Global, value: &T, wa
 }
 
 /// The stop has that text and that status.
-fn assert_stop(rt: &impl Abort, alloc: Global, stop: Stop, text: &str, status: u8) {
+fn assert_stop(rt: &impl Abort, alloc: Global, stop: ServerStop, text: &str, status: u8) {
     assert_shown(rt, alloc, &stop, text);
     assert_eq!(rt; stop.status(), status);
 }
@@ -25,11 +25,11 @@ fn assert_stop(rt: &impl Abort, alloc: Global, stop: Stop, text: &str, status: u
 #[test]
 fn arguments_and_configurations(rt: HostRuntime) {
     let alloc = rt.alloc();
-    let unread = Stop::Common(Other::CannotRead);
+    let unread = ServerStop::Common(Stop::CannotRead);
     assert_stop(&rt, alloc, unread, "config: cannot read", 2);
     let unknown = "dump: no such repository";
-    assert_stop(&rt, alloc, Stop::NoRepository, unknown, 2);
-    let refused = Stop::Common(Other::NoMemory);
+    assert_stop(&rt, alloc, ServerStop::NoRepository, unknown, 2);
+    let refused = ServerStop::Common(Stop::NoMemory);
     assert_stop(&rt, alloc, refused, "out of memory", 1);
 }
 
@@ -59,7 +59,7 @@ fn other_configurations(rt: HostRuntime) {
         ),
     ] {
         let repository = String::from_str(rt.alloc(), "a").expect(&rt, "memory");
-        let stop = Stop::OtherConfig(Difference { repository, aspect });
+        let stop = ServerStop::OtherConfig(Difference { repository, aspect });
         assert_stop(&rt, rt.alloc(), stop, text, 2);
     }
 }
@@ -67,9 +67,9 @@ fn other_configurations(rt: HostRuntime) {
 #[test]
 fn folders_and_clocks(rt: HostRuntime) {
     let alloc = rt.alloc();
-    assert_stop(&rt, alloc, Stop::CannotOpen, "folder: cannot open", 1);
-    assert_stop(&rt, alloc, Stop::InUse, "folder: in use", 1);
-    let second = Stop::Jumped(1_704_153_601);
+    assert_stop(&rt, alloc, ServerStop::CannotOpen, "folder: cannot open", 1);
+    assert_stop(&rt, alloc, ServerStop::InUse, "folder: in use", 1);
+    let second = ServerStop::Jumped(1_704_153_601);
     assert_stop(
         &rt,
         alloc,
@@ -77,24 +77,42 @@ fn folders_and_clocks(rt: HostRuntime) {
         "clock: jumped to 2024-01-02T00:00:01Z",
         1,
     );
-    let late = Stop::Jumped(999_999_999_999);
+    let late = ServerStop::Jumped(999_999_999_999);
     assert_stop(&rt, alloc, late, "clock: jumped to 9998-12-31T23:59:59Z", 1);
 }
 
 #[test]
 fn journals(rt: HostRuntime) {
     let alloc = rt.alloc();
-    assert_stop(&rt, alloc, Stop::NotOurs, "journal: not of this program", 1);
-    assert_stop(&rt, alloc, Stop::OfVersion(2), "journal: of version 2", 1);
     assert_stop(
         &rt,
         alloc,
-        Stop::Damaged(975),
+        ServerStop::NotOurs,
+        "journal: not of this program",
+        1,
+    );
+    assert_stop(
+        &rt,
+        alloc,
+        ServerStop::OfVersion(2),
+        "journal: of version 2",
+        1,
+    );
+    assert_stop(
+        &rt,
+        alloc,
+        ServerStop::Damaged(975),
         "journal: damaged at byte 975",
         1,
     );
-    assert_stop(&rt, alloc, Stop::CannotWrite, "journal: cannot write", 1);
-    let failed = Stop::Performing(3, Fault::NoMemory);
+    assert_stop(
+        &rt,
+        alloc,
+        ServerStop::CannotWrite,
+        "journal: cannot write",
+        1,
+    );
+    let failed = ServerStop::Performing(3, Fault::NoMemory);
     let text = "journal: record 3: performing it fails: out of memory";
     assert_stop(&rt, alloc, failed, text, 1);
 }

@@ -1,8 +1,8 @@
 //! Parts of what a host keeps, in memory: a sink that has room for so many, and what restores them.
 use oai_catalogue::Versions;
 use oai_host::Host;
-use oai_http::{Part, PartKind, Sink, SinkFault};
 use oai_item::Fault;
+use oai_replay::{Part, PartKind, Sink, SinkFault};
 use std::alloc::{AllocError, Global};
 
 /// A part, in memory of its own.

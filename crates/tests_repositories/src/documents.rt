@@ -8,8 +8,8 @@ mod expected;
 
 use crate::assertions::{assert_same, assert_same_at};
 use oai_answers::{
-    Asked, Body, DeletedRecord, Doc, ErrorCode, Extent, Identity, Listed, Offered, Record,
-    Remaining, Resumption, write_document,
+    Body, DeletedRecord, Doc, ErrorCode, Extent, Identity, Listed, Offered, Record, Remaining,
+    RequestAttributes, Resumption, write_document,
 };
 use oai_item::{Field, Format, Formats, Item};
 use oai_names::{Identifier, Prefix, Sequence, SetSpec, Text};
@@ -38,7 +38,13 @@ fn assert_document(rt: &impl Abort, alloc: Global, doc: &Doc<'_>, wanted: &str)
 }
 
 /// The answer to the arguments, at the date and the base URL, is spelled so.
-fn assert_answer(rt: &impl Abort, alloc: Global, asked: Asked<'_>, body: Body<'_>, wanted: &str)
+fn assert_answer(
+    rt: &impl Abort,
+    alloc: Global,
+    asked: RequestAttributes<'_>,
+    body: Body<'_>,
+    wanted: &str,
+)
     requires { HasWritableTimes (body_answer body) }
 {
     let doc = Doc {
@@ -64,16 +70,20 @@ fn assert_escaped(rt: &impl Abort, alloc: Global, body: Body<'_>, wanted: &str)
 }
 
 /// The verb alone.
-fn verb(name: &str) -> Asked<'_> {
-    Asked {
+fn verb(name: &str) -> RequestAttributes<'_> {
+    RequestAttributes {
         verb: Some(name),
-        ..Asked::nothing()
+        ..RequestAttributes::nothing()
     }
 }
 
 /// An item, or all, in the format of that prefix.
-fn in_format<'a>(name: &'a str, identifier: Option<&'a str>, prefix: &'a str) -> Asked<'a> {
-    Asked {
+fn in_format<'a>(
+    name: &'a str,
+    identifier: Option<&'a str>,
+    prefix: &'a str,
+) -> RequestAttributes<'a> {
+    RequestAttributes {
         identifier,
         prefix: Some(prefix),
         ..verb(name)
@@ -81,8 +91,8 @@ fn in_format<'a>(name: &'a str, identifier: Option<&'a str>, prefix: &'a str) ->
 }
 
 /// All arguments, each of that text.
-fn all_of(text: &str) -> Asked<'_> {
-    Asked {
+fn all_of(text: &str) -> RequestAttributes<'_> {
+    RequestAttributes {
         verb: Some(text),
         identifier: Some(text),
         prefix: Some(text),
@@ -282,7 +292,7 @@ fn identify_transient(rt: HostRuntime) {
 /// All eight errors. All arguments were given; two of the errors repeat none.
 #[test]
 fn errors(rt: HostRuntime) {
-    let asked = Asked {
+    let asked = RequestAttributes {
         verb: Some("GetRecord"),
         identifier: Some("i"),
         prefix: Some("p"),
@@ -319,7 +329,7 @@ fn errors(rt: HostRuntime) {
 fn assert_formats(
     rt: &impl Abort,
     alloc: Global,
-    asked: Asked<'_>,
+    asked: RequestAttributes<'_>,
     of: Option<&Item>,
     wanted: &str,
 ) {
@@ -342,7 +352,7 @@ fn formats(rt: HostRuntime) {
 fn formats_of_an_item(rt: HostRuntime) {
     let alloc = rt.alloc();
     let item = dublin_core(&rt, alloc, &[]);
-    let asked = Asked {
+    let asked = RequestAttributes {
         identifier: Some("oai:a:1"),
         ..verb("ListMetadataFormats")
     };
@@ -519,7 +529,7 @@ fn last_headers(rt: HostRuntime) {
         granularity: Granularity::Second,
         resumption: Resumption::Last(at(2, 3)),
     };
-    let asked = Asked {
+    let asked = RequestAttributes {
         token: Some("1.2"),
         ..verb("ListIdentifiers")
     };
@@ -531,7 +541,7 @@ fn last_headers(rt: HostRuntime) {
 fn assert_records(
     rt: &impl Abort,
     alloc: Global,
-    asked: Asked<'_>,
+    asked: RequestAttributes<'_>,
     items: &[Item],
     resumption: Resumption<'_>,
     wanted: &str,
@@ -594,7 +604,7 @@ fn last_records(rt: HostRuntime) {
         alloc,
         &[("title", "T"), ("creator", "C"), ("title", "")],
     )];
-    let asked = Asked {
+    let asked = RequestAttributes {
         token: Some("1.100"),
         ..verb("ListRecords")
     };
@@ -666,7 +676,7 @@ fn front_of_the_buffer_stays(rt: HostRuntime) {
     let doc = Doc {
         date: DATE,
         base: BASE,
-        asked: Asked::nothing(),
+        asked: RequestAttributes::nothing(),
         body: Body::Error(ErrorCode::BadVerb),
     };
     let mut written = Vec::new(alloc);

@@ -3,7 +3,7 @@ use oai_device::{MemoryDevice, PageDevice};
 use oai_durable::{Journaled, Progress, recover, resume};
 use oai_host::{Config, Host};
 use oai_http::{Answer, Handler, Settled};
-use oai_journal::{FileJournal, Kind, Record, Recovery};
+use oai_journal::{FileJournal, Kind, LogRecord, Recovery};
 use oai_paged::{PagedVersions, VersionsOver};
 use oai_pool::Pool;
 use sqlite_disk::Memory;
@@ -38,12 +38,12 @@ pub(crate) type Archive<D> = Journaled<Pages<D>, FileJournal<Memory>>;
 struct Quiet;
 
 impl Progress for Quiet {
-    fn note(&mut self, _entry: &Record<'_>, _number: u64, _position: usize, _len: usize) {}
+    fn note(&mut self, _entry: &LogRecord<'_>, _number: u64, _position: usize, _len: usize) {}
 }
 
 /// The first record of a journal.
-fn first() -> Record<'static> {
-    Record {
+fn first() -> LogRecord<'static> {
+    LogRecord {
         moment: 1_704_067_200,
         kind: Kind::Journal,
         name: b"oaihostd",

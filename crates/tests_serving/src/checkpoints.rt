@@ -1,9 +1,9 @@
 //! Checkpoints: their bytes, and what is restored from them.
 use crate::shelves::Shelf;
 use oai_durable::{CheckpointFault, Progress, RecoverFault, checkpoint, recover};
-use oai_http::{Part, PartKind, SaveFault};
 use oai_item::Fault;
-use oai_journal::{FileJournal, JournalFault, Kind, Record, Recovery};
+use oai_journal::{FileJournal, JournalFault, Kind, LogRecord, Recovery};
+use oai_replay::{Part, PartKind, SaveFault};
 use sqlite_disk::{Disk, Fuse, Memory};
 use std::alloc::Global;
 use std::panic::Expect;
@@ -54,8 +54,8 @@ const WRITTEN: [&[u8]; 9] = [
 ];
 
 /// The first record of a journal.
-fn first() -> Record<'static> {
-    Record {
+fn first() -> LogRecord<'static> {
+    LogRecord {
         moment: 1_767_225_600,
         kind: Kind::Journal,
         name: b"oaihostd",
@@ -102,7 +102,7 @@ fn checkpoint_has_these_bytes(rt: HostRuntime) {
 struct Quiet;
 
 impl Progress for Quiet {
-    fn note(&mut self, _entry: &Record<'_>, _number: u64, _position: usize, _len: usize) {}
+    fn note(&mut self, _entry: &LogRecord<'_>, _number: u64, _position: usize, _len: usize) {}
 }
 
 /// The handler replays the journal that a crash left.

@@ -1,8 +1,7 @@
 //! A handler of a few parts, which keeps what it restores as bytes.
-use oai_http::{
-    Answer, Done, Exchange, Handler, Part, PartKind, Performed, Replayed, SaveFault, Sink, Status,
-};
+use oai_http::{Answer, Exchange, Handler, Status};
 use oai_item::Fault;
+use oai_replay::{Done, Part, PartKind, Performed, Replayed, SaveFault, Sink};
 use std::alloc::Global;
 
 /// A handler that saves these parts and then the fault, if there is one, and notes what it restores.
@@ -90,7 +89,7 @@ impl Replayed for Shelf<'_> {
 
     ghost reply = { λ kept call. answered NotFound };
 
-    fn perform<'a>(&mut self, moment: i64, exchange: &Exchange<'a>) -> Done<'a> {
+    fn exchange_recorded<'a>(&mut self, moment: i64, exchange: &Exchange<'a>) -> Done<'a> {
         Done {
             answer: self.exchange(moment, exchange),
             performed: None,

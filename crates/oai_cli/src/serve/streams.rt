@@ -2,7 +2,7 @@
 ghost use Rattle.std.specs.Prelude.{◌≡◌, ◌⊎◌, ◌+◌, ◌++◌, false, length, true, Err, Ok, IfErr, IfOk, OnOk};
 ghost use Rattle.std.specs.Io.KnownBytes.{Appends, IsAtEnd};
 ghost use Rattle.oai_front.specs.declared.faults.PieceFault.{PieceFault};
-ghost use Rattle.oai_cli.specs.Outputs.{IsPieceAnswered, StaysApart, IsForgotten, IsServed, AnswersPieces, IsUsed, OthersStay, is_taking, IsOpenedFault, IsReadOnFault};
+ghost use Rattle.oai_cli.specs.Outputs.{IsPieceAnswered, StaysApart, IsForgotten, IsConnectionServed, AnswersPieces, IsUsed, OthersStay, is_taking, IsOpenedFault, IsReadOnFault};
 ghost use Rattle.oai_cli.specs.declared.serve.streams.StreamFault.TheVariants as fault;
 ghost use Rattle.oai_startup.specs.declared.limits.TheConstants.{READ_BYTES};
 
@@ -52,7 +52,7 @@ pub fn serve_stream<H: Handler, S: Read + Write, C: Clock>(
     ensures others { OthersStay (front.old.last + 1) front.old front.new }
     ensures limit { front.new.limit ≡ front.old.limit }
     ensures used { IsUsed H.step front.old front.new }
-    ensures served { OnOk result (IsServed H.step front.old front.new
+    ensures served { OnOk result (IsConnectionServed H.step front.old front.new
         (IsAtEnd (S.Read.remaining stream.new))) }
 {
     match front.open() {

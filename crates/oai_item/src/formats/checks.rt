@@ -1,7 +1,7 @@
 ghost use Rattle.std.specs.Prelude.{◌≡◌, IfOk};
 ghost use Rattle.std.specs.List.{list_all, list_any};
 ghost use Rattle.oai_item.specs.Declaring.{IsCheck, has_room};
-ghost use Rattle.oai_item.specs.Rules.{are_names, are_uris, has_repeat, is_element_name, is_first_byte, is_name, is_name_byte, is_space, is_uri};
+ghost use Rattle.oai_item.specs.Rules.{are_names, are_uris, has_repeat, is_element_name, is_element_name_byte, is_first_byte, is_name, is_space, is_uri};
 
 use super::{Format, FormatFault, format_named};
 use crate::short_texts::is_short_text;
@@ -82,13 +82,13 @@ fn is_first_byte(b: u8) -> bool
 }
 
 fn all_name_bytes(bytes: &[u8]) -> bool
-    ensures { result ≡ list_all is_name_byte bytes.now }
+    ensures { result ≡ list_all is_element_name_byte bytes.now }
 {
     bytes.iter().all(|b| is_name_byte(*b))
 }
 
 fn is_name_byte(b: u8) -> bool
-    ensures { result ≡ is_name_byte b }
+    ensures { result ≡ is_element_name_byte b }
 {
     b.is_ascii_alphanumeric() || b"-_.".contains(&b)
 }
@@ -118,7 +118,7 @@ fn has_space(text: &str) -> bool
 fn is_space(b: u8) -> bool
     ensures { result ≡ is_space b }
 {
-    matches!(b, b' ' | b'\t' | b'\n' | b'\r')
+    matches!(b, b' ' | b'\t' | b'\r' | b'\n')
 }
 
 /// Whether a text occurs twice. The error is out of memory.

@@ -6,7 +6,7 @@ ghost use Rattle.oai_time.specs.Bound.{IsWritableBound};
 ghost use Rattle.oai_settings.specs.Config as rule;
 ghost use Rattle.oai_settings.specs.Settings as spec;
 ghost use Rattle.oai_settings.specs.SettingsWork.{AreDeclared, AreLimits, IsLimit};
-ghost use Rattle.oai_settings.specs.SettingsWork.{IsDeclared, IsFormatOf, IsMade, IsPrefixOf};
+ghost use Rattle.oai_settings.specs.SettingsWork.{IsAssembled, IsDeclared, IsFormatOf, IsPrefixOf};
 
 use crate::settings::{ConfigFault, FormatSettings, Settings, has_shape, is_repository_name};
 use oai_item::{Format, FormatFault, Formats};
@@ -56,7 +56,7 @@ pub(super) struct Made {
 /// formats are taken out for it. The errors are those of `RepoConfig::new`.
 #[tactic(auto, unfolding(crate::specs::Settings::config_fault))]
 pub(super) fn made_of(alloc: Global, settings: &mut Settings) -> Result<Made, ConfigFault>
-    ensures made { IsMade settings.old result }
+    ensures made { IsAssembled settings.old result }
     ensures rest { IfOk result (λ _. settings.new ≡ record settings.old { base = []; formats = [] }) }
 {
     if !has_shape(settings) {

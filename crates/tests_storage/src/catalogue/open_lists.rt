@@ -1,7 +1,7 @@
 //! The texts of resumption tokens, and the table of the lists that are open.
 use crate::assertions::{assert_same, assert_shown};
 use oai_catalogue::Filter;
-use oai_lists::{LAST_NUMBER, Lists, Mark, OpenFault, OpenList, Token};
+use oai_lists::{LAST_NUMBER, Lists, Mark, OpenList, OpenListFault, Token};
 use oai_names::{Identifier, ListVerb, Prefix};
 use std::alloc::Global;
 use std::panic::Expect;
@@ -15,7 +15,7 @@ fn assert_opened(
     now: i64,
     end: i64,
     version: u64,
-    answer: Result<u64, OpenFault>,
+    answer: Result<u64, OpenListFault>,
 ) {
     let filter = Filter::new(
         Prefix::read(alloc, "oai_dc").expect(rt, "Prefix::read"),
@@ -106,8 +106,8 @@ fn empty_list_is_opened(rt: HostRuntime) {
 fn assert_one_list(rt: &impl Abort, alloc: Global, lists: &mut Lists) {
     assert_same(rt, (lists.earliest_end(0), lists.next(0)), (None, Ok(1)));
     assert_opened(rt, alloc, lists, 0, 60, 7, Ok(1));
-    assert_same(rt, lists.next(59), Err(OpenFault::Full));
-    assert_opened(rt, alloc, lists, 59, 119, 8, Err(OpenFault::Full));
+    assert_same(rt, lists.next(59), Err(OpenListFault::Full));
+    assert_opened(rt, alloc, lists, 59, 119, 8, Err(OpenListFault::Full));
 }
 
 /// The list is found below its end alone, and its end is moved.
@@ -142,7 +142,7 @@ fn a_table_of_one_list(rt: HostRuntime) {
 #[test]
 fn the_last_number(rt: HostRuntime) {
     let alloc = rt.alloc();
-    let spent = Err(OpenFault::NumbersSpent);
+    let spent = Err(OpenListFault::NumbersSpent);
     let mut lists = Lists::new(alloc, 1, LAST_NUMBER);
     assert_same(&rt, lists.next(0), spent);
     assert_opened(&rt, alloc, &mut lists, 0, 60, 1, spent);
@@ -154,7 +154,7 @@ fn the_number_before_the_last(rt: HostRuntime) {
     let last = 18_446_744_073_709_551_614;
     let mut lists = Lists::new(alloc, 2, last);
     assert_opened(&rt, alloc, &mut lists, 0, 60, 1, Ok(last));
-    let spent = Err(OpenFault::NumbersSpent);
+    let spent = Err(OpenListFault::NumbersSpent);
     assert_opened(&rt, alloc, &mut lists, 0, 60, 2, spent);
 }
 
@@ -253,20 +253,20 @@ fn cursors_given_and_marks(rt: HostRuntime) {
     assert_marked(&rt, rt.alloc(), &mut lists);
 }
 
-fn text_of(fault: OpenFault) -> &'static str {
+fn text_of(fault: OpenListFault) -> &'static str {
     match fault {
-        OpenFault::Full => "too many lists are open",
-        OpenFault::NumbersSpent => "no number is left for a list",
-        OpenFault::NoMemory => "out of memory",
+        OpenListFault::Full => "too many lists are open",
+        OpenListFault::NumbersSpent => "no number is left for a list",
+        OpenListFault::NoMemory => "out of memory",
     }
 }
 
 #[test]
 fn texts_of_faults(rt: HostRuntime) {
     for fault in [
-        OpenFault::Full,
-        OpenFault::NumbersSpent,
-        OpenFault::NoMemory,
+        OpenListFault::Full,
+        OpenListFault::NumbersSpent,
+        OpenListFault::NoMemory,
     ] {
         assert_shown(&rt, rt.alloc(), fault, text_of(fault));
     }

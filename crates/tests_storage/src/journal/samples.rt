@@ -1,5 +1,5 @@
 //! Journals for tests, and what is read of them.
-use oai_journal::{FileJournal, Journal, Kind, Record, Recovery, RecoveryFault};
+use oai_journal::{FileJournal, Journal, Kind, LogRecord, Recovery, RecoveryFault};
 use sqlite_disk::{Disk, Memory};
 use std::alloc::Global;
 use std::panic::Expect;
@@ -53,8 +53,8 @@ fn failed(records: u64, cause: RecoveryFault) -> Found {
 }
 
 /// The first record of the example.
-pub fn first() -> Record<'static> {
-    Record {
+pub fn first() -> LogRecord<'static> {
+    LogRecord {
         moment: 1_767_225_600,
         kind: Kind::Journal,
         name: b"oaihostd",
@@ -63,8 +63,8 @@ pub fn first() -> Record<'static> {
 }
 
 /// A tick of repository `a`.
-pub fn tick(moment: i64) -> Record<'static> {
-    Record {
+pub fn tick(moment: i64) -> LogRecord<'static> {
+    LogRecord {
         moment,
         kind: Kind::Tick,
         name: b"a",
@@ -73,8 +73,8 @@ pub fn tick(moment: i64) -> Record<'static> {
 }
 
 /// The deposit of the example.
-pub fn deposit() -> Record<'static> {
-    Record {
+pub fn deposit() -> LogRecord<'static> {
+    LogRecord {
         moment: 1_767_225_601,
         kind: Kind::Deposit,
         name: b"a",
@@ -83,8 +83,8 @@ pub fn deposit() -> Record<'static> {
 }
 
 /// The request of the example.
-pub fn request() -> Record<'static> {
-    Record {
+pub fn request() -> LogRecord<'static> {
+    LogRecord {
         moment: 1_767_225_602,
         kind: Kind::Oai,
         name: b"b",
@@ -93,7 +93,7 @@ pub fn request() -> Record<'static> {
 }
 
 /// Adds a record.
-pub fn add<J: Journal>(rt: &impl Abort, journal: &mut J, entry: &Record<'_>) {
+pub fn add<J: Journal>(rt: &impl Abort, journal: &mut J, entry: &LogRecord<'_>) {
     assert!(rt; entry.is_fit());
     assert!(rt; !entry.kind.is_first());
     journal.reserve(entry.body.len()).expect(rt, "reserve");

@@ -3,7 +3,7 @@ use Rattle.std.proofs.Common.{◌≡◌, ◌∙◌, true, inl, Ok, refl, rules}
 use Rattle.std.proofs.lemmas.Result.{err_from_is_err_and}
 use Rattle.std.specs.Io.KnownBytes.{Appends}
 use Rattle.oai_cli.specs.Inputs.{IsNextLine, left, numbered}
-use Rattle.oai_cli.specs.Asked.{AreEnded}
+use Rattle.oai_cli.specs.Asked.{AreDoneAndCounted}
 use Rattle.oai_cli.proofs.AskedLemmas.{asked_none, asked_stopped, asked_unread, ended_none}
 use Rattle.oai_cli.proofs.ReadLemmas.{read_more, read_none}
 use Rattle.oai_startup.specs.declared.stop.Stop.TheVariants.{InputFault}
@@ -13,7 +13,7 @@ pub loop-init : goal.loop-init
 loop-init g c =
     let written = g.W.Write.contents c.args.writer.now in
     rw c.in_ok-lines.ensures.begun
-    (read_none (g.R.Read.remaining c.args.reader.now) (AreEnded c.args.host.now c.args.host.now 0 (Appends written written)) (ended_none c.args.host.now written))
+    (read_none (g.R.Read.remaining c.args.reader.now) (AreDoneAndCounted c.args.host.now c.args.host.now 0 (Appends written written)) (ended_none c.args.host.now written))
 
 pub returns-in_err-ask_line-clause-asked : goal.returns-in_err-ask_line-clause-asked
 returns-in_err-ask_line-clause-asked g c =
@@ -36,8 +36,8 @@ loop-preserved g c =
     let counted : c.number.result ≡ numbered true c.loop.lines.number = c.number.ensures ∙ rw some at c.in_ok-next.ensures.number in
     rw (c.number.ensures) at
     (read_more (g.R.Read.remaining c.args.reader.now) _ _ c.line.result.now
-    (AreEnded c.args.host.now c.loop.host c.loop.lines.number (Appends from (g.W.Write.contents c.loop.writer)))
-    (AreEnded c.args.host.now c.ask_line.new.host c.number.result (Appends from (g.W.Write.contents c.ask_line.new.writer)))
+    (AreDoneAndCounted c.args.host.now c.loop.host c.loop.lines.number (Appends from (g.W.Write.contents c.loop.writer)))
+    (AreDoneAndCounted c.args.host.now c.ask_line.new.host c.number.result (Appends from (g.W.Write.contents c.ask_line.new.writer)))
     next (λ front ended. c.in_ok-ask_line.ensures.done c.args.host.now from front c.loop.lines.number counted ended) c.loop.invariant)
 
 pub returns-in_err-lines-clause-asked : goal.returns-in_err-lines-clause-asked

@@ -1,7 +1,8 @@
 use Rattle.std.proofs.Common.{ℕ, List, Bor, ◌<◌, length, arith}
 use Rattle.oai_names.specs.Optional.{tested}
 use Rattle.oai_names.specs.Sets.{may_be_set_spec}
-use Rattle.oai_deposit.proofs.ReadingLemmas.{next_read, passed_is_tested}
+use Rattle.oai_json.proofs.ReadingLemmas.{next_read}
+use Rattle.oai_deposit.proofs.ReadingLemmas.{passed_is_tested}
 use Rattle.oai_deposit.proofs.lines.each_set_spec.Goals as goal
 
 pub loop-text-preserved : goal.loop-text-preserved

@@ -3,8 +3,8 @@ use Rattle.std.proofs.Common.{◌≡◌, String, Global, Some, map, string_bytes
 use Rattle.serde_json.specs.declared.value.Value.{Value}
 use Rattle.oai_names.specs.Optional.{each_of}
 use Rattle.oai_deposit.specs.Lines.{record_of}
-use Rattle.oai_deposit.proofs.JsonLemmas.{seen}
-use Rattle.oai_deposit.proofs.ReadingLemmas.{with_front, goes_on, is_done}
+use Rattle.oai_json.proofs.JsonLemmas.{seen}
+use Rattle.oai_json.proofs.ReadingLemmas.{with_front, goes_on, is_done}
 use Rattle.oai_deposit.proofs.RecordLemmas.{record_of-Some, rising}
 use Rattle.oai_deposit.proofs.records.records_in.Goals as goal
 

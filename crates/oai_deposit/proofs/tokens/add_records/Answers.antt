@@ -1,7 +1,8 @@
 use Rattle.std.proofs.Common.{◌≡◌, ◌∷◌, [], ◌++◌, true, rules}
 use Rattle.oai_item.specs.Item.{Metadata}
 use Rattle.oai_deposit.specs.Tokens.{record_tokens, may_follow}
-use Rattle.oai_deposit.proofs.TokenLemmas.{one_more, rising_more}
+use Rattle.oai_json.proofs.TokenLemmas.{one_more}
+use Rattle.oai_deposit.proofs.TokenLemmas.{rising_more}
 use Rattle.oai_deposit.proofs.tokens.add_records.Goals as goal
 
 pub loop-prefix-preserved : goal.loop-prefix-preserved

@@ -24,15 +24,15 @@ pub returns-then-head-clause-left : goal.returns-then-head-clause-left
 returns-then-head-clause-left g c =
     let fits : FitsSigned w64 c.args.moment = c.ranges.moment in
     let stands = rw c.in-Message.is at c.next_in.ensures in
-    sofar_last g.H.Handler.step c.args.moment c.args.handler.now c.messages.handler c.perform.new.handler c.args.bytes.now _ _ _ c.messages.rest.now c.messages.known c.in-Message.head
-    (asked_by c.exchange_of-exchange.result) (simp to_z-of_z at c.messages.invariant.sofar) stands.0 stands.1 c.if-head.true c.exchange_of-exchange.ensures.asked (simp to_z-of_z at c.in-Ok-perform.ensures.ok)
+    sofar_last g.H.Handler.step c.args.moment c.args.handler.now c.messages.handler c.perform_message.new.handler c.args.bytes.now _ _ _ c.messages.rest.now c.messages.known c.in-Message.head
+    (asked_by c.exchange_of-exchange.result) (simp to_z-of_z at c.messages.invariant.sofar) stands.0 stands.1 c.if-head.true c.exchange_of-exchange.ensures.asked (simp to_z-of_z at c.in-Ok-perform_message.ensures.ok)
 
-pub returns-in-Err-perform-clause-left : goal.returns-in-Err-perform-clause-left
-returns-in-Err-perform-clause-left g c =
+pub returns-in-Err-perform_message-clause-left : goal.returns-in-Err-perform_message-clause-left
+returns-in-Err-perform_message-clause-left g c =
     let fits : FitsSigned w64 c.args.moment = c.ranges.moment in
     let stands = rw c.in-Message.is at c.next_in.ensures in
-    let same = c.in-Err-perform.ensures.err in
-    sofar_refused g.H.Handler.step c.args.moment c.args.handler.now c.messages.handler c.perform.new.handler c.args.bytes.now _ _ _ c.messages.rest.now c.messages.known c.in-Message.head
+    let same = c.in-Err-perform_message.ensures.err in
+    sofar_refused g.H.Handler.step c.args.moment c.args.handler.now c.messages.handler c.perform_message.new.handler c.args.bytes.now _ _ _ c.messages.rest.now c.messages.known c.in-Message.head
     (simp to_z-of_z at c.messages.invariant.sofar) stands.0 stands.1 same.0 (ap (λ (buffers : List (List ℕ)). concat buffers) same.1)
 
 pub returns-in-Err-clause-left : goal.returns-in-Err-clause-left
@@ -51,10 +51,10 @@ messages-preserved g c =
     let fits : FitsSigned w64 c.args.moment = c.ranges.moment in
     let stands = rw c.in-Message.is at c.next_in.ensures in
     record {
-      sofar = simp to_z-of_z (rw c.after-rest.ensures (sofar_more g.H.Handler.step c.args.moment c.args.handler.now c.messages.handler c.perform.new.handler c.args.bytes.now _ _ _ c.messages.rest.now c.messages.known c.in-Message.head
-          (asked_by c.exchange_of-exchange.result) (simp to_z-of_z at c.messages.invariant.sofar) stands.0 stands.1 c.if-head.false c.exchange_of-exchange.ensures.asked (simp to_z-of_z at c.in-Ok-perform.ensures.ok)));
-      filled = c.perform.ensures.filled;
-      taken = λ taken t. c.perform.ensures.taken taken (c.messages.invariant.taken taken t);
+      sofar = simp to_z-of_z (rw c.after-rest.ensures (sofar_more g.H.Handler.step c.args.moment c.args.handler.now c.messages.handler c.perform_message.new.handler c.args.bytes.now _ _ _ c.messages.rest.now c.messages.known c.in-Message.head
+          (asked_by c.exchange_of-exchange.result) (simp to_z-of_z at c.messages.invariant.sofar) stands.0 stands.1 c.if-head.false c.exchange_of-exchange.ensures.asked (simp to_z-of_z at c.in-Ok-perform_message.ensures.ok)));
+      filled = c.perform_message.ensures.filled;
+      taken = λ taken t. c.perform_message.ensures.taken taken (c.messages.invariant.taken taken t);
     }
 
 pub returns-in-Ok-clause-taken : goal.returns-in-Ok-clause-taken
@@ -63,8 +63,8 @@ returns-in-Ok-clause-taken g c = λ taken t. c.put_fault.ensures.taken taken (c.
 pub returns-in-Err-clause-taken : goal.returns-in-Err-clause-taken
 returns-in-Err-clause-taken g c = λ taken t. c.put_fault.ensures.taken taken (c.messages.invariant.taken taken t)
 
-pub returns-in-Err-perform-clause-taken : goal.returns-in-Err-perform-clause-taken
-returns-in-Err-perform-clause-taken g c = λ taken t. c.perform.ensures.taken taken (c.messages.invariant.taken taken t)
+pub returns-in-Err-perform_message-clause-taken : goal.returns-in-Err-perform_message-clause-taken
+returns-in-Err-perform_message-clause-taken g c = λ taken t. c.perform_message.ensures.taken taken (c.messages.invariant.taken taken t)
 
 pub returns-then-head-clause-taken : goal.returns-then-head-clause-taken
-returns-then-head-clause-taken g c = λ taken t. c.perform.ensures.taken taken (c.messages.invariant.taken taken t)
+returns-then-head-clause-taken g c = λ taken t. c.perform_message.ensures.taken taken (c.messages.invariant.taken taken t)

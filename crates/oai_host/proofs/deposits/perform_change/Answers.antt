@@ -4,7 +4,7 @@ use Rattle.std.proofs.lemmas.Int.{to_z-of_z}
 use Rattle.oai_time.specs.TimeTexts.{datestamp_text}
 use Rattle.oai_item.specs.Refusals.{in_repository, refusal_line}
 use Rattle.oai_item.specs.declared.refusals.Refusal.TheVariants as refusal
-use Rattle.oai_settings.specs.Config.{Config}
+use Rattle.oai_settings.specs.Config.{RepositoryConfig}
 use Rattle.oai_repo.specs.Fields.{state_of}
 use Rattle.oai_repo.specs.Machine.{accepted, refused_with, outcome_output}
 use Rattle.oai_host.proofs.DepositLemmas.{accepted_line, refused_line, told_line}
@@ -25,7 +25,7 @@ returns-in-Ok g c =
     let config = c.change.ensures.keeps.config in
     let clock = rw c.in-Ok.is at (simp to_z-of_z at c.change.ensures.clock) in
     let made = rw c.in-Ok.is at (simp to_z-of_z at c.change.ensures.accepted) in
-    let granularity : c.granularity.result ≡ old.config.granularity = c.granularity.ensures ∙ ap (λ (config : Config). config.granularity) (c.config.ensures ∙ config) in
+    let granularity : c.granularity.result ≡ old.config.granularity = c.granularity.ensures ∙ ap (λ (config : RepositoryConfig). config.granularity) (c.config.ensures ∙ config) in
     let text : List ℕ = (codes "ok " ++ datestamp_text old.config.granularity c.in-Ok.stamp) ++ 10 ∷ [] in record {
       ok = record {
         text = text;

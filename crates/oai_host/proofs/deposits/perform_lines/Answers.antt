@@ -4,7 +4,7 @@ use Rattle.std.proofs.lemmas.Int.{to_z-of_z}
 use Rattle.oai_catalogue.specs.Store.{NeedsRoom}
 use Rattle.oai_deposit.specs.Lines.{line_of}
 use Rattle.oai_repo.specs.Fields.{Keeps, state_of}
-use Rattle.oai_settings.specs.Config.{Config}
+use Rattle.oai_settings.specs.Config.{RepositoryConfig}
 use Rattle.oai_host.specs.Bodies.{lines_in}
 use Rattle.oai_host.specs.Performed.{IsLinePerformed}
 use Rattle.oai_host.specs.Room.{room_for_line}
@@ -35,7 +35,7 @@ loop-text-preserved g c =
       room =
           let need = rw c.in-Ok.is at c.perform_line.ensures.store.room in
           let used : V.room c.loop-text.store ≤ V.room c.perform_line.new.store + room_for_line old.config (line_of c.in-Some.text.now) =
-          subst (λ (config : Config). V.room c.loop-text.store ≤ V.room c.perform_line.new.store + room_for_line config (line_of c.in-Some.text.now)) c.loop-text.invariant.lines.kept.config need.used
+          subst (λ (config : RepositoryConfig). V.room c.loop-text.store ≤ V.room c.perform_line.new.store + room_for_line config (line_of c.in-Some.text.now)) c.loop-text.invariant.lines.kept.config need.used
           in
           room_on old.config c.in-Some.text.now c.next.new.self (lines_in c.args.body.now) (V.room c.args.store.now) (V.room c.loop-text.store) (V.room c.perform_line.new.store)
           (rw next at c.loop-text.invariant.room) used;
@@ -56,7 +56,7 @@ returns-in-Err g c =
     let kept = subst (λ (honest : Bool). Keeps honest mid (V.lists c.loop-text.store) c.perform_line.new.repo (V.lists c.perform_line.new.store)) same c.perform_line.ensures.kept in
     let line = rw c.in-Err.is at c.perform_line.ensures.store in
     let need : NeedsRoom {A = Unit {0}} (room_for_line old.config (line_of c.in-Some.text.now)) (Err c.in-Err.fault) (V.room c.loop-text.store) (V.room c.perform_line.new.store) =
-    subst (λ (config : Config). NeedsRoom {A = Unit {0}} (room_for_line config (line_of c.in-Some.text.now)) (Err c.in-Err.fault) (V.room c.loop-text.store) (V.room c.perform_line.new.store)) so_far.kept.config line.room
+    subst (λ (config : RepositoryConfig). NeedsRoom {A = Unit {0}} (room_for_line config (line_of c.in-Some.text.now)) (Err c.in-Err.fault) (V.room c.loop-text.store) (V.room c.perform_line.new.store)) so_far.kept.config line.room
     in
     let told = fault_told c.in-Err.fault (Some c.loop-text.done) in record {
       performed = rw c.of_fault.ensures (record {

@@ -3,7 +3,7 @@ use Rattle.std.proofs.Common.{◌≡◌, ◌∙◌, List, ℕ, ap, of_z, rules, 
 use Rattle.std.proofs.lemmas.Int.{to_z-of_z}
 use Rattle.oai_item.specs.Encoding.{Spells}
 use Rattle.oai_repo.specs.Saved.{has_item}
-use Rattle.oai_http.specs.Parts.{as_part}
+use Rattle.oai_replay.specs.Parts.{as_part}
 use Rattle.oai_host.proofs.RestoreLemmas.{restores_part}
 use Rattle.oai_host.proofs.SavedLemmas.{read_as}
 use Rattle.oai_host.proofs.restores.restore_item.Goals as goal

@@ -1,7 +1,7 @@
 -- A set that was read is spelled so.
 use Rattle.std.proofs.Common.{◌≡◌, ◌∙◌, ◌++◌, ◌∷◌, List, ℕ, refl, sym, ap}
 use Rattle.oai_repo.specs.Saved.{has_named_set}
-use Rattle.oai_http.specs.Parts.{as_part}
+use Rattle.oai_replay.specs.Parts.{as_part}
 use Rattle.oai_host.proofs.RestoreLemmas.{restores_part}
 use Rattle.oai_host.proofs.SavedLemmas.{read_as}
 use Rattle.oai_host.proofs.restores.restore_set.Goals as goal

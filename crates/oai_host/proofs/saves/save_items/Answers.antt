@@ -1,10 +1,11 @@
 -- Each piece begins behind the last item of the one before.
 use Rattle.std.proofs.Common.{◌≡◌, ◌∙◌, ◌+◌, ◌≤◌, ◌<◌, ℕ, IsTrue, List, Option, ap, ap₂, arith, drop, length, map, refl, subst, sym, take}
 use Rattle.oai_item.specs.Item.{ItemState}
-use Rattle.oai_catalogue.specs.Store.{Lists}
-use Rattle.oai_settings.specs.Config.{Config}
-use Rattle.oai_repo.specs.Fields.{stored_items}
-use Rattle.oai_repo.specs.Saved.{has_item, items_behind}
+use Rattle.oai_catalogue.specs.Store.{VersionLists}
+use Rattle.oai_settings.specs.Config.{RepositoryConfig}
+use Rattle.oai_holdings.specs.Index.{stored_items}
+use Rattle.oai_holdings.specs.Saved.{items_behind}
+use Rattle.oai_repo.specs.Saved.{has_item}
 use Rattle.oai_host.specs.Saving.{TakesParts}
 use Rattle.oai_host.proofs.PieceLemmas.{next_start, piece_behind, piece_taken, pieces_end}
 use Rattle.oai_host.proofs.SavedLemmas.{parts_none}
@@ -12,7 +13,7 @@ use Rattle.oai_host.proofs.saves.save_items.Goals as goal
 
 pub loop-start-init : goal.loop-start-init
 loop-start-init g c = record {
-  most = c.items-most.ensures.items ∙ ap (λ (config : Config). config.items) c.config.ensures;
+  most = c.items-most.ensures.items ∙ ap (λ (config : RepositoryConfig). config.items) c.config.ensures;
   start = omega arith;
   same = refl;
   honesty = refl;
@@ -38,7 +39,7 @@ loop-start-preserved g c =
     let read : IsTrue (V.honest c.args.store.now) → piece ≡ take some (drop at.start items) =
     λ honest.
     c.in-Ok.ensures.items (at.invariant.honesty ∙ honest)
-    ∙ ap₂ (λ (last : Option ItemState) (lists : Lists). take some (items_behind last (stored_items repo.index lists))) c.as_ref.ensures.value at.invariant.same
+    ∙ ap₂ (λ (last : Option ItemState) (lists : VersionLists). take some (items_behind last (stored_items repo.index lists))) c.as_ref.ensures.value at.invariant.same
     ∙ ap (take some) (at.invariant.behind honest c.loop-start-test.true)
     in
     record {

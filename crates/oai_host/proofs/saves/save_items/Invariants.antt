@@ -1,7 +1,8 @@
 -- the first items were handed over, and those that stand behind the last one of them are the others
 use Rattle.std.proofs.Common.{◌≡◌, ◌≤◌, ◌-◌, ◌<◌, IsTrue, drop, map, take}
-use Rattle.oai_repo.specs.Fields.{stored_items}
-use Rattle.oai_repo.specs.Saved.{has_item, items_behind}
+use Rattle.oai_holdings.specs.Index.{stored_items}
+use Rattle.oai_holdings.specs.Saved.{items_behind}
+use Rattle.oai_repo.specs.Saved.{has_item}
 use Rattle.oai_host.specs.Saving.{TakesParts}
 use Rattle.oai_host.proofs.saves.save_items.Given as goal
 

@@ -3,7 +3,7 @@ use Rattle.std.proofs.Common.{◌≡◌, ◌∙◌, ◌<◌, ◌≤◌, ℤ, Lis
 use Rattle.std.proofs.SliceLists.{take_long}
 use Rattle.std.proofs.lemmas.Int.{to_z-of_z}
 use Rattle.oai_repo.specs.Saved.{has_named_set}
-use Rattle.oai_repo.specs.State.{NamedSet}
+use Rattle.oai_holdings.specs.Holdings.{NamedSet}
 use Rattle.oai_host.specs.Saving.{TakesParts}
 use Rattle.oai_host.proofs.PieceLemmas.{parts_more}
 use Rattle.oai_host.proofs.SavedLemmas.{parts_none}

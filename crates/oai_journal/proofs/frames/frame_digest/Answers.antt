@@ -14,12 +14,12 @@ unfolding spec.frame plain
 returns-then-is_joined-clause-spelled c =
     let e = as_entry c.args.entry.now in
     let front : c.deref.result.now ≡ spec.frame_front c.args.before e = front_is _ _ _ _ c.clear.ensures.items c.write_front-digest.ensures.items c.deref.ensures.value in
-    (c.is_joined.ensures.0 c.if-is_joined.true ∙ ap (λ (l : List ℕ). l ++ (e.body ++ spec.line_end)) front, c.write_front-digest.ensures.digest)
+    (c.is_joined.ensures.0 c.if-is_joined.true ∙ ap (λ (l : List ℕ). l ++ (e.body ++ spec.plain_line_end)) front, c.write_front-digest.ensures.digest)
 
 pub returns-else-is_joined-clause-spelled : goal.returns-else-is_joined-clause-spelled
 unfolding spec.frame plain
 returns-else-is_joined-clause-spelled c is =
     let e = as_entry c.args.entry.now in
     let front : c.deref.result.now ≡ spec.frame_front c.args.before e = front_is _ _ _ _ c.clear.ensures.items c.write_front-digest.ensures.items c.deref.ensures.value in
-    let yes : IsTrue c.is_joined.result = c.is_joined.ensures.1 (is ∙ ap (λ (l : List ℕ). l ++ (e.body ++ spec.line_end)) (sym front)) in
+    let yes : IsTrue c.is_joined.result = c.is_joined.ensures.1 (is ∙ ap (λ (l : List ℕ). l ++ (e.body ++ spec.plain_line_end)) (sym front)) in
     false≢true (sym c.if-is_joined.false ∙ yes)

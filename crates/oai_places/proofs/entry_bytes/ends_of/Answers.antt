@@ -1,6 +1,6 @@
 use Rattle.std.proofs.Common.{◌≡◌, ◌∙◌, ◌+◌, ◌≤◌, ℕ, List, ap, drop, length, subst, sym}
 use Rattle.std.proofs.lemmas.List.{take_rest}
-use Rattle.oai_pool.specs.Kinds.{number_in, spells_item}
+use Rattle.oai_pool.specs.Kinds.{leading_number, spells_item}
 use Rattle.oai_places.specs.Entries.{HasEntry}
 use Rattle.oai_places.proofs.ReadLemmas.{size_within}
 use Rattle.oai_places.proofs.TestedLemmas.{AreKnown, more_known, next_known, none_known}
@@ -28,6 +28,6 @@ loop-preserved c =
     let len : ℕ = c.spelled_len-end.result in
     let rest = take_rest bytes c.loop.end in
     let entry : HasEntry (drop c.loop.end bytes) len = subst (λ (bs : List ℕ). HasEntry bs len) rest c.spelled_len-end.ensures.entry in
-    let is : len ≡ 4 + number_in (drop c.loop.end bytes) = c.spelled_len-end.ensures.behind ∙ ap (λ (bs : List ℕ). 4 + number_in bs) rest in
+    let is : len ≡ 4 + leading_number (drop c.loop.end bytes) = c.spelled_len-end.ensures.behind ∙ ap (λ (bs : List ℕ). 4 + leading_number bs) rest in
     subst (λ (ends : List ℕ). AreKnown bytes ends c.args.count (c.loop.counter + 1) (c.loop.end + len)) (sym c.in_ok-push_end.ensures)
     (more_known bytes c.loop.ends.items c.args.count c.loop.counter c.loop.end len c.loop.invariant c.loop-test.true entry is)

@@ -2,7 +2,7 @@
 use Rattle.std.proofs.Common.{◌≡◌, ◌∙◌, ℤ, Err, refl, sym, ap, FitsSigned, w64}
 use Rattle.std.proofs.lemmas.Int.{to_z-of_z}
 use Rattle.oai_lists.specs.OpenLists.{number_or_fault, open_fault}
-use Rattle.oai_lists.specs.declared.lists.OpenFault.TheVariants.{Full, NumbersSpent}
+use Rattle.oai_lists.specs.declared.lists.OpenListFault.TheVariants.{Full, NumbersSpent}
 use Rattle.oai_repo.specs.declared.responses.Reply.TheVariants.{Later}
 use Rattle.oai_repo.proofs.ClockLemmas.{years_fit}
 use Rattle.oai_repo.proofs.WaitLemmas.{may_begin, waits_full, waits_spent}

@@ -5,7 +5,7 @@ use Rattle.oai_item.specs.Item.{ItemState}
 use Rattle.oai_repo.specs.Views.{IsViewReply, view_new_list, view_open_lists, view_selected, view_selection_response, view_wait}
 use Rattle.oai_repo.specs.declared.responses.Replied.{Replied}
 use Rattle.oai_repo.specs.declared.responses.Replay.TheVariants.{Tick}
-use Rattle.oai_repo.proofs.IndexLemmas.{if_ok}
+use Rattle.oai_holdings.proofs.IndexLemmas.{if_ok}
 use Rattle.oai_repo.proofs.ListReplyLemmas.{many_first, reply_as, selection_opens, selection_whole}
 use Rattle.oai_repo.proofs.ReplayLemmas.{part_complete}
 use Rattle.oai_repo.proofs.lists.reply_by_first.Goals as goal

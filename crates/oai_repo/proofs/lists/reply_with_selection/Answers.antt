@@ -3,7 +3,7 @@ use Rattle.std.proofs.Common.{◌∙◌, IsTrue}
 use Rattle.oai_repo.specs.Views.{IsViewReply, view_selection_response}
 use Rattle.oai_repo.specs.Replays.{AreAsBefore}
 use Rattle.oai_repo.specs.declared.responses.Replied.{Replied}
-use Rattle.oai_repo.proofs.IndexLemmas.{if_ok}
+use Rattle.oai_holdings.proofs.IndexLemmas.{if_ok}
 use Rattle.oai_repo.proofs.ReplayLemmas.{as_before_read}
 use Rattle.oai_repo.proofs.lists.reply_with_selection.Goals as goal
 

@@ -3,12 +3,12 @@ use Rattle.std.proofs.Common.{◌≡◌, ◌∙◌, ◌<◌, ◌≤◌, List, So
 use Rattle.std.proofs.lemmas.Int.{to_z-of_z}
 use Rattle.oai_item.specs.Item.{ItemState}
 use Rattle.oai_lists.specs.OpenLists.{number_or_fault, open_fault}
-use Rattle.oai_lists.specs.declared.lists.OpenFault.TheVariants.{Full, NumbersSpent}
+use Rattle.oai_lists.specs.declared.lists.OpenListFault.TheVariants.{Full, NumbersSpent}
 use Rattle.oai_repo.specs.Views.{view_new_list, view_open_lists, view_selected, view_selection_response}
 use Rattle.oai_repo.proofs.ClockLemmas.{years_fit}
 use Rattle.oai_repo.proofs.PassLemmas.{selection_few, selection_many}
 use Rattle.oai_repo.proofs.WaitLemmas.{may_begin, waits_full, waits_spent}
-use Rattle.oai_repo.proofs.IndexLemmas.{on_ok}
+use Rattle.oai_holdings.proofs.IndexLemmas.{on_ok}
 use Rattle.oai_repo.proofs.passes.pass_counted.Goals as goal
 
 pub returns-then-size-chunk-clause-passed : goal.returns-then-size-chunk-clause-passed

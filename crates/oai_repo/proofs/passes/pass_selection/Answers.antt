@@ -1,7 +1,7 @@
 -- The items are counted, and nothing is changed by it.
 use Rattle.std.proofs.Common.{◌≡◌, ◌∙◌, IsTrue}
 use Rattle.oai_repo.specs.Views.{view_open_lists, view_selection_response}
-use Rattle.oai_repo.proofs.IndexLemmas.{on_ok}
+use Rattle.oai_holdings.proofs.IndexLemmas.{on_ok}
 use Rattle.oai_repo.proofs.passes.pass_selection.Goals as goal
 
 pub returns-clause-passed : goal.returns-clause-passed

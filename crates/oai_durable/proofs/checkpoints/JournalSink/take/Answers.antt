@@ -1,5 +1,5 @@
 -- A part is added behind those before it.
-use Rattle.oai_http.specs.Parts.{as_part}
+use Rattle.oai_replay.specs.Parts.{as_part}
 use Rattle.oai_durable.proofs.CheckpointLemmas.{saved_more}
 use Rattle.oai_durable.proofs.checkpoints.JournalSink.take.Goals as goal
 

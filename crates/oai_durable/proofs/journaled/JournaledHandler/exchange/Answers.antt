@@ -7,12 +7,12 @@ use Rattle.oai_durable.proofs.journaled.JournaledHandler.exchange.Goals as goal
 pub returns-in-Some : goal.returns-in-Some
 returns-in-Some g c =
     let fits : FitsSigned w64 c.args.moment = c.ranges.moment in
-    let is = c.perform-done.ensures in
+    let is = c.exchange_recorded-done.ensures in
     let step = simp to_z-of_z at is.step in
     let left = simp to_z-of_z at is.left in
     let whole = simp to_z-of_z at is.whole in
     let reply = simp to_z-of_z at is.reply in
     let added = simp to_z-of_z at c.add.ensures in
-    rw (← c.self.view_is) (performed_kept _ g.J.Journal _ c.args.moment (asked_by c.args.exchange.now) c.perform-done.result.answer c.perform-done.result.performed _
+    rw (← c.self.view_is) (performed_kept _ g.J.Journal _ c.args.moment (asked_by c.args.exchange.now) c.exchange_recorded-done.result.answer c.exchange_recorded-done.result.performed _
     step left whole reply is.honesty
     (λ entries durable held. rw c.in-Some.is (added entries durable (c.make_room.ensures.same entries durable held))))

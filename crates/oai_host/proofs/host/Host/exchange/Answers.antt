@@ -6,4 +6,4 @@ use Rattle.oai_host.proofs.host.Host.exchange.Goals as goal
 pub returns : goal.returns
 returns g c =
     let fits : FitsSigned w64 c.args.moment = c.ranges.moment in
-    (simp to_z-of_z at c.perform-answer.ensures).exchanged
+    (simp to_z-of_z at c.exchange_recorded-answer.ensures).exchanged

@@ -1,6 +1,6 @@
 use Rattle.std.proofs.Common.{◌≡◌, ◌≤◌, ◌+◌, length}
 use Rattle.std.specs.Vec.Iter.{into_iter_items}
-use Rattle.oai_config.specs.Configs.{AreNamed, names_of}
+use Rattle.oai_config.specs.Configs.{AreNamed, repository_names}
 use Rattle.oai_host.specs.NamedRepos.{AreNamedRepos, repositories_of}
 use Rattle.oai_host.proofs.HostLemmas.{AreBegun}
 use Rattle.oai_host.proofs.host.Host.new.Given as goal
@@ -15,5 +15,5 @@ invariant-loop-entry g l =
       room : V.room l.fn.store + length (into_iter_items l.entry-iterator) ≤ V.room l.store + length l.fn.config.repositories;
       count : V.failures l.fn.store ≤ V.failures l.store;
       honesty : V.honest l.store ≡ V.honest l.fn.store;
-      named : AreNamed (names_of l.fn.config.repositories);
+      named : AreNamed (repository_names l.fn.config.repositories);
     }

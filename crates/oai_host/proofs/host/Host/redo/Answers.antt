@@ -3,7 +3,7 @@ use Rattle.std.proofs.Common.{◌∙◌, FitsSigned, ap, inl, inr, refl, subst, 
 use Rattle.std.proofs.lemmas.Int.{to_z-of_z}
 use Rattle.std.specs.Prelude.{Err}
 use Rattle.oai_item.specs.declared.faults.Fault.TheVariants.{Damaged}
-use Rattle.oai_http.specs.Redone.{call_again}
+use Rattle.oai_replay.specs.Redone.{call_again}
 use Rattle.oai_host.specs.Hosts.{HostState}
 use Rattle.oai_host.specs.NamedRepos.{AreNamedRepos, repositories_of}
 use Rattle.oai_host.specs.Props.{named_repo_props}

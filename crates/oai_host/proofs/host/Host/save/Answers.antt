@@ -1,6 +1,6 @@
 -- What all repositories handed over makes them again.
 use Rattle.std.proofs.Common.{◌≡◌, IsTrue}
-use Rattle.oai_http.specs.Parts.{restored_all}
+use Rattle.oai_replay.specs.Parts.{restored_all}
 use Rattle.oai_host.specs.NamedRepos.{repositories_of}
 use Rattle.oai_host.specs.Saved.{emptied_in, ended_in, parts_in, restored_in}
 use Rattle.oai_host.specs.Saving.{Takes, TakesAll}

@@ -1,7 +1,7 @@
 -- The repository of the name changes, and the others stay as they were.
 use Rattle.std.proofs.Common.{◌≡◌, ◌∙◌}
 use Rattle.std.proofs.lemmas.Option.{get_or_from_slice_get}
-use Rattle.oai_http.specs.Parts.{as_part}
+use Rattle.oai_replay.specs.Parts.{as_part}
 use Rattle.oai_host.proofs.NamedRepoLemmas.{held_at, repos_set, stands_at}
 use Rattle.oai_host.proofs.PlaceLemmas.{names_set, place_there}
 use Rattle.oai_host.proofs.RestoreLemmas.{restored_err, restored_ok}

@@ -1,8 +1,8 @@
 -- Each repository hands its parts over behind those before it.
 use Rattle.std.proofs.Common.{◌≡◌, ◌∙◌, ◌<◌, ◌≤◌, List, ap, get_or, length, refl, subst, sym}
 use Rattle.std.proofs.SliceLists.{take_long}
-use Rattle.oai_catalogue.specs.Store.{Lists}
-use Rattle.oai_repo.specs.Fields.{IsStored, StandsIn}
+use Rattle.oai_catalogue.specs.Store.{VersionLists}
+use Rattle.oai_repo.specs.Fields.{HasNumbersIn, IsStored}
 use Rattle.oai_host.specs.NamedRepos.{repositories_of}
 use Rattle.oai_host.specs.Saving.{TakesAll}
 use Rattle.oai_host.specs.declared.repositories.NamedRepo.{NamedRepo}
@@ -29,10 +29,10 @@ save-requires g c =
     let within : i < length repos = subst (λ (xs : List NamedRepo). i < length xs) inv.items c.loop-one-test.true in
     let is : one ≡ get_or repos i one = c.one-item.is ∙ ap (λ (xs : List NamedRepo). get_or xs i one) inv.items in
     let there = got_there repos i one within is in
-    let lists : Lists = V.lists c.args.store.now in
+    let lists : VersionLists = V.lists c.args.store.now in
     record {
-      stands = subst (λ (l : Lists). StandsIn one.repo l) (sym inv.same) (stands_at repos i one lists there c.requires.stand);
-      held = λ honest. subst (λ (l : Lists). IsStored one.repo l) (sym inv.same) (held_at repos i one lists there (c.requires.held (sym inv.honesty ∙ honest)));
+      stands = subst (λ (l : VersionLists). HasNumbersIn one.repo l) (sym inv.same) (stands_at repos i one lists there c.requires.stand);
+      held = λ honest. subst (λ (l : VersionLists). IsStored one.repo l) (sym inv.same) (held_at repos i one lists there (c.requires.held (sym inv.honesty ∙ honest)));
     }
 
 pub loop-one-preserved : goal.loop-one-preserved

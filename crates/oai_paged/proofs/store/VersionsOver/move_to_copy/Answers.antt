@@ -2,7 +2,7 @@ use Rattle.std.proofs.Common.{◌≡◌, ◌∙◌, ◌-◌, List, Some, ap, ari
 use Rattle.std.specs.Prelude.{slice_set}
 use Rattle.oai_paged.specs.Shelves.{AreShelved}
 use Rattle.oai_places.specs.Places.{PlaceState, named_in}
-use Rattle.oai_paged.specs.Versions.{AreShared, DirectoryState, Shelves, Versions, names_of, places_of, shelf_at}
+use Rattle.oai_paged.specs.Versions.{AreShared, DirectoryNumbers, DirectoryState, Shelves, places_of, references_to, shelf_at}
 use Rattle.oai_paged.proofs.StoreLemmas.{lists_by, set_but, set_stands, store_stands, stored_again, stored_moved}
 use Rattle.oai_paged.proofs.VersionLemmas.{places_by, set_beside, set_named, told_of}
 use Rattle.oai_paged.proofs.store.VersionsOver.move_to_copy.Goals as goal
@@ -80,12 +80,12 @@ invariant_of-self-in-Some-get_mut g c =
     let left : DirectoryState = record { places = c.directory.inside.places.items; versions = c.directory.inside.versions - 1 } in
     let mid : Shelves = slice_set before number (Some left) in
     let after : Shelves = c.insert_reserved-own.new.self.slots in
-    let versions : Versions = slice_set self.versions.slots c.args.v (Some own) in
+    let versions : DirectoryNumbers = slice_set self.versions.slots c.args.v (Some own) in
     let seen : DirectoryState = record { places = c.directory.inside.places.items; versions = c.directory.inside.versions } in
     let view : seen ≡ was = cc (c.directory.view_is) in
     let same_places : left.places ≡ was.places = ap (λ (directory : DirectoryState). directory.places) view in
     let same_count : c.directory.inside.versions ≡ was.versions = ap (λ (directory : DirectoryState). directory.versions) view in
-    let told : names_of number self.versions.slots ≡ was.versions = told_of self.versions.slots before number was s stood in
+    let told : references_to number self.versions.slots ≡ was.versions = told_of self.versions.slots before number was s stood in
     let several = c.requires.shared in
     let copied : made.places ≡ was.places = ap (λ (directory : DirectoryState). directory.places) c.in_ok-copy.ensures.copy in
     let one : made.versions ≡ 1 = ap (λ (directory : DirectoryState). directory.versions) c.in_ok-copy.ensures.copy in
@@ -114,12 +114,12 @@ returns-in-Some-get_mut-clause-own g c =
     let left : DirectoryState = record { places = c.directory.inside.places.items; versions = c.directory.inside.versions - 1 } in
     let mid : Shelves = slice_set before number (Some left) in
     let after : Shelves = c.insert_reserved-own.new.self.slots in
-    let versions : Versions = slice_set self.versions.slots c.args.v (Some own) in
+    let versions : DirectoryNumbers = slice_set self.versions.slots c.args.v (Some own) in
     let seen : DirectoryState = record { places = c.directory.inside.places.items; versions = c.directory.inside.versions } in
     let view : seen ≡ was = cc (c.directory.view_is) in
     let same_places : left.places ≡ was.places = ap (λ (directory : DirectoryState). directory.places) view in
     let same_count : c.directory.inside.versions ≡ was.versions = ap (λ (directory : DirectoryState). directory.versions) view in
-    let told : names_of number self.versions.slots ≡ was.versions = told_of self.versions.slots before number was s stood in
+    let told : references_to number self.versions.slots ≡ was.versions = told_of self.versions.slots before number was s stood in
     let several = c.requires.shared in
     let copied : made.places ≡ was.places = ap (λ (directory : DirectoryState). directory.places) c.in_ok-copy.ensures.copy in
     let one : made.versions ≡ 1 = ap (λ (directory : DirectoryState). directory.versions) c.in_ok-copy.ensures.copy in
@@ -158,12 +158,12 @@ returns-in-Some-get_mut-clause-lists g c =
     let left : DirectoryState = record { places = c.directory.inside.places.items; versions = c.directory.inside.versions - 1 } in
     let mid : Shelves = slice_set before number (Some left) in
     let after : Shelves = c.insert_reserved-own.new.self.slots in
-    let versions : Versions = slice_set self.versions.slots c.args.v (Some own) in
+    let versions : DirectoryNumbers = slice_set self.versions.slots c.args.v (Some own) in
     let seen : DirectoryState = record { places = c.directory.inside.places.items; versions = c.directory.inside.versions } in
     let view : seen ≡ was = cc (c.directory.view_is) in
     let same_places : left.places ≡ was.places = ap (λ (directory : DirectoryState). directory.places) view in
     let same_count : c.directory.inside.versions ≡ was.versions = ap (λ (directory : DirectoryState). directory.versions) view in
-    let told : names_of number self.versions.slots ≡ was.versions = told_of self.versions.slots before number was s stood in
+    let told : references_to number self.versions.slots ≡ was.versions = told_of self.versions.slots before number was s stood in
     let several = c.requires.shared in
     let copied : made.places ≡ was.places = ap (λ (directory : DirectoryState). directory.places) c.in_ok-copy.ensures.copy in
     let one : made.versions ≡ 1 = ap (λ (directory : DirectoryState). directory.versions) c.in_ok-copy.ensures.copy in

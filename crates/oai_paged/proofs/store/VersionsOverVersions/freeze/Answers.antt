@@ -1,6 +1,6 @@
 use Rattle.std.proofs.Common.{◌≡◌, ◌∙◌, ◌+◌, ◌≤◌, Some, ap, arith, refl, sym}
 use Rattle.std.specs.Prelude.{count_by, is_some, slice_set}
-use Rattle.oai_paged.specs.Versions.{DirectoryState, names_of, shelf_at}
+use Rattle.oai_paged.specs.Versions.{DirectoryState, references_to, shelf_at}
 use Rattle.oai_paged.proofs.StoreLemmas.{set_but, set_stands, stored_more}
 use Rattle.oai_paged.proofs.VersionLemmas.{few_names, puts_in, told_of}
 use Rattle.oai_paged.proofs.store.VersionsOverVersions.freeze.Goals as goal
@@ -12,9 +12,9 @@ prove-unreachable-requires g c =
     let was : DirectoryState = record { places = c.directory.inside.places.items; versions = c.directory.inside.versions } in
     let found : Some c.in-Some.directory.now ≡ shelf_at self.directories.slots number = c.in-Some.ensures.value in
     let stood : shelf_at self.directories.slots number ≡ Some was = sym found ∙ ap Some (cc (c.directory.view_is)) in
-    let told : names_of number self.versions.slots ≡ c.directory.inside.versions = told_of self.versions.slots self.directories.slots number was
+    let told : references_to number self.versions.slots ≡ c.directory.inside.versions = told_of self.versions.slots self.directories.slots number was
     self.shared stood in
-    let few : names_of number self.versions.slots ≤ count_by is_some self.versions.slots = few_names number self.versions.slots in
+    let few : references_to number self.versions.slots ≤ count_by is_some self.versions.slots = few_names number self.versions.slots in
     let same : count_by is_some c.reserve.new.self.slots ≡ count_by is_some self.versions.slots = ap (λ s. count_by is_some s.slots)
     c.reserve.ensures.rest_kept in
     let room = c.in_ok-reserve.ensures.room in

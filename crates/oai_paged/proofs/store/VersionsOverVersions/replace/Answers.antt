@@ -1,7 +1,7 @@
 use Rattle.std.proofs.Common.{◌≡◌, ◌∙◌, ℕ, Bool, FitsSigned, List, Some, Err, ap, arith, refl, rules, subst, sym, w64}
 use Rattle.std.proofs.lemmas.Int.{to_z-of_z}
 use Rattle.std.specs.Prelude.{slice_set}
-use Rattle.oai_catalogue.specs.Store.{IsHonest, Lists, list_at}
+use Rattle.oai_catalogue.specs.Store.{IsHonest, VersionLists, list_at}
 use Rattle.oai_device.specs.Device.{CountsFailures}
 use Rattle.oai_item.specs.declared.faults.Fault.TheVariants.{Device}
 use Rattle.oai_places.specs.Places.{PlaceState, items_on, named_in}
@@ -66,7 +66,7 @@ returns-clause-found g c =
     let stood : shelf_at made.directories.slots number ≡ Some was = sym found ∙ ap Some (cc (c.directory.view_is)) in
     let own = c.in_ok-number.ensures.own in
     let before : list_at (lists_by (G.pages self.pool) self.versions.slots self.directories.slots) c.args.v ≡ items_on (G.pages made.pool) was.places
-    = ap (λ (lists : Lists). list_at lists c.args.v) (sym c.own.ensures.lists)
+    = ap (λ (lists : VersionLists). list_at lists c.args.v) (sym c.own.ensures.lists)
     ∙ list_by (G.pages made.pool) made.versions.slots made.directories.slots c.args.v number was own.named stood in
     let fits : FitsSigned w64 c.args.stamp = c.ranges.stamp in
     let stamp = to_z-of_z w64 c.args.stamp fits in
@@ -117,7 +117,7 @@ returns-clause-list g c =
     let is : DirectoryState = record { places = c.replace.new.places.items; versions = c.directory.inside.versions } in
     let own = c.in_ok-number.ensures.own in
     let before : list_at (lists_by (G.pages self.pool) self.versions.slots self.directories.slots) c.args.v ≡ items_on (G.pages made.pool) was.places
-    = ap (λ (lists : Lists). list_at lists c.args.v) (sym c.own.ensures.lists)
+    = ap (λ (lists : VersionLists). list_at lists c.args.v) (sym c.own.ensures.lists)
     ∙ list_by (G.pages made.pool) made.versions.slots made.directories.slots c.args.v number was own.named stood in
     let after = list_by (G.pages c.replace.new.pages) made.versions.slots (slice_set made.directories.slots number (Some is)) c.args.v number is own.named
     (set_stands made.directories.slots number was is stood) in

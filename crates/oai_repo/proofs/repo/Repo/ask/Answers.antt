@@ -10,14 +10,15 @@ use Rattle.oai_args.specs.Pairs.{decoded_pairs}
 use Rattle.oai_args.specs.Requests.{request_of}
 use Rattle.oai_repo.specs.Answers.{arguments_of_request}
 use Rattle.oai_repo.specs.Calls.{output_of_reply}
-use Rattle.oai_repo.specs.Fields.{RepoFields, open_lists_of, holdings_of, numbers_of, state_of, versions_in}
-use Rattle.oai_catalogue.specs.Store.{Lists}
+use Rattle.oai_holdings.specs.Index.{holdings_of}
+use Rattle.oai_repo.specs.Fields.{RepoFields, open_lists_of, numbers_of, state_of, versions_in}
+use Rattle.oai_catalogue.specs.Store.{VersionLists}
 use Rattle.oai_lists.specs.OpenLists.{Table}
 use Rattle.oai_repo.specs.Listing.{request_response}
 use Rattle.oai_repo.specs.Machine.{Output}
-use Rattle.oai_repo.specs.Replays.{is_part}
-use Rattle.oai_repo.specs.Replays.{at_clock as settled_at}
-use Rattle.oai_repo.specs.State.{Holdings, OpenLists, RepoState, moved}
+use Rattle.oai_repo.specs.Replays.{is_part, at_clock as settled_at}
+use Rattle.oai_holdings.specs.Holdings.{Holdings}
+use Rattle.oai_repo.specs.State.{OpenLists, RepoState, moved}
 use Rattle.oai_repo.specs.State as states
 use Rattle.oai_repo.proofs.EndLemmas.{few_asked}
 use Rattle.oai_repo.proofs.OpenListLemmas.{indexed_at, still_same}
@@ -115,7 +116,7 @@ returns-clause-replay g c = λ honest.
     let fields : RepoFields = record { config = inside.config; clock = inside.clock; index = inside.index; sets = inside.sets; table = inside.lists } in
     let was = state_of fields before in
     let seen : at now holdings (open_lists_of now inside.lists before) ≡ moved c.args.moment was =
-    ap (at now holdings) (sym (still_same inside.clock now inside.lists before c.tick.ensures.never_back)) ∙ ap (λ (clock : ℤ). states.at_clock clock was) moves
+    ap (at now holdings) (sym (still_same inside.clock now inside.lists before c.tick.ensures.never_back)) ∙ ap (λ (clock : ℤ). states.state_at_clock clock was) moves
     in
     let part = told.part ∙ ap (λ (state : RepoState). is_part (request_response inside.config state request).0) seen in
     let replay = c.in_ok-replied.replied.replay in
@@ -123,9 +124,9 @@ returns-clause-replay g c = λ honest.
     let settled : c.at_clock.result.replay ≡ settled_at stood replay = simp to_z-of_z at c.at_clock.ensures.replay in
     let table = c.reply_to_query.new.lists in
     let between = V.lists c.reply_to_query.new.store in
-    let at_table : Table → Lists → RepoState = λ table all. states.at_clock now (state_of (record fields { table = table }) all) in
+    let at_table : Table → VersionLists → RepoState = λ table all. states.state_at_clock now (state_of (record fields { table = table }) all) in
     let is_moved : table ≡ inside.lists → between ≡ before → state_of c.move_to.new.self (V.lists c.move_to.new.store) ≡ moved c.args.moment was =
-    λ same all. c.move_to.ensures.moved ∙ ap (λ (t : Table). at_table t between) same ∙ ap (at_table inside.lists) all ∙ ap (λ (clock : ℤ). states.at_clock clock was) moves
+    λ same all. c.move_to.ensures.moved ∙ ap (λ (t : Table). at_table t between) same ∙ ap (at_table inside.lists) all ∙ ap (λ (clock : ℤ). states.state_at_clock clock was) moves
     in
     let stands : stood ≡ true → moved c.args.moment was ≡ was =
     λ is. let clock = (Decides-int_eq c.now-before.result c.now-now.result).0 is in

@@ -5,11 +5,12 @@ use Rattle.std.proofs.lemmas.Bool.{and_parts}
 use Rattle.std.proofs.lemmas.Int.{to_z-of_z}
 use Rattle.oai_item.specs.Refusals.{in_repository}
 use Rattle.oai_time.specs.Clock.{tick}
-use Rattle.oai_repo.specs.Changes.{stamp_at}
-use Rattle.oai_repo.specs.Fields.{ItemIndex, open_lists_of, holdings_of, numbers_of, versions_in}
+use Rattle.oai_holdings.specs.Changes.{stamp_at}
+use Rattle.oai_holdings.specs.Index.{ItemIndex, holdings_of}
+use Rattle.oai_repo.specs.Fields.{open_lists_of, numbers_of, versions_in}
 use Rattle.oai_repo.specs.Machine.{Outcome, accepted, refused_with}
 use Rattle.oai_repo.specs.State.{OpenLists, RepoState, still_open}
-use Rattle.oai_repo.specs.Indexing.{MakesChange}
+use Rattle.oai_holdings.specs.Indexing.{MakesChange}
 use Rattle.oai_item.specs.declared.refusals.Refusal.TheVariants as refusal
 use Rattle.oai_repo.proofs.OpenListLemmas.{open_lists_same, table_agrees_same}
 use Rattle.oai_repo.proofs.ClockLemmas.{in_years-tick}

@@ -1,6 +1,6 @@
 -- Each item that the repository keeps has a record in oai_dc.
-use Rattle.oai_repo.specs.Fields.{stored_items}
-use Rattle.oai_repo.proofs.RestoreLemmas.{all_in_core}
+use Rattle.oai_holdings.specs.Index.{stored_items}
+use Rattle.oai_holdings.proofs.RestoreLemmas.{all_in_core}
 use Rattle.oai_repo.proofs.repo.Repo.items_behind.Goals as goal
 
 pub read_behind-requires-clause-core : goal.read_behind-requires-clause-core

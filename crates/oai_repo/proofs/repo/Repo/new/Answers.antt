@@ -2,7 +2,7 @@
 use Rattle.std.proofs.Common.{◌≡◌, arith, FitsSigned, w64, ◌∙◌, ap, refl, [], ℕ}
 use Rattle.std.proofs.lemmas.Int.{to_z-of_z}
 use Rattle.oai_repo.proofs.ClockLemmas.{in_years-config}
-use Rattle.oai_repo.proofs.IndexLemmas.{is_new}
+use Rattle.oai_repo.proofs.NewLemmas.{is_new}
 use Rattle.oai_repo.proofs.repo.Repo.new.Goals as goal
 
 pub invariant_of-result : goal.invariant_of-result

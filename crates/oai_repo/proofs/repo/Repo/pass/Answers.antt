@@ -6,8 +6,10 @@ use Rattle.oai_item.specs.Item.{ItemState}
 use Rattle.oai_args.specs.Asks.{AskOrError}
 use Rattle.oai_args.specs.Pairs.{decoded_pairs}
 use Rattle.oai_args.specs.Requests.{request_of}
-use Rattle.oai_repo.specs.Fields.{open_lists_of, holdings_of, numbers_of, versions_in}
-use Rattle.oai_repo.specs.State.{Holdings, OpenLists, RepoState}
+use Rattle.oai_holdings.specs.Index.{holdings_of}
+use Rattle.oai_repo.specs.Fields.{open_lists_of, numbers_of, versions_in}
+use Rattle.oai_holdings.specs.Holdings.{Holdings}
+use Rattle.oai_repo.specs.State.{OpenLists, RepoState}
 use Rattle.oai_repo.proofs.EndLemmas.{few_asked}
 use Rattle.oai_repo.proofs.OpenListLemmas.{indexed_at, still_same}
 use Rattle.oai_repo.proofs.ClockLemmas.{in_years-tick}

@@ -1,10 +1,11 @@
 -- A set or an item that is restored leaves what the next call needs, over the fields that the repository is opened to.
 use Rattle.std.proofs.Common.{◌∷◌, refl}
 use Rattle.oai_repo.specs.Fields.{versions_in}
-use Rattle.oai_repo.proofs.IndexLemmas.{on_ok}
+use Rattle.oai_holdings.proofs.IndexLemmas.{on_ok}
 use Rattle.oai_repo.proofs.NumberLemmas.{in_use_moved, kept_moved, kept_same, moved_others}
 use Rattle.oai_repo.proofs.OpenListLemmas.{table_agrees_same}
-use Rattle.oai_repo.proofs.RestoreLemmas.{item_restored, set_indexed}
+use Rattle.oai_holdings.proofs.RestoreLemmas.{set_indexed}
+use Rattle.oai_repo.proofs.RestoreLemmas.{item_restored}
 use Rattle.oai_repo.proofs.repo.Repo.restore.Goals as goal
 
 pub returns-in-HasSet-clause-keeps : goal.returns-in-HasSet-clause-keeps

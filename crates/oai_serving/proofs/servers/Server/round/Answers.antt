@@ -21,5 +21,5 @@ returns-in_default-second_of g c =
 pub returns : goal.returns
 returns g c =
     round_of g.H.Handler.step g.H.Settled.settled g.S.Stream.contents g.S.Stream.remaining _ _ _ _ c.args.self.now c.note_all.new.self c.end_links.new.self c.accept_all.new.self
-    c.perform.new.self c.perform.result (record { accepts = c.wait.ensures.accepted; lets_go = c.wait.ensures.gone }) c.note_all.ensures c.end_links.ensures c.accept_all.ensures
-    c.perform.ensures
+    c.serve_links.new.self c.serve_links.result (record { accepts = c.wait.ensures.accepted; lets_go = c.wait.ensures.gone }) c.note_all.ensures c.end_links.ensures c.accept_all.ensures
+    c.serve_links.ensures

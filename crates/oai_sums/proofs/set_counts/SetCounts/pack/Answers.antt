@@ -1,7 +1,7 @@
 use Rattle.std.proofs.Common.{◌≡◌, ◌≢◌, ◌∙◌, ◌+◌, ◌<◌, ◌++◌, ◌∷◌, [], ℕ, List, ap, arith, length, length-append, sym, take}
 use Rattle.std.proofs.lemmas.List.{take_more}
 use Rattle.oai_sums.specs.Sums.{SetTotal, count_at, totals_from}
-use Rattle.oai_sums.specs.declared.packed_counts.Several.{Several}
+use Rattle.oai_sums.specs.declared.packed_counts.PackedCount.{PackedCount}
 use Rattle.oai_sums.specs.declared.spans.Span.{Span}
 use Rattle.oai_sums.proofs.PackedLemmas.{totals_more}
 use Rattle.oai_sums.proofs.set_counts.SetCounts.pack.Goals as goal
@@ -13,8 +13,8 @@ loop-at-preserved c =
     let own : SetTotal = c.index-count.result.now in
     let sets : List (List ℕ) = c.loop-at.sets.items in
     let spans : List Span = c.loop-at.spans.items in
-    let old : List Several = c.loop-at.several.items in
-    let new : List Several = c.say_count.new.several.items in
+    let old : List PackedCount = c.loop-at.several.items in
+    let new : List PackedCount = c.say_count.new.several.items in
     let set : List ℕ = c.in_ok-copy.field-0 in
     let span : Span = c.count.inside.span in
     let items : List SetTotal = c.self.inside.counts.items in

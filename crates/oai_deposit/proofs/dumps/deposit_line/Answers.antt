@@ -1,0 +1,20 @@
+use Rattle.std.proofs.Common.{codes, ap, ◌∙◌}
+use Rattle.serde_json.specs.Data.{put, string}
+use Rattle.serde_json.specs.View.{members_view, view}
+use Rattle.oai_deposit.specs.Shapes.{written_records, written_texts}
+use Rattle.oai_deposit.specs.Dumps.{deposit_value}
+use Rattle.oai_deposit.proofs.DumpLemmas.{deposit_asked, deposit_without}
+use Rattle.oai_deposit.proofs.WrittenLemmas.{deposit_made, line_asks, line_made, shallow_deposit}
+use Rattle.oai_deposit.proofs.dumps.deposit_line.Goals as goal
+
+pub returns : goal.returns
+returns c =
+    let item = c.args.item.now in
+    let first = c.in_ok-put.ensures.ok ∙ ap (λ es. put (codes "deposit") (view c.in_ok-text_value.field-0) (members_view es)) c.new-members.ensures.empty in
+    let identifier = c.in_ok-text_value.ensures ∙ ap string (c.as_str.ensures.text ∙ c.identifier.ensures) in
+    let sets = c.in_ok-texts_value.ensures ∙ ap written_texts c.sets.ensures.sets in
+    let records = c.in_ok-records_value.ensures ∙ ap written_records c.formats.ensures.formats in
+    let made = deposit_made _ _ _ _ _ _ item.identifier item.sets item.formats first c.in_ok-put-2.ensures.ok c.in_ok-put-3.ensures.ok identifier sets records in
+    let line = line_made c.line_of_members.result _ (deposit_value item.identifier item.sets item.formats) made (shallow_deposit item.identifier item.sets item.formats)
+    (deposit_without item.identifier item.sets item.formats) c.line_of_members.ensures.text c.line_of_members.ensures.value in
+    record { line = line; asks = line_asks c.line_of_members.result _ _ (deposit_asked item.identifier item.sets item.formats) line }

@@ -1,2 +1,0 @@
-pub mod ValueLemmas
-pub mod LineLemmas

@@ -1,0 +1,5 @@
+pub mod KeptLemmas
+pub mod ChangeLemmas
+pub mod IndexLemmas
+pub mod PurgeLemmas
+pub mod RestoreLemmas

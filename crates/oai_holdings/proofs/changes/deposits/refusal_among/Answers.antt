@@ -1,0 +1,16 @@
+-- An item that is not one too many leaves no more entries than items may be.
+use Rattle.std.proofs.Common.{◌≡◌, length, refl}
+use Rattle.std.specs.Option.{option_copied}
+use Rattle.oai_holdings.specs.Entries.{count_with, stamp_in}
+use Rattle.oai_holdings.proofs.KeptLemmas.{few_put}
+use Rattle.oai_holdings.proofs.changes.deposits.refusal_among.Goals as goal
+
+pub returns-clause-few : goal.returns-clause-few
+returns-clause-few g c = λ none few.
+    let config = c.args.config.now in
+    let identifier = c.args.item.now.identifier in
+    let entries = c.args.index.now.entries in
+    let found : option_copied c.as_ref.result ≡ c.in_ok-replaced.replaced = c.as_ref.ensures.value in
+    let there = rw (c.as_str.ensures.text, c.identifier.ensures) at c.in_ok-replaced.ensures.there in
+    let room = rw (found, c.len.ensures) at (c.item_refusal.ensures.room none) in
+    few_put config c.in_ok-replaced.replaced (stamp_in identifier entries) (length entries) (count_with (stamp_in identifier entries) (length entries)) there room refl few

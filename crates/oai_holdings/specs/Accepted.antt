@@ -1,0 +1,35 @@
+-- The entries of the index and the sets after an accepted change, whatever the store returns: this repository's own.
+use Rattle.std.specs.Prelude.{◌≡◌, ℤ, List, [], ◌∷◌, ◌++◌, Option, None, Some, IsSome}
+use Rattle.oai_item.specs.declared.changes.Change.{Change}
+use Rattle.oai_item.specs.declared.changes.Change.TheVariants as change
+use Rattle.oai_item.specs.declared.deleted_record.DeletedRecord.{DeletedRecord}
+use Rattle.oai_item.specs.declared.deleted_record.DeletedRecord.TheVariants.{No, Transient, Persistent}
+use Rattle.oai_holdings.specs.Entries.{ForgetsSome, SetsStamp, IndexEntries, stamp_in}
+use Rattle.oai_holdings.specs.Holdings.{NamedSet}
+
+-- the datestamp that the index has for a deleted item: none if the policy is to keep no deleted records, otherwise the
+-- datestamp of its deletion (OAI-PMH 2.0, section 2.5.1)
+abbrev pub stamp_after_deletion : DeletedRecord → ℤ → Option ℤ
+stamp_after_deletion No stamp = None
+stamp_after_deletion Transient stamp = Some stamp
+stamp_after_deletion Persistent stamp = Some stamp
+
+-- the entries after an accepted change with that datestamp: it is that of the item that was deposited or deleted, a
+-- purge removes some, and no other entry is changed
+abbrev pub StampsChange : DeletedRecord → ℤ → Change → IndexEntries → IndexEntries → Type 0
+StampsChange deleted stamp (change.Deposit identifier sets records) old new = SetsStamp identifier (Some stamp) old new
+StampsChange deleted stamp (change.Delete identifier) old new = IsSome (stamp_in identifier old) × SetsStamp identifier (stamp_after_deletion deleted stamp) old new
+StampsChange deleted stamp (change.Purge before) old new = ForgetsSome old new
+StampsChange deleted stamp (change.AddSet spec name) old new = new ≡ old
+
+-- the sets after it: a new one is the last
+abbrev pub sets_with : Change → List NamedSet → List NamedSet
+sets_with (change.Deposit identifier sets records) named = named
+sets_with (change.Delete identifier) named = named
+sets_with (change.Purge before) named = named
+sets_with (change.AddSet spec name) named = named ++ (spec, name) ∷ []
+
+-- the entries and the sets after an accepted change
+pub record KeepsChange (deleted : DeletedRecord) (stamp : ℤ) (change : Change) (old new : IndexEntries) (old_sets new_sets : List NamedSet) : Type 0 where
+  pub entries : StampsChange deleted stamp change old new
+  pub sets : new_sets ≡ sets_with change old_sets

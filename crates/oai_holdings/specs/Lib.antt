@@ -1,0 +1,10 @@
+pub mod Holdings
+pub mod Kept
+pub mod Entries
+pub mod Index
+pub mod Changes
+pub mod Accepted
+pub mod Calls
+pub mod Indexing
+pub mod Purges
+pub mod Saved

@@ -1,0 +1,263 @@
+//! Deposits: why one is refused, and the item that it makes.
+ghost use Rattle.std.specs.Prelude.{◌≡◌, ◌≤◌, None, Some, false, length, IfOk, IsTrue, OnOk};
+ghost use Rattle.std.specs.List.{list_all};
+ghost use Rattle.std.specs.Option.{option_copied};
+ghost use Rattle.oai_names.specs.Names.{is_among};
+ghost use Rattle.oai_names.specs.Sets.{has_set};
+ghost use Rattle.oai_item.specs.Encoding.{encoded};
+ghost use Rattle.oai_item.specs.Items.{item_named};
+ghost use Rattle.oai_item.specs.declared.sizes.TheConstants.{MAX_ITEM_BYTES};
+ghost use Rattle.oai_catalogue.specs.Calls.{OnlyReads};
+ghost use Rattle.oai_catalogue.specs.Store.{Spends};
+ghost use Rattle.oai_item.specs.Item.{IsStamp, has_record, live_item, record_named};
+ghost use Rattle.oai_item.specs.Known.{are_fields_of, has_format, has_known_fields};
+ghost use Rattle.oai_item.specs.Membership.{reduced};
+ghost use Rattle.oai_holdings.specs.Calls.{fault_in};
+ghost use Rattle.oai_holdings.specs.Changes as spec;
+ghost use Rattle.oai_holdings.specs.Entries.{SetsStamp, count_with, stamp_in};
+ghost use Rattle.oai_holdings.specs.Index.{stored_items};
+ghost use Rattle.oai_holdings.specs.Indexing.{IsDoneOn, Moves, StandsOn};
+
+use crate::changes::ChangeContext;
+use crate::item_index::ItemIndex;
+use oai_catalogue::Versions;
+use oai_item::{ChangeRefusal, Fault, Field, Format, Formats, Item, Records, Refusal};
+use oai_names::{Identifier, Sequence, SetSpec, SetTree, Text};
+use oai_settings::RepoConfig;
+
+/// A record of a deposit: the text that names its format, and its fields.
+type Record = (Text, Sequence<Field>);
+
+/// A deposit: the identifier, the setSpecs as they were given, and the records.
+#[derive(Clone, Copy)]
+pub(crate) struct Deposit<'a> {
+    pub(crate) identifier: &'a Identifier,
+    pub(crate) sets: &'a [SetSpec],
+    pub(crate) records: &'a Records,
+}
+
+/// Adds the item of the deposit, or refuses it by the first cause.
+pub(crate) fn put_deposit<V: Versions>(
+    context: &ChangeContext<'_>,
+    sets: &SetTree,
+    store: &mut V,
+    index: &mut ItemIndex,
+    deposit: &Deposit<'_>,
+) -> Result<(), Refusal>
+    requires stamped { IsStamp context.now.stamp }
+    requires stands { StandsOn V.Versions index.old store.old }
+    ensures done { let items = stored_items index.old (V.lists store.old) in
+        let item = live_item deposit.now.identifier.now context.now.stamp
+        (reduced deposit.now.sets.now) deposit.now.records.now in
+        IsDoneOn V.Versions (spec.deposit_refusal context.now.config.now sets.now
+        deposit.now.sets.now deposit.now.records.now)
+        (spec.item_refusal context.now.config.now (item_named item.identifier items)
+        (length items) item)
+        (spec.with_new item items) result index.old store.old index.new store.new }
+    ensures stamped { OnOk result (SetsStamp deposit.now.identifier.now (Some context.now.stamp) index.old.entries
+        index.new.entries) }
+    ensures few { OnOk result (length index.old.entries ≤ context.now.config.now.items
+        → length index.new.entries ≤ context.now.config.now.items) }
+    ensures moves { Moves V.Versions result index.old store.old index.new store.new }
+    ensures store { Spends V.room V.failures V.honest 1 (fault_in result) store.old store.new }
+{
+    match deposit_refusal(
+        context.config,
+        sets,
+        deposit.sets,
+        deposit.records.as_slice(),
+    ) {
+        Some(cause) => return Err(Refusal::Refused(cause)),
+        None => {}
+    }
+    let item = Item::deposited(
+        context.alloc,
+        context.config.formats(),
+        deposit.identifier,
+        context.stamp,
+        deposit.sets,
+        deposit.records,
+    )?;
+    put_item(context, store, index, &item)
+}
+
+/// Adds the item, or refuses it by the first cause.
+fn put_item<V: Versions>(
+    context: &ChangeContext<'_>,
+    store: &mut V,
+    index: &mut ItemIndex,
+    item: &Item,
+) -> Result<(), Refusal>
+    requires stands { StandsOn V.Versions index.old store.old }
+    ensures done { let items = stored_items index.old (V.lists store.old) in
+        IsDoneOn V.Versions None (spec.item_refusal context.now.config.now
+        (item_named item.now.identifier items) (length items) item.now)
+        (spec.with_new item.now items) result index.old store.old index.new store.new }
+    ensures stamped { OnOk result (SetsStamp item.now.identifier (Some item.now.stamp) index.old.entries
+        index.new.entries) }
+    ensures few { OnOk result (length index.old.entries ≤ context.now.config.now.items
+        → length index.new.entries ≤ context.now.config.now.items) }
+    ensures moves { Moves V.Versions result index.old store.old index.new store.new }
+    ensures store { Spends V.room V.failures V.honest 1 (fault_in result) store.old store.new }
+{
+    match refusal_among(context.config, store, index, item)? {
+        Some(cause) => Err(Refusal::Refused(cause)),
+        None => Ok(index.put(context.alloc, store, item)?),
+    }
+}
+
+/// Why the item may not be added to the others: the first cause. Any fault but `TooManyPages` may come.
+fn refusal_among<V: Versions>(
+    config: &RepoConfig,
+    store: &mut V,
+    index: &ItemIndex,
+    item: &Item,
+) -> Result<Option<ChangeRefusal>, Fault>
+    requires stands { StandsOn V.Versions index.now store.old }
+    ensures cause { let items = stored_items index.now (V.lists store.old) in
+        IfOk result (λ cause. IsTrue (V.honest store.old) → cause ≡ spec.item_refusal config.now
+        (item_named item.now.identifier items) (length items) item.now) }
+    ensures fits { IfOk result (λ cause. cause ≡ None
+        → length (encoded item.now) ≤ MAX_ITEM_BYTES) }
+    ensures few { IfOk result (λ cause. cause ≡ None
+        → length index.now.entries ≤ config.now.items
+        → count_with (stamp_in item.now.identifier index.now.entries) (length index.now.entries)
+        ≤ config.now.items) }
+    ensures reads { OnlyReads V.Versions result store.old store.new }
+{
+    let replaced = index.find(store, item.identifier().as_str())?;
+    Ok(item_refusal(config, replaced.as_ref(), index.len(), item))
+}
+
+/// Why the deposit is refused by itself: the first cause.
+#[tactic(auto, unfolding(crate::specs::Changes::deposit_refusal))]
+fn deposit_refusal(
+    config: &RepoConfig,
+    sets: &SetTree,
+    specs: &[SetSpec],
+    records: &[Record],
+) -> Option<ChangeRefusal>
+    ensures { result ≡ spec.deposit_refusal config.now sets.now specs.now records.now }
+{
+    if !have_sets(sets, specs) {
+        return Some(ChangeRefusal::UnknownSet);
+    }
+    if !have_formats(config.formats(), records) {
+        return Some(ChangeRefusal::UnknownFormat);
+    }
+    if !has_record(records, "oai_dc") {
+        return Some(ChangeRefusal::NoDc);
+    }
+    if !have_known_fields(config.formats(), records) {
+        return Some(ChangeRefusal::UnknownField);
+    }
+    None
+}
+
+/// Why the item may not replace that one, if there is one, among `count` items: the first cause.
+#[tactic(auto, unfolding(crate::specs::Changes::item_refusal))]
+fn item_refusal(
+    config: &RepoConfig,
+    replaced: Option<&Item>,
+    count: u64,
+    item: &Item,
+) -> Option<ChangeRefusal>
+    ensures cause { result ≡ spec.item_refusal config.now (option_copied replaced.entry) count
+        item.now }
+    ensures fits { result ≡ None → length (encoded item.now) ≤ MAX_ITEM_BYTES }
+    ensures room { result ≡ None
+        → spec.is_one_too_many config.now (option_copied replaced.entry) count ≡ false }
+{
+    if drops_format(replaced, item) {
+        return Some(ChangeRefusal::DropsFormat);
+    }
+    if item.encoded_len().is_err() {
+        return Some(ChangeRefusal::TooLarge);
+    }
+    if is_one_too_many(config, replaced, count) {
+        return Some(ChangeRefusal::TooManyItems);
+    }
+    None
+}
+
+/// Whether each setSpec is that of a set.
+pub(crate) fn have_sets(tree: &SetTree, specs: &[SetSpec]) -> bool
+    ensures { result ≡ list_all (has_set tree.now) specs.now }
+{
+    specs.iter().all(|spec| tree.has(spec))
+}
+
+/// Whether the repository has the format of each record.
+fn have_formats(formats: &Formats, records: &[Record]) -> bool
+    ensures { result ≡ list_all (has_format formats.now) records.now }
+{
+    records
+        .iter()
+        .all(|record| formats.find_named(record.0.as_str()).is_some())
+}
+
+/// Whether there is a record with that prefix.
+fn has_record(records: &[Record], prefix: &str) -> bool
+    ensures { result ≡ has_record prefix.now records.now }
+{
+    record_named(records, prefix).is_some()
+}
+
+/// The record with that prefix.
+#[tactic(auto, unfolding(oai_item::specs::Item::record_named))]
+fn record_named<'a>(records: &'a [Record], prefix: &str) -> Option<&'a Record>
+    ensures { option_copied result ≡ record_named prefix.now records.now }
+{
+    records.iter().find(|record| record.0.as_str() == prefix)
+}
+
+/// Whether each field of each record is one of its format's.
+fn have_known_fields(formats: &Formats, records: &[Record]) -> bool
+    ensures { result ≡ list_all (has_known_fields formats.now) records.now }
+{
+    records
+        .iter()
+        .all(|record| has_known_fields(formats, record))
+}
+
+/// Whether each field of the record is one of its format's.
+fn has_known_fields(formats: &Formats, made: &Record) -> bool
+    ensures { result ≡ has_known_fields formats.now made.now }
+{
+    match formats.find_named(made.0.as_str()) {
+        Some(format) => are_fields_of(format, made.1.as_slice()),
+        None => true,
+    }
+}
+
+/// Whether each field is one of the format's.
+fn are_fields_of(format: &Format, fields: &[Field]) -> bool
+    ensures { result ≡ are_fields_of (Some format.now) fields.now }
+{
+    fields.iter().all(|field| is_among(format.fields.as_slice(), field.name.as_str()))
+}
+
+/// Whether the name is one of these.
+pub(crate) fn is_among(names: &[Text], name: &str) -> bool
+    ensures { result ≡ is_among names.now name.now }
+{
+    names.iter().any(|other| other.as_str() == name)
+}
+
+/// Whether the replaced item has a format in which the new one has no record.
+fn drops_format(replaced: Option<&Item>, item: &Item) -> bool
+    ensures { result ≡ spec.drops_format (option_copied replaced.entry) item.now.formats }
+{
+    match replaced {
+        Some(replaced) => !item.has_each_format(replaced),
+        None => false,
+    }
+}
+
+/// Whether no item is replaced, and the repository may have no more items than the `count` that it has.
+#[tactic(auto, unfolding(crate::specs::Changes::is_one_too_many))]
+fn is_one_too_many(config: &RepoConfig, replaced: Option<&Item>, count: u64) -> bool
+    ensures { result ≡ spec.is_one_too_many config.now (option_copied replaced.entry) count }
+{
+    replaced.is_none() && config.items() <= count
+}

@@ -1,0 +1,12 @@
+//! What a repository holds, its items and sets: how deposits change it, and how it is saved and restored.
+#![tactic(auto)]
+
+mod changes;
+mod item_index;
+mod restores;
+mod saves;
+
+pub use changes::{ChangeContext, make_change};
+pub use item_index::ItemIndex;
+pub use restores::{restore_item, restore_set};
+pub use saves::read_behind;

@@ -1,0 +1,5 @@
+pub mod JsonLemmas
+pub mod MemberLemmas
+pub mod ReaderLemmas
+pub mod ReadingLemmas
+pub mod TokenLemmas
