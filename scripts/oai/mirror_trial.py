@@ -10,7 +10,6 @@ import socket
 import subprocess
 import sys
 import tempfile
-import threading
 import time
 import typing
 from concurrent.futures import ThreadPoolExecutor
@@ -20,7 +19,7 @@ from oai.items import DUBLIN_CORE, JOURNAL, any_fields, configuration, plain_tex
 from oai.journal import Journal
 from oai.model import shown_sets
 from oai.programs import needs, oaihostd
-from oai.relay import LATER, REFUSED_TOKEN, Relay
+from oai.relay import LATER, REFUSED_TOKEN, Relay, cut_answer, cut_request, drop_answer
 from oai.servers import serve_durably, write_configuration
 
 SEED = 27
@@ -170,47 +169,6 @@ def as_compared(record):
 
 def uri(name):
     return f"oai:source.example:{name}"
-
-
-def cut_answer(server, restart):
-    """Half of an answer is handed on, and the server is killed; and started again behind that, where it is said so."""
-
-    def cut(request, relay):
-        answer = relay.answer(request)
-        end(server, restart)
-        return answer[: len(answer) // 2]
-
-    return cut
-
-
-def cut_request(server, restart):
-    """Half of a request is handed on, and the server is killed."""
-
-    def cut(request, relay):
-        with relay.connect() as it:
-            it.sendall(request[: len(request) // 2])
-            time.sleep(0.2)
-            end(server, restart)
-        return b""
-
-    return cut
-
-
-def drop_answer(server, restart):
-    """A request is handed on, and the server is killed once it has answered; nobody is told."""
-
-    def cut(request, relay):
-        relay.answer(request)
-        end(server, restart)
-        return b""
-
-    return cut
-
-
-def end(server, restart):
-    server.kill()
-    if restart:
-        threading.Timer(1, server.start).start()
 
 
 class Trial:

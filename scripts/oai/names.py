@@ -26,6 +26,7 @@ GROUPS = {
         "valid": "documents",
         "well-formed": "documents",
         "mirror-trial": "mirror_trial",
+        "deposit-trial": "deposit_trial",
         "web": "web",
         "package": "package",
     },

@@ -13,9 +13,10 @@ TOP = pathlib.Path(__file__).resolve().parents[2]
 EXAMPLE = "examples/archive.json"
 
 
-def needs(*programs, perl=(), root=False):
-    """Ends with the status 2 where a program or a library of Perl is missing, or the rights of root."""
+def needs(*programs, perl=(), python=(), root=False):
+    """Ends with the status 2 where a program or a library of Perl or of Debian's Python is missing, or the rights of root."""
     missing = [it for it in programs if not shutil.which(it)]
+    missing += [it for it in python if subprocess.run(["/usr/bin/python3", "-c", f"import {it}"], stderr=subprocess.DEVNULL, check=False).returncode]
     missing += [it for it in perl if subprocess.run(["perl", f"-M{it}", "-e", "1"], stderr=subprocess.DEVNULL).returncode]
     missing += ["the rights of root"] * (root and os.getuid() != 0)
     if missing:

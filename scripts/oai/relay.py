@@ -2,6 +2,7 @@
 
 import socket
 import threading
+import time
 
 from oai.servers import PATIENCE
 
@@ -32,7 +33,10 @@ def read_message(connection):
     head, _, body = data.partition(FIELDS_END)
     lengths = [int(it.split(b":")[1]) for it in head.split(b"\r\n") if it.lower().startswith(b"content-length:")]
     while lengths and len(body) < lengths[0]:
-        body += connection.recv(65536)
+        more = connection.recv(65536)
+        if not more:
+            break
+        body += more
     return head + FIELDS_END + body
 
 
@@ -63,13 +67,15 @@ class Relay:
                     pass
 
     def exchange(self, connection):
-        request = read_message(connection)
+        connection.sendall(self.respond(read_message(connection)))
+
+    def respond(self, request):
+        """What is handed back: what the server answers, or what a cut makes of that."""
         for cut in self.cuts:
             if cut[0] in request:
                 self.cuts.remove(cut)
-                connection.sendall(cut[1](request, self))
-                return
-        connection.sendall(self.answer(request))
+                return cut[1](request, self)
+        return self.answer(request)
 
     def answer(self, request):
         """What the server answers."""
@@ -79,3 +85,47 @@ class Relay:
 
     def connect(self):
         return socket.create_connection(("127.0.0.1", self.port_of()), timeout=PATIENCE)
+
+
+# ---- cuts, in which the server is killed, and started again where that is wanted
+
+
+def cut_answer(server, restart):
+    """Half of an answer is handed on, and the server is killed; and started again behind that, where it is said so."""
+
+    def cut(request, relay):
+        answer = relay.answer(request)
+        end(server, restart)
+        return answer[: len(answer) // 2]
+
+    return cut
+
+
+def cut_request(server, restart):
+    """Half of a request is handed on, and the server is killed."""
+
+    def cut(request, relay):
+        with relay.connect() as it:
+            it.sendall(request[: len(request) // 2])
+            time.sleep(0.2)
+            end(server, restart)
+        return b""
+
+    return cut
+
+
+def drop_answer(server, restart):
+    """A request is handed on, and the server is killed once it has answered; nobody is told."""
+
+    def cut(request, relay):
+        relay.answer(request)
+        end(server, restart)
+        return b""
+
+    return cut
+
+
+def end(server, restart):
+    server.kill()
+    if restart:
+        threading.Timer(1, server.start).start()

@@ -1,4 +1,4 @@
-"""Shows where `oaihostd` says that a configuration, or a deposit line, is wrong."""
+"""Shows where `oaihostd` says that a configuration, a deposit line or an XML element is wrong."""
 
 import json
 import pathlib
@@ -291,15 +291,52 @@ def try_repositories(trial):
     trial.check("no such file", trial.call("check", config, "none"), (2, "ok 2\n", ["lines: cannot read"]))
 
 
+# Texts of XML, and their canonical texts.
+CANONICAL = {
+    "<a/>": '<a xmlns=""></a>',
+    "<?xml version='1.0' encoding='utf-8'?>\n<!-- a --><m:a xmlns:m='urn:m'  b='1&#x9;2'\n>x<![CDATA[<]]>&gt;<?p q?></m:a>\n":
+        '<m:a xmlns:m="urn:m" b="1&#9;2" xmlns="">x&lt;&gt;</m:a>',
+}
+
+# Texts that are no XML element, and what is said of them.
+NO_ELEMENTS = {
+    "": "1:1: the text ends within an element, or before one",
+    "<a>\n  <b></c>\n</a>": "2:8: the end tag has not the name of its start tag",
+    "<a>&nbsp;</a>": "1:5: this is no reference that can be resolved without a document type",
+    "<a b='<'/>": "1:7: '<' cannot stand in the value of an attribute",
+    "<a>\n\n<m:b/></a>": "3:5: this tag has a prefix that is not declared, an attribute twice, an illegal declaration, or too many of them",
+    "<a>\x01</a>": "1:4: XML does not allow this character",
+    "<a>\n <!DOCTYPE a>": "2:4: this cannot stand here",
+    "<a><1/></a>": "1:5: this is no name",
+    "<a>\n]]></a>": "2:3: ']]>' cannot stand in a text",
+    "<a>" * 129: "1:386: there are more than 128 levels of elements",
+}
+
+
+def try_elements(trial):
+    """Canonical texts of XML elements, and texts that are none."""
+    for number, (text, wanted) in enumerate(CANONICAL.items()):
+        path = trial.written(f"{number}.xml", text)
+        trial.check(text, trial.call("xml", path), (0, wanted + "\n", []))
+        ran = subprocess.run([oaihostd(), "xml", "-"], input=text.encode(), capture_output=True, check=False, timeout=60)
+        trial.check(f"{text}, from the standard input", (ran.returncode, ran.stdout.decode(), ran.stderr), (0, wanted + "\n", b""))
+    for text, wanted in NO_ELEMENTS.items():
+        trial.check(text, trial.call("xml", trial.written("none.xml", text)), (1, "", [wanted]))
+    latin = trial.written("latin.xml", b"<a>\n\xef</a>")
+    trial.check("an element in Latin-1", trial.call("xml", latin), (1, "", ["2:1: here the text is not in UTF-8"]))
+    trial.check("no such element", trial.call("xml", trial.folder / "none"), (2, "", ["xml: cannot read"]))
+
+
 def reports():
-    """Shows that `oaihostd` says where, and why, a configuration or a deposit line is wrong.
+    """Shows that `oaihostd` says where, and why, a configuration, a deposit line or an XML element is wrong.
 
     Each fault of a configuration, at its line, by `check` and by `serve`; several of them; each refusal of a line that it
     has by itself, by the configuration, or by the lines before it, at its column; and that nothing is said where nothing
-    is wrong. It names each case that differs; its status is 0 where none does.
+    is wrong. Canonical texts of XML elements, and each kind of text that is none. It names each case that differs; its
+    status is 0 where none does.
     """
     with tempfile.TemporaryDirectory() as place:
         trial = Checks(place)
-        for step in (try_configurations, try_several, try_lines, try_repositories):
+        for step in (try_configurations, try_several, try_lines, try_repositories, try_elements):
             step(trial)
     return trial.ended()

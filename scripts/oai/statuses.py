@@ -197,7 +197,7 @@ DAEMON_UNKNOWN = {
     "serve --listen 127.0.0.1:80 a 1 b": "error: the ADDRESS of --listen is no IP address",
     "serve a 1 b --listen": "error: a value is required for '--listen <ADDRESS>' but none was supplied",
 }  # fmt: skip
-COMMANDS = ("serve", "check", "verify", "dump", "checkpoint")
+COMMANDS = ("serve", "check", "verify", "dump", "checkpoint", "xml")
 MANUAL = "packaging/man/oaihostd.8"
 LINE = '{"deposit":"oai:a:1","sets":[],"records":{"oai_dc":[["title","On Sets"]]}}'
 DUMPED = '{"deposit":"oai:a:1","records":{"oai_dc":[["title","On Sets"]]},"sets":[]}\n'

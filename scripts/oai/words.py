@@ -5,9 +5,20 @@ import re
 
 from oai.programs import TOP
 
-HEAD = re.compile(r"^(?:(?:abbrev|unfoldable)\s+)?pub\s+(?:(record|data)\s+)?([^\s:({]+)(.*)$")
+HEAD = re.compile(r"^(?:(?:abbrev|unfoldable)\s+)?pub\s+(?:(record|data|ruleset)\s+)?([^\s:({]+)(.*)$")
 CONSTRUCTOR = re.compile(r"^  ([^\s:({-][^\s:({]*)\s*:")
 TYPE = re.compile(r"^ *pub(?:\(crate\))? (?:struct|enum|trait) (\w+)", re.MULTILINE)
+# An impl of Model, up to the value that contracts see; and an import in it: the crate, the file of specs/, and the words.
+MODEL = re.compile(r"^impl(?:<[^>]*>)? Model for (\w+)[^{]*\{(.*?)ghost Value = \{ (\w+)[^}]*\};", re.MULTILINE | re.DOTALL)
+IMPORT = re.compile(r"ghost use Rattle\.(\w+)\.specs\.(\w+)\.\{([^}]*)\};")
+# Words that keep several meanings, each with the reason.
+EXCEPTIONS = {
+    "◌>>=◌": "the bind of a monad, under its usual sign: of Option, and in oai_xml of Result",
+    "element": "a production of XML's grammar: in oai_answers its bytes, in oai_xml the node of a tree",
+    "start_tag": "a production of XML's grammar: in oai_answers without attributes, in oai_xml with those of a tree",
+    "end_tag": "a production of XML's grammar: the same bytes, in oai_answers by the literals of its code",
+    "spelled_attribute": "a production of XML's grammar: in oai_answers of an escaped value, in oai_xml of an attribute of a tree",
+}
 # What is not a word of the field, and what is. Words of the specification stay: Exchange, Call, Answer, Ask, Reply, front, piece, moment and the like.
 PHRASES = {
     "keeps? what (?:it|was|is|they|he) (?:has |have )?acknowledged": "acknowledged writes are durable",
@@ -84,11 +95,21 @@ def types():
     return places
 
 
+def models():
+    """The files of specs/ that define what contracts see of a type, under the type's own name; each with that name."""
+    for path in sorted(TOP.glob("crates/*/src/**/*.rt")):
+        for name, inside, value in MODEL.findall(path.read_text()):
+            for crate, file, words in IMPORT.findall(inside):
+                if any(value == word.split(" as ")[-1].strip() and name == word.split(" as ")[0].strip() for word in words.split(",")):
+                    yield name, f"{crate}/{file}.antt"
+
+
 def ambiguous_types(words):
-    """Types of whose name another crate has a type, or a definition whose own crate has no such type."""
+    """Types of whose name another crate has a type, or a definition that is not their model and whose own crate has no such type."""
+    own = set(models())
     for name, files in sorted(types().items()):
         homes = {file.split("/")[0] for file in files}
-        defined = {file for group in words.get(name, {}).values() for file in group}
+        defined = {file for group in words.get(name, {}).values() for file in group if (name, file) not in own}
         others = {file for file in defined if file.split("/")[0] not in homes}
         if len(homes) > 1 or others:
             yield name, sorted(files) + sorted(others)
@@ -146,11 +167,12 @@ def words(*crates):
 
     First the words of specs/ that are defined more than once, each with the files that define it. A word is a
     definition of a file of specs/ (abbrev, unfoldable, record, data, or with none of these), or a constructor of a
-    `data`. The definitions of one word whose text is the same count as one. Then the types of src/ (struct, enum,
-    trait) of whose name there is another one in src/, or a definition in specs/ of another crate. Then the phrases of
-    PHRASES in the pages and in the doc comments of src/, each with its line and what to write; but those of MEANT.
-    Blocks of code and words in backquotes are not looked at. The status is 1 where there is such a phrase; and, with
-    the names of crates after it, where one of them defines a word of several meanings.
+    `data`. The definitions of one word whose text is the same count as one. Those of EXCEPTIONS come with the reason
+    why they stay. Then the types of src/ (struct, enum, trait) of whose name there is another one in src/, or a
+    definition in specs/ of another crate that is not the type's own model. Then the phrases of PHRASES in the pages and
+    in the doc comments of src/, each with its line and what to write; but those of MEANT. Blocks of code and words in
+    backquotes are not looked at. The status is 1 where there is such a word without a reason, such a type or such a
+    phrase; with the names of crates after it, only the words that one of them defines count.
     """
     places = collections.defaultdict(dict)
     for path in sorted(TOP.glob("crates/*/specs/*.antt")):
@@ -161,13 +183,15 @@ def words(*crates):
     refused = 0
     for word, texts in sorted(several.items()):
         names = [name for group in texts.values() for name in group]
-        refused += any(name.split("/")[0] in crates for name in names)
-        print(f"{word}: {', '.join(names)}")
-    print(f"{len(several)} of {len(places)} words have several meanings")
+        reason = EXCEPTIONS.get(word)
+        refused += not reason and (not crates or any(name.split("/")[0] in crates for name in names))
+        print(f"{word}: {', '.join(names)}{f' ({reason})' if reason else ''}")
+    excepted = sum(word in EXCEPTIONS for word in several)
+    print(f"{len(several)} of {len(places)} words have several meanings, {excepted} of them with a reason")
     ambiguous = list(ambiguous_types(places))
     for name, files in ambiguous:
         print(f"type {name}: {', '.join(files)}")
     print(f"{len(ambiguous)} types of src/ have a name with another meaning")
     in_pages, in_comments = check_all()
     print(f"{in_pages} phrases in pages, {in_comments} in doc comments")
-    return int(bool(refused or in_pages or in_comments))
+    return int(bool(refused or ambiguous or in_pages or in_comments))
