@@ -256,7 +256,7 @@ pub(crate) struct Quiet {
 impl Sockets<Nothing> for Quiet {
     fn wait(&mut self, _most: Duration) -> io::Result<usize> {
         if self.rounds == 0 {
-            return Err(io::Error::from(ErrorKind::Stop));
+            return Err(io::Error::from(ErrorKind::Other));
         }
         self.rounds -= 1;
         Ok(0)
@@ -285,11 +285,11 @@ pub(crate) struct Nothing;
 
 impl Stream for Nothing {
     fn read(&mut self, _buffer: &mut [u8]) -> io::Result<usize> {
-        Err(io::Error::from(ErrorKind::Stop))
+        Err(io::Error::from(ErrorKind::Other))
     }
 
     fn write(&mut self, _bytes: &[u8]) -> io::Result<usize> {
-        Err(io::Error::from(ErrorKind::Stop))
+        Err(io::Error::from(ErrorKind::Other))
     }
 
     fn finish(&mut self) {}
