@@ -2,7 +2,7 @@
 # By -j crates that do not stand on one another are built side by side, each in a room of its own in the folder ROOMS (build-library). Make begins with
 # the crate that a line of crates.txt names first: there the one with the longest way below it stands. What has not changed takes rt a moment.
 
-named = $(shell sed -n 's/^$1[^:]*://p' crates.txt)
+named = $(shell sed -nE 's/^$1( [^:]*)?://p' crates.txt)
 used = $(filter $(notdir $(wildcard crates/*)),$(call named,$1))
 below = $(sort $(foreach crate,$(call used,$1),$(crate) $(call below,$(crate))))
 libraries := $(call below,$(PROGRAM))

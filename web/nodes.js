@@ -62,7 +62,8 @@ export function fill(list, values, make, first = 0) {
         const more = element("li", {}, button(`Show ${Math.min(rest, 200)} more of ${rest.toLocaleString("en")}`, () => {
             more.remove();
             fill(list, values, make, first + 200);
-            list.children[first + 200].querySelector("a, summary").focus();
+            const next = list.children[first + 200];
+            (next.querySelector("a, summary") || next).focus();
         }));
         list.append(more);
     }

@@ -1,6 +1,8 @@
 // Requests of OAI-PMH 2.0 and the documents that answer them. Section numbers are those of the protocol document.
 
 const NAMESPACE = "http://www.openarchives.org/OAI/2.0/";
+const DECLARATIONS = "http://www.w3.org/2000/xmlns/";
+const SCHEMA_INSTANCE = "http://www.w3.org/2001/XMLSchema-instance";
 
 /** The repository and the arguments that a fragment `#/NAME?ARGUMENTS` names, Identify where it has no arguments; null where it names none. */
 export function placeOf(fragment) {
@@ -60,11 +62,45 @@ export function readHeader(header) {
     };
 }
 
-/** The fields of a record, each with its name and its text; none where it has no metadata. */
-export function readFields(record) {
+/** The element that a record is, or null where it has no metadata. */
+export function containerOf(record) {
     const metadata = childOf(record, "metadata");
-    const container = metadata && metadata.firstElementChild;
-    return container ? [...container.children].map((field) => ({ name: field.localName, text: field.textContent })) : [];
+    return metadata && metadata.firstElementChild;
+}
+
+/** Whether an element is a list of fields, whose names and texts are all that there is to show. */
+export function isList(container) {
+    const isPlain = (attribute) => attribute.namespaceURI === DECLARATIONS || attribute.namespaceURI === SCHEMA_INSTANCE;
+    return [...container.attributes].every(isPlain)
+        && [...container.children].every((field) => field.children.length === 0 && field.attributes.length === 0)
+        && [...container.childNodes].every((node) => node.nodeType === Node.ELEMENT_NODE || !isShown(node, false));
+}
+
+/** The fields of such a list, each with its name and its text. */
+export function readFields(container) {
+    return [...container.children].map((field) => ({ name: field.localName, text: field.textContent }));
+}
+
+/** Whether a node is an element, or a text; white space alone stands between elements for the eye, and counts where it is kept. */
+function isShown(node, isKept) {
+    const isText = node.nodeType === Node.TEXT_NODE || node.nodeType === Node.CDATA_SECTION_NODE;
+    return node.nodeType === Node.ELEMENT_NODE || (isText && (isKept || !/^[ \t\r\n]*$/.test(node.data)));
+}
+
+/** An element as it is written: its name, the namespaces that it declares, by their prefixes, its attributes, and its elements and texts in order.
+ * White space alone counts where xml:space says so. */
+export function readTree(container, isKept = false) {
+    const attributes = [...container.attributes];
+    const declared = attributes.filter((it) => it.namespaceURI === DECLARATIONS).map((it) => ({ prefix: it.prefix ? it.localName : "", namespace: it.value }));
+    const space = container.getAttribute("xml:space");
+    const keeps = space === null ? isKept : space === "preserve";
+    return {
+        name: container.nodeName,
+        namespaces: declared.sort((one, other) => one.prefix < other.prefix ? -1 : 1),
+        attributes: attributes.filter((it) => it.namespaceURI !== DECLARATIONS).map((it) => ({ name: it.name, value: it.value })),
+        inside: [...container.childNodes].filter((node) => isShown(node, keeps)),
+        keeps,
+    };
 }
 
 /** What a list says of its parts (section 3.5); null where it came whole. */

@@ -1,6 +1,6 @@
 // What is shown of each answer. A view has a title and the nodes below it; `place` is the repository and the arguments of the request.
 
-import { childOf, childrenOf, fragmentOf, readFields, readHeader, readSets, readToken, textOf } from "./oai.js";
+import { childOf, childrenOf, containerOf, fragmentOf, isList, readFields, readHeader, readSets, readToken, readTree, textOf } from "./oai.js";
 import { button, code, element, fill, folded, foreign, line, linked, terms } from "./nodes.js";
 import { DELETED_RECORDS, GRANULARITIES, counted, wordsOfError, wordsOfStatus } from "./words.js";
 
@@ -78,6 +78,47 @@ function setsView(place, answer, prefix) {
     return { title: "Sets", body: [find, list], status: counted(all.length, "set") };
 }
 
+/** What stands in an element: an element below it, or a text. */
+function treePart(node, keeps) {
+    return node.nodeType === Node.ELEMENT_NODE ? treeItem(node, keeps) : element("li", { class: "text", tabindex: "-1" }, foreign(node.data));
+}
+
+/** The namespace that a prefix stands for; a default one has no prefix. */
+function namespaceLine({ prefix, namespace }) {
+    const front = prefix === "" ? "namespace" : element("span", {}, "prefix ", code(prefix), " is");
+    return element("span", { class: "namespace" }, front, " ", namespace === "" ? "none" : foreign(namespace));
+}
+
+/** An element as an item of a tree: its name, its namespaces and attributes, and below it what stands in it. Nothing of it becomes an element of the page. */
+function treeItem(container, isKept) {
+    const tree = readTree(container, isKept);
+    const about = [
+        ...tree.namespaces.map(namespaceLine),
+        ...tree.attributes.map(({ name, value }) => element("span", { class: "attribute" }, code(name), " = ", linked(value))),
+    ];
+    const made = element("li", { tabindex: "-1" }, code(tree.name), ...about.flatMap((part) => [" ", part]));
+    const [only] = tree.inside;
+    if (tree.inside.length === 1 && only.nodeType !== Node.ELEMENT_NODE) {
+        made.append(" ", element("span", { class: "text" }, linked(only.data)));
+    } else if (tree.inside.length > 0) {
+        made.append(fill(element("ul", {}), tree.inside, (node) => treePart(node, tree.keeps)));
+    }
+    return made;
+}
+
+/** The metadata of a record: the terms of its fields, or the tree of its element; nothing where there is none. */
+function metadataView(record) {
+    const container = containerOf(record);
+    if (container === null) {
+        return [];
+    }
+    if (!isList(container)) {
+        return [element("ul", { class: "tree" }, treeItem(container, false))];
+    }
+    const fields = readFields(container).map(({ name, text }) => [code(name), linked(text)]);
+    return fields.length > 0 ? [terms(fields)] : [];
+}
+
 /** A record or a header of a list, or the record of GetRecord. */
 function recordView(place, record, header, prefix) {
     const { identifier, datestamp, sets, isDeleted } = readHeader(header);
@@ -87,13 +128,8 @@ function recordView(place, record, header, prefix) {
         ...sets.map((set) => element("span", {}, "set ", requestLink(place, { verb: "ListRecords", metadataPrefix: prefix, set }, code(set)))),
         ...(isDeleted ? [] : [requestLink(place, { verb: "ListMetadataFormats", identifier }, "formats")]),
     );
-    const fields = readFields(record).map(({ name, text }) => [code(name), linked(text)]);
     const title = element("h3", {}, requestLink(place, { verb: "GetRecord", identifier, metadataPrefix: prefix }, code(identifier)));
-    const made = element("article", { class: isDeleted ? "record deleted" : "record" }, title, about);
-    if (fields.length > 0) {
-        made.append(terms(fields));
-    }
-    return made;
+    return element("article", { class: isDeleted ? "record deleted" : "record" }, title, about, ...metadataView(record));
 }
 
 /** GetRecord (section 4.1). */

@@ -30,6 +30,14 @@ BAD_LINES = [
     '{"deposit":"ID","sets":["none"],"records":{"oai_dc":[]}}',
 ]  # fmt: skip
 
+# The same of puts, and of records that are texts, which `oaihost` takes for no commands, and `oaihostd` for elements.
+TEXT_LINES = [
+    '{"put":"ID","sets":[],"records":{"oai_dc":[]}}', '{"put":"ID","deposit":"ID","sets":[],"records":{"oai_dc":[]}}', '{"put":1,"sets":[],"records":{}}',
+    '{"put":"ID"}', '{"put":"ID","sets":[],"records":{"oai_dc":[]},"about":{}}',
+    '{"deposit":"ID","sets":[],"records":{"oai_dc":"<dc/>"}}', '{"deposit":"ID","sets":[],"records":{"oai_dc":"<"}}', '{"deposit":"x","sets":[],"records":{"zz":""}}',
+    '{"deposit":"ID","sets":[],"records":{"oai_dc":[["","<dc/>"]]}}', '{"deposit":"ID","sets":["x:"],"records":{"oai_dc":[],"jnl":"<a>&x;</a>"}}',
+]  # fmt: skip
+
 # Queries that are no request, or one that is hardly taken for it.
 LISTED = "verb=ListIdentifiers&metadataPrefix=oai_dc"
 BAD_QUERIES = [
@@ -104,10 +112,10 @@ def three_repositories(chooser):
 
 
 class Author:
-    """Writes exchanges at random, and knows by the model what they are answered."""
+    """Writes exchanges at random, and knows by the model what they are answered. Where it has texts, some records are."""
 
-    def __init__(self, seed):
-        self.chooser = random.Random(seed)
+    def __init__(self, seed, has_texts=False):
+        self.chooser, self.bad_lines = random.Random(seed), BAD_LINES + (TEXT_LINES if has_texts else [])
         self.configuration = three_repositories(self.chooser)
         self.host = Host(self.configuration)
         self.moment = START
@@ -176,7 +184,7 @@ class Author:
         return self.posted(repository, {"set": self.choice(SET_SPECS), "name": any_text(self.chooser)})
 
     def bad_line(self, repository):
-        return "POST", f"/deposit/{repository.name}", self.choice(BAD_LINES).replace("ID", self.identifier(repository))
+        return "POST", f"/deposit/{repository.name}", self.choice(self.bad_lines).replace("ID", self.identifier(repository))
 
     # ---- requests
 

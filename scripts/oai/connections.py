@@ -1,5 +1,6 @@
 """Measures servers beside many connections."""
 
+import json
 import os
 import re
 import resource
@@ -170,6 +171,14 @@ def beside(server, slow):
         return rate(server)
 
 
+def beside_keys(folders):
+    """GetRecord a second with keys, in parts of a hundred of those without, in turns; each folder has an archive."""
+    with open(f"{folders[0]}.keys", "w", encoding="utf-8") as it:
+        json.dump({"keys": [{"name": NAME, "digests": ["00" * 32] * 16}]}, it)
+    with Server(MADE, folders[0], durable=True) as server, Server(MADE, folders[1], durable=True, behind=[it.name]) as guarded:
+        return [100 / rate(server) * rate(guarded) for _ in range(RUNS)]
+
+
 def asked_at_once(server):
     """By how many megabytes memory grows where 1,024 clients ask for one part each."""
     server.forget_memory()
@@ -191,10 +200,10 @@ def daemon_bench():
 
     These are the processor time of a deposited line in messages of 500, GetRecord a second by wrk with one connection
     and with 64, with 64 beside 900 idle connections and beside 900 that send a byte a second (1,024 are open at most),
-    the memory that 1,024 clients make it take which each ask for one part of 1,000 records at once, and the memory
-    after a load and after a start on its journal. Each figure is the median of RUNS runs, interleaved, 5 if it is not
-    set. It prints a line for each, with the load average; it judges nothing. ITEMS is the number of items, 20000 if it
-    is not set.
+    the memory that 1,024 clients make it take which each ask for one part of 1,000 records at once, the memory after a
+    load and after a start on its journal, and GetRecord a second with keys of depositors beside without. Each figure is
+    the median of RUNS runs, interleaved, 5 if it is not set. It prints a line for each, with the load average; it
+    judges nothing. ITEMS is the number of items, 20000 if it is not set.
     """
     needs("wrk")
     allow_files(8_192)
@@ -217,3 +226,5 @@ def daemon_bench():
             told("GetRecord, 64 connections beside 900 that are idle", idle, "a second")
             told("GetRecord, 64 connections beside 900 that send a byte a second", slow, "a second")
             told("1,024 clients that each ask for one part of 1,000 records", [asked_at_once(server)], "MB more")
+        if RUNS > 1:
+            told("GetRecord with keys", beside_keys([f"{top}/0", f"{top}/1"]), "% of those without")

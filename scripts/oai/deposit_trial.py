@@ -15,7 +15,7 @@ import typing
 
 from oai import trials
 from oai.clients import exchange, token_of
-from oai.exports import LIMIT, SETS, Export, dumped
+from oai.exports import ELEMENT, LIMIT, SETS, Export, dumped
 from oai.items import NAME, configuration, deposit, identifier_of
 from oai.programs import TOP, needs, oaihostd
 from oai.relay import FIELDS_END, LATER, REFUSED_TOKEN, Relay, answer_of, cut_answer, cut_request, drop_answer, read_message
@@ -89,8 +89,12 @@ class Archive:
 
     def dump(self, name=NAME):
         """The lines of a dump, as they are compared."""
+        return (dumped(json.loads(it)) for it in self.dumped_lines(name))
+
+    def dumped_lines(self, name=NAME):
+        """The lines of a dump."""
         with subprocess.Popen([oaihostd(), "dump", f"{self.folder}/archive", name], stdout=subprocess.PIPE) as program:
-            yield from (dumped(json.loads(it)) for it in program.stdout)
+            yield from (it.removesuffix(b"\n") for it in program.stdout)
 
 
 class Kills(threading.Thread):
@@ -323,6 +327,120 @@ def check_load(trial):
         print(f"    {figures}, {export.count / seconds:.0f} lines a second; a dump of {lines} lines is compared", flush=True)
 
 
+# ---- puts
+
+
+CHANGES, RESTORED, LEFT_OUT = 100, 20, 50
+
+
+def check_again(trial):
+    """A dump of ITEMS items is sent as puts, and again: what is held so keeps its datestamp."""
+    export = Export(f"{trial.folder}/export.jsonl", random.Random(SEED), ITEMS)
+    export.write_archive()
+    with Archive(f"{trial.folder}/again") as archive:
+        archive.start()
+        relay = Watcher(archive)
+        cuts = [drop_answer(archive, True), say(LATER), lose_lines]
+        send_puts(trial, archive, relay, "an empty archive, and a kill", export.file.name, {}, *cuts)
+        compare_dumps(trial, export.dump(), archive.dump())
+        lines = list(archive.dumped_lines())
+        send_puts(trial, archive, relay, "its dump", trial.file(*lines), archive.headers(), lose_lines)
+        restored = {json.loads(it)["deposit"] for it in lines[-RESTORED:]}
+        archive.post(*({"delete": it} for it in restored))
+        names = change_lines(lines) | restored
+        changed = trial.file(*lines)
+        trial.check("how many are to change", len(names), CHANGES)
+        before = send_puts(trial, archive, relay, f"{CHANGES} changes, and a kill", changed, archive.headers(), lose_lines, cut_answer(archive, True), names=names)
+        compare_dumps(trial, (dumped(json.loads(it)) for it in lines), archive.dump())
+        before = send_puts(trial, archive, relay, f"{CHANGES} changes again", changed, before)
+        check_left_out(trial, archive, relay, lines, before)
+
+
+def send_puts(trial, archive, relay, what, path, before, *cuts, names=()):
+    """Sends a file as puts, in which just the items of these names have changed; where there were none before, all are new. The headers that stand then."""
+    # (so that what changes has another datestamp)
+    time.sleep(1.1)
+    relay.posts, relay.cuts = [], spread(cuts, os.path.getsize(path) // LIMIT)
+    begun = time.monotonic()
+    printed, _ = trial.deposit(what, path, relay.url(), "--put")
+    seconds = time.monotonic() - begun
+    trial.check(f"{what}: cuts that were not made", len(relay.cuts), 0)
+    trial.expect(not any(b'"deposit"' in body for body, _ in relay.posts), f"{what}: a line was sent as a deposit")
+    count = sum(map(int, re.findall(r"\d+", printed)))
+    after = archive.headers()
+    stamped = {it for it in after if after[it] != before.get(it)}
+    wanted = set(names) if before else set(after)
+    trial.expect(stamped == wanted, f"{what}: other items have changed: {sorted(stamped ^ wanted)[:5]}")
+    trial.check(f"{what}: how many items there are", len(after), ITEMS)
+    print(f"    {count / seconds:.0f} lines a second; {len(stamped)} of {len(after)} datestamps are new", flush=True)
+    return after
+
+
+def change_lines(lines):
+    """Changes so many items of a dump, whose sets stand first, each in one way. Gives their identifiers."""
+    names = set()
+    for number, at in enumerate(random.Random(SEED).sample(range(len(SETS), len(lines) - RESTORED), CHANGES - RESTORED)):
+        line = json.loads(lines[at])
+        change_of(number % 5)(line)
+        lines[at] = json.dumps(line).encode()
+        names.add(line["deposit"])
+    return names
+
+
+def change_of(number):
+    """A way in which a line changes: a field, the sets, the order of fields, a record that is new or has a field more, one that is an element."""
+    return [
+        lambda line: line["records"]["oai_dc"].append(["rights", "None"]),
+        lambda line: line.update(sets=[] if line["sets"] else ["letters"]),
+        lambda line: line["records"]["oai_dc"].reverse(),
+        lambda line: line["records"].update(jnl=[["pages", "changed"]]),
+        lambda line: line["records"].update(jnl=ELEMENT.replace("7", "8")),
+    ][number]
+
+
+def check_left_out(trial, archive, relay, lines, before):
+    """With --whole the items that the file does not name are deleted, and nothing else changes. A file of puts names its items too."""
+    left_out = {json.loads(it)["deposit"] for it in lines[-LEFT_OUT:]}
+    path = trial.file(*(it.replace(b'"deposit":', b'"put":', 1) for it in lines[:-LEFT_OUT]))
+    relay.posts = []
+    time.sleep(1.1)
+    printed, _ = trial.deposit("all but some", path, relay.url(), "--put", "--whole", "--yes")
+    trial.contains("all but some", printed, f"refused 0, deleted {LEFT_OUT}\n")
+    after = archive.headers()
+    trial.check("all but some: which have changed", {it for it in after if after[it] != before[it]}, left_out)
+    trial.check("all but some: which are deleted", {it for it in after if after[it][0]}, left_out)
+
+
+# What is sent of a line with --put: what is named is changed, and all else as it is.
+SENT = {
+    b'{"deposit":"oai:x:1","sets":[],"records":{"oai_dc":[["title","\\u00e9\\/"]]}}': '{"put":"oai:x:1","sets":[],"records":{"oai_dc":[["title","é/"]]}}'.encode(),
+    b' { "records" : {"oai_dc":[]}, "sets":[], "deposit" : "oai:x:2" } ': b'{"records":{"oai_dc":[]},"sets":[],"put":"oai:x:2"}',
+    b'{"deposit":1}': b'{"put":1}',
+} | {
+    it: it
+    for it in [
+        b'{"put":"oai:x:1","sets":[],"records":{"oai_dc":[]}}', b'{"put":"oai:x:1","deposit":"oai:x:1","sets":[],"records":{"oai_dc":[]}}', b'{"delete":"oai:x:1"}',
+        b'{"set":"deposit","name":"deposit"}', b'{"deposit":', b'["deposit"]', b'"deposit"', b'{"deposit":"\xff"}', b'{"deposit":"\\ud800"}', b"[" * 5000,
+        b'\xef\xbb\xbf{"deposit":"oai:x:1","sets":[],"records":{"oai_dc":[]}}',
+    ]
+}  # fmt: skip
+
+
+def check_sent(trial):
+    """What is sent of lines of each kind with --put."""
+    with Archive(f"{trial.folder}/sent") as archive:
+        archive.start()
+        relay = Watcher(archive)
+        trial.deposit("lines of each kind", trial.file(*SENT), relay.url(), "--put", status=1)
+        trial.check("what was sent", relay.posts[0][0].split(b"\n"), list(SENT.values()))
+
+
+def check_puts(trial):
+    """What --put sends, and what it leaves as it is."""
+    check_sent(trial)
+    check_again(trial)
+
+
 # ---- limits
 
 
@@ -500,17 +618,19 @@ def check_memory(trial, archive, direct):
     compare_dumps(trial, map(dumped, wanted), archive.dump())
 
 
-PARTS = {"load": check_load, "limits": check_limits, "whole": check_whole, "ends": check_ends}
+PARTS = {"load": check_load, "puts": check_puts, "limits": check_limits, "whole": check_whole, "ends": check_ends}
 
 
-def deposit_trial(*parts: typing.Literal["load", "limits", "whole", "ends"]):
+def deposit_trial(*parts: typing.Literal["load", "puts", "limits", "whole", "ends"]):
     """Shows that scripts/deposit sends a file of lines completely, whatever happens to the server and the connections.
 
     The server is one of `oaihostd`; between the two stands a relay, which cuts, and notes each message. The parts:
-      load     ITEMS items and 10,000 sets, some of the items changed or deleted, and lines that are refused, of each kind. Meanwhile the server is killed
+      load     ITEMS items and 10,000 sets, some of the items changed or deleted, or elements, and lines that are refused, of each kind. Meanwhile the server is killed
                at moments at random, when half of a message has come, when half of an answer is handed on, and when the answer is lost; it says 503;
                connections end early. Then each line was acknowledged once, in its order; what was refused was printed with its number, and nothing else;
                and a dump is, both sorted, what was to be deposited, line by line
+      puts     --put: what is sent of lines of each kind; ITEMS items, their dump, and the dump with CHANGES changes, each sent twice, while the server is
+               killed, and answers are lost. Just what differs has a new datestamp; with --whole besides what is missing
       limits   messages of exactly the limit, and of one byte more; files of nothing and of blank lines; standard input; purges
       whole    --whole: without a terminal, at one, after a refusal, without an item; deletions whose answers are lost; lists that have to wait. Just what
                is missing is deleted, and all other items keep their datestamps

@@ -9,9 +9,10 @@ import xml.etree.ElementTree as ElementTree
 
 from oai import interop
 from oai.author import START, Author, asked_script
+from oai.clients import get, post
 from oai.items import body_of, configuration, deposit
-from oai.programs import needs, oaihost
-from oai.servers import PATIENCE, write_configuration
+from oai.programs import needs, oaihost, oaihostd
+from oai.servers import PATIENCE, Server, write_configuration
 
 SCHEMA = "scripts/valid/OAI-PMH.xsd"
 OAI = "{http://www.openarchives.org/OAI/2.0/}"
@@ -196,12 +197,52 @@ def check_odd(count):
     check_asked(count, "the four classes", configuration(100, 60, 1, 10), "".join(it + "\n" for it in asked))
 
 
+# Records of the formats whose schemas are here: written in several ways, with languages; each with what a strict reader refuses.
+LOCATION = 'xmlns:i="http://www.w3.org/2001/XMLSchema-instance" i:schemaLocation="http://host.example/jnl/ http://host.example/jnl.xsd"'
+ELEMENTS = [
+    ("oai_dc", '<dc xmlns="http://www.openarchives.org/OAI/2.0/oai_dc/"><d:title xmlns:d="http://purl.org/dc/elements/1.1/" xml:lang="pt-BR">A &amp; B</d:title></dc>'),
+    ("oai_dc", '<o:dc xmlns:o="http://www.openarchives.org/OAI/2.0/oai_dc/" xmlns="http://purl.org/dc/elements/1.1/"><date>1878</date><!-- c --><title/></o:dc>'),
+    ("jnl", f'<j:article xmlns:j="http://host.example/jnl/" {LOCATION}><j:volume>7</j:volume><j:pages><![CDATA[1-2]]></j:pages></j:article>'),
+    ("jnl", '<?xml version="1.0"?><article xmlns="http://host.example/jnl/"><pages>&lt;3&gt;</pages></article>'),
+]
+INVALID = [
+    ("oai_dc", '<dc xmlns="http://www.openarchives.org/OAI/2.0/oai_dc/"><title>in no namespace of Dublin Core</title></dc>'),
+    ("jnl", '<article xmlns="http://host.example/jnl/"><volume n="1">7</volume></article>'),
+]
+
+
+def documents_of(elements, folder):
+    """The files of the documents, in a folder, that a server of `oaihostd` answers for these records."""
+    lines = [deposit(f"oai:archive:{number}", [], {"oai_dc": []} | {prefix: text}) for number, (prefix, text) in enumerate(elements)]
+    queries = [f"verb=GetRecord&metadataPrefix={prefix}&identifier=oai:archive:{number}" for number, (prefix, _) in enumerate(elements)]
+    queries += [f"verb=ListRecords&metadataPrefix={prefix}" for prefix in ("oai_dc", "jnl")]
+    paths = []
+    with Server(configuration(100, 60, 10, 100), durable=True) as server:
+        said = post(server.connect(), lines)
+        if any(not it.startswith("ok ") for it in said):
+            raise SystemExit(f"a deposit of elements was answered {said}")
+        for number, query in enumerate(queries):
+            paths.append(f"{folder}/{number}.xml")
+            with open(paths[-1], "wb") as it:
+                it.write(get(server.connect(), query)[1])
+    return paths
+
+
+def check_elements(count):
+    """Records that are elements, where their schemas are here; and that what no schema has is refused: how often it is not."""
+    with tempfile.TemporaryDirectory(prefix="valid-") as folder:
+        count.add("elements", documents_of(ELEMENTS, folder))
+        paths = documents_of(INVALID, folder)[: len(INVALID)]
+        return len(paths) - len(refused(paths))
+
+
 def valid(scripts: int = 100, lines: int = 200, seed: int = 57):
     """Shows that documents are valid by a schema of OAI-PMH.
 
     That is scripts/valid/OAI-PMH.xsd, which is written from the text of the protocol. The documents are
       all that the harvests of `interop` are answered;
       all that `ask` answers to SCRIPTS scripts of `fuzz`, of the seed SEED and the ones after it, of LINES lines each;
+      those of `oaihostd` for records that are elements of oai_dc and of the format of `interop`;
       those of a script that asks for each of four classes, which the specification of this repository allows and the schema refuses:
         a year 0000          a `from` or `until` of the year 0000, which XML Schema lacks, is repeated in `request`
         a bare %             an identifier has a `%` without two hexadecimal digits
@@ -212,8 +253,9 @@ def valid(scripts: int = 100, lines: int = 200, seed: int = 57):
     M is 0. It needs what `interop` needs; OAIHOSTD and ITEMS are as there.
     """
     interop.check_needs()
+    oaihostd()
     count = Count()
-    differences = check_schema()
+    differences = check_schema() + check_elements(count)
     check_odd(count)
     check_fuzz(count, scripts, lines, seed)
     differences += interop.harvest_all(lambda *place: KeptHarvest(*place, count)).differences

@@ -8,6 +8,7 @@ import subprocess
 import sys
 from xml.parsers import expat
 
+from oai.element_texts import fault_of
 from oai.tools import Tool
 
 # What stands between two texts: no character of XML.
@@ -177,6 +178,9 @@ def is_declared_otherwise(text):
 def differences(text, read, libxml2):
     """How what is read of a text differs from what the others read."""
     seen, canonical = seen_by_expat(text), libxml2.seen(text)
+    at = fault_of(text)
+    if at != (int(read[1:]) if read[0] == "!" else None):
+        yield f"not as the productions have it: {at}"
     if read[0] == "!":
         if seen is not None and canonical is not None and not is_declared_otherwise(text):
             yield f"refused at byte {read[1:]}, and taken by both"
@@ -200,7 +204,8 @@ def elements(count: int, seed: int = 1):
     has a document type. Not counted are texts that name another encoding than UTF-8 or the version `1.`, which both
     others pass over, and names by the fifth edition, which expat refuses. Of a text that is taken the others have to
     see the same in it as in its canonical text: names with their namespaces, attributes with their values, and texts;
-    comments and instructions are left out. Each difference is printed. The last line is
+    comments and instructions are left out. A text that is refused has to be so at the byte of its first fault, by the
+    productions (scripts/oai/element_texts.py). Each difference is printed. The last line is
     `N texts, M taken, D differences`; the status is 0 where D is 0.
     """
     author, libxml2 = Author(f"elements {seed}"), Libxml2()

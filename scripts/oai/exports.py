@@ -13,6 +13,9 @@ SETS = {"theses": "Theses & Dissertations", "theses:law": "<Law>", "theses:law:c
 
 EMPTY = {"oai_dc": []}
 
+# A record that is an element, in canonical text, as a dump has it.
+ELEMENT = '<article xmlns="http://host.example/jnl/"><volume n="1">&lt;7&gt; 手紙</volume></article>'
+
 
 def dumped(command):
     """A line as it is compared: members and sets in their order, nothing between them."""
@@ -31,6 +34,8 @@ WRONG = {
     "7 unknown-format": [deposit("oai:x:1", [], EMPTY | {"marc": []})],
     "8 no-dc": [deposit("oai:x:1", [], {"jnl": []}), deposit("oai:x:1", [], {})],
     "9 unknown-field": [deposit("oai:x:1", [], {"oai_dc": [["headline", "x"]]})],
+    "20 bad-xml 3": [deposit("oai:x:1", [], EMPTY | {"jnl": "<a>"}), deposit("oai:x:1", [], {"oai_dc": " <a"})],
+    "21 not-of-format": [deposit("oai:x:1", [], EMPTY | {"jnl": "<article/>"}), deposit("oai:x:1", [], {"oai_dc": "<dc/>"})],
     "11 too-large": [deposit("oai:x:1", [], {"oai_dc": [["title", "x" * 1_048_576]]})],
     "13 no-such-item": [{"delete": "oai:x:1"}],
     "15 not-transient": [{"purge": "2024-12-31"}],
@@ -73,6 +78,8 @@ class Export:
         records = line["records"]
         if number % 7 == 0:
             records["jnl"] = any_fields(self.chance, JOURNAL["fields"])
+        if number % 13 == 0:
+            records["jnl"] = ELEMENT
         if number % 11 == 0:
             records["oai_dc"] += any_fields(self.chance, DUBLIN_CORE)
         self.write(line)
@@ -97,6 +104,14 @@ class Export:
         line = json.dumps(deposit("oai:x:1", [], {"oai_dc": [["title", "x" * LIMIT]]})).encode()
         self.write(line, f"has {len(line):,} bytes, more than {LIMIT:,}: it is not sent")
         self.too_long += 1
+
+    def write_archive(self):
+        """Adds sets, and as many items as there may be."""
+        for spec, name in SETS.items():
+            self.write_set(spec, name)
+        for number in range(self.most):
+            self.write_item(number)
+        self.file.close()
 
     def fill(self):
         """Adds as many sets as there may be, as many items as there may be, and one more of each, with wrong lines between."""

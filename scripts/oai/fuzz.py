@@ -73,7 +73,7 @@ class Script:
     be equal, for the first so many lines of its input."""
 
     def __init__(self, seed, lines):
-        author = Author(seed)
+        author = Author(seed, has_texts=True)
         self.seed, self.configuration = seed, author.configuration
         self.exchanges, self.asked = asked_script(author, lines)
         self.finished = sum(it.finished for it in author.host.repositories.values())

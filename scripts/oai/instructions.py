@@ -8,7 +8,8 @@ from concurrent.futures import ThreadPoolExecutor
 
 from oai import callgrind
 from oai.clients import Client, token_of
-from oai.items import CHUNK, LISTED, NAME, SEED, bodies_of, body_of, configuration, identifier_of, item
+from oai.items import CHUNK, LISTED, NAME, SEED, bodies_of, body_of, configuration, identifier_of, item, plain_text
+from oai.model import Repository
 from oai.programs import needs, oaihost
 from oai.servers import Server, write_configuration
 
@@ -259,3 +260,55 @@ def instructions_growth(*items: int):
     for name in columns[0]:
         row = [column[name] for column in columns]
         print(f"| {name} | " + " | ".join(f"{round(it):,}" for it in row) + f" | {row[-1] / row[0]:.2f} |")
+
+
+# ---- the same records as lists of fields, and as elements
+
+# How many letters a text has, so that a record has some 2,000 bytes of XML.
+LETTERS = 500
+
+
+def both_forms(settings, count):
+    """Lines of so many items whose records are lists of fields, and lines of as many whose records are the elements that those are printed as."""
+    repository, lists, elements = Repository("http://host.example", settings), [], []
+    for number in range(count):
+        line = item(number)
+        line["records"]["oai_dc"].append(("description", plain_text(random.Random(number), LETTERS)[:LETTERS]))
+        text = repository.metadata(repository.item_of(line), "oai_dc")
+        lists.append(line)
+        elements.append(line | {"records": {"oai_dc": text}})
+    return lists, elements
+
+
+class FormCounter(ServerCounter):
+    """A server under callgrind, whose items are these lines; those of the second half are deposited while it counts."""
+
+    def __init__(self, server, lines):
+        self.server, self.size, self.client = server, len(lines), Client(server)
+        self.lines = lines
+
+    def figures(self):
+        half = self.size // 2
+        self.client.post([body_of([it]) for it in self.lines[:half]])
+        ask = lambda: [len(self.client.get(f"verb=GetRecord&{LISTED}&identifier={it['deposit']}")) for it in self.lines[:half]]
+        ask()
+        counted, lengths = self.counted(ask)
+        return {"a deposit line": self.deposits(self.lines[half:]), "GetRecord": counted / half, "bytes of a document": sum(lengths) / half}
+
+
+def instructions_elements(items: int = 200):
+    """Counts the instructions of records that are elements, beside those of the same records as lists of fields.
+
+    A server of `oaihostd` under valgrind's callgrind is given ITEMS items, each with a list of fields in oai_dc of some 2,000
+    bytes of XML; another one the elements that the first one prints. Of each, half of the deposits are counted, and
+    GetRecord of the others. It prints a table; it judges nothing. What is deposited comes from a fixed seed.
+    """
+    needs("valgrind", "callgrind_control")
+    made, columns = configuration(CHUNK, LIFETIME, 100, 2 * items), []
+    for lines in both_forms(made["repositories"][0], items):
+        with Server(made, durable=True, front=lambda folder: callgrind.counting(f"{folder}/counted", "--instr-atstart=no")) as server:
+            columns.append(FormCounter(server, lines).figures())
+    lists, elements = columns
+    print("| Instructions | fields | element | ratio |\n|---|---:|---:|---:|")
+    for name in lists:
+        print(f"| {name} | {lists[name]:,.0f} | {elements[name]:,.0f} | {elements[name] / lists[name]:.2f} |")

@@ -38,6 +38,51 @@ class Journal:
         return records
 
 
+def sip_hash(data):
+    """SipHash-1-3 of the bytes, under the keys 0 and 0."""
+    v0, v1, v2, v3 = 0x736F6D6570736575, 0x646F72616E646F6D, 0x6C7967656E657261, 0x7465646279746573
+    mask = (1 << 64) - 1
+
+    def rotated(x, by):
+        return (x << by | x >> (64 - by)) & mask
+
+    def turn():
+        nonlocal v0, v1, v2, v3
+        v0, v2 = (v0 + v1) & mask, (v2 + v3) & mask
+        v1, v3 = rotated(v1, 13) ^ v0, rotated(v3, 16) ^ v2
+        v0, v2 = (rotated(v0, 32) + v3) & mask, (v2 + v1) & mask
+        v3, v1 = rotated(v3, 21) ^ v0, rotated(v1, 17) ^ v2
+        v2 = rotated(v2, 32)
+
+    whole = len(data) // 8 * 8
+    words = [data[at : at + 8] for at in range(0, whole, 8)] + [data[whole:].ljust(7, b"\0") + bytes([len(data) % 256])]
+    for word in (int.from_bytes(it, "little") for it in words):
+        v3 ^= word
+        turn()
+        v0 ^= word
+    v2 ^= 0xFF
+    for _ in range(3):
+        turn()
+    return v0 ^ v1 ^ v2 ^ v3
+
+
+def set_version(path, version):
+    """Gives the first record of a journal another version, of one digit, and each frame the digest that it then has."""
+    with open(path, "rb") as file:
+        held = file.read()
+    at, digest, frames = 0, 0, []
+    while held[at : at + 1] in OPEN:
+        end = held.index(b"\n", at)
+        head = held[at + 1 : end].rpartition(b" ")[0] + b" "
+        body = held[end + 1 : end + 1 + int(head.split()[3])]
+        body = body if frames else str(version).encode() + body[1:]
+        digest = sip_hash(digest.to_bytes(8, "little") + head + body) or 1
+        frames.append(held[at : at + 1] + head + b"%016x\n" % digest + body + b"\n")
+        at = end + 2 + len(body)
+    with open(path, "wb") as file:
+        file.write(b"".join(frames) + b"-")
+
+
 def item_bytes(path):
     """The bytes of the items of a checkpoint, and how many there are."""
     total = count = 0

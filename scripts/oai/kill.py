@@ -47,6 +47,13 @@ CONFIGURATION = {
 }
 
 
+# A record with a title that is an element.
+ELEMENT = (
+    f'<o:dc xmlns:o="{models.OAI}oai_dc/" xmlns:dc="http://purl.org/dc/elements/1.1/"><!-- c -->\n'
+    "<dc:title>{}</dc:title><dc:date xml:lang='en'/></o:dc>"
+)
+
+
 def start(config, folder):
     """A server on that folder, which may not start."""
     return serve_durably(config, folder, errors=tempfile.TemporaryFile("w+"), may_end=True)
@@ -136,7 +143,12 @@ class Client(threading.Thread):
         if stands and self.random.random() < 0.3:
             item = self.random.choice(stands)
         title = f"{self.serial}.{self.count} " + "t" * self.random.choice([0, 10, 3_000])
-        return {"deposit": item[1], "sets": [], "records": {"oai_dc": [["title", title]]}}, item, title
+        command = self.random.choice(["deposit", "put"])
+        # (so that some puts leave an item as it is)
+        if command == "put" and item in stands and self.random.random() < 0.5:
+            title = self.known.items[item][1]
+        record = self.random.choice([[["title", title]], ELEMENT.format(title)])
+        return {command: item[1], "sets": [], "records": {"oai_dc": record}}, item, title
 
     def deposit(self, connection, name):
         """Deposits some lines, each about another item."""
@@ -349,7 +361,7 @@ def attack(server, known, serial, chance, look):
 
 
 def rounds(config, folder, count, chance, known):
-    model, journal = models.Host(CONFIGURATION), Journal(f"{folder}/journal")
+    model, journal = models.Host(CONFIGURATION, has_elements=True), Journal(f"{folder}/journal")
     performed = -1
     server = start(config, folder)
     for number in range(count):
@@ -383,7 +395,7 @@ def rounds(config, folder, count, chance, known):
 def kill(count: int, seed: int = None):
     """Kills a server with -9 at COUNT random moments, restarts it each time, and shows that acknowledged writes are durable.
 
-    That is every deposit and every deletion, with its datestamp; every token that it handed out; and no number of a
+    That is every deposit, of fields or of an element, and every deletion, with its datestamp; every token that it handed out; and no number of a
     list is given twice. A round: six clients deposit, delete, list and ask for parts of lists at two repositories,
     until the server is killed somewhere in between; it is started again on its folder; and then are compared: what its
     journal holds with what was acknowledged, each item that the round touched with what was acknowledged of it and with

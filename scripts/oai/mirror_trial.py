@@ -5,6 +5,7 @@ import json
 import os
 import pty
 import random
+import re
 import signal
 import socket
 import subprocess
@@ -12,13 +13,18 @@ import sys
 import tempfile
 import time
 import typing
+import urllib.parse
+import urllib.request
 from concurrent.futures import ThreadPoolExecutor
+from xml.etree import ElementTree
+from xml.parsers import expat
 
 from oai.interop import moved, stamp_now
 from oai.items import DUBLIN_CORE, JOURNAL, any_fields, configuration, plain_text
 from oai.journal import Journal
 from oai.model import shown_sets
 from oai.programs import needs, oaihostd
+from oai.record_formats import OAI, tree
 from oai.relay import LATER, REFUSED_TOKEN, Relay, cut_answer, cut_request, drop_answer
 from oai.servers import serve_durably, write_configuration
 
@@ -26,6 +32,16 @@ SEED = 27
 ITEMS = int(os.environ.get("ITEMS", "5000"))
 LIMIT = 100
 PREFIXES = ["oai_dc", "jnl"]
+
+# The format that source and target have beside these where records are elements.
+MARC = {
+    "prefix": "marc21", "schema": "http://www.loc.gov/standards/marcxml/schema/MARC21slim.xsd", "namespace": "http://www.loc.gov/MARC21/slim", "root": "record",
+}  # fmt: skip
+
+# What the requests have that are cut.
+POST, TOKEN = b"POST ", b"resumptionToken="
+
+INSTRUCTION = re.compile(r"<\?.*?\?>", re.DOTALL)
 
 # The sets, each with its name, as XML. One lies in a set that the source does not list.
 SETS = {
@@ -57,7 +73,7 @@ class Source:
 
     def __init__(self, folder):
         self.folder, self.random, self.items = folder, random.Random(SEED), {}
-        self.port, self.process = free_port(), None
+        self.port, self.process, self.templates = free_port(), None, "scripts/mirror-source"
         for number in range(ITEMS):
             front = self.random.choice(["", "x/", "%C3%A9-", "(a);", "A+B="])
             self.set_item(f"{front}{number}", moved(stamp_now(), -self.random.randrange(10, 1_000_000)), deleted=number % 50 == 0)
@@ -98,7 +114,7 @@ class Source:
         self.write()
         environment = os.environ | {
             "ITEMS": f"{self.folder}/items.jsonl", "SETS": f"{self.folder}/sets.json",
-            "LIMIT": str(LIMIT), "TEMPLATES": os.path.abspath("scripts/mirror-source"),
+            "LIMIT": str(LIMIT), "TEMPLATES": os.path.abspath(self.templates),
         }  # fmt: skip
         command = ["starman", "--host", "127.0.0.1", "--port", str(self.port), "--workers", "2", "scripts/mirror-source/app.psgi"]
         with open(f"{self.folder}/log", "ab") as log:
@@ -113,10 +129,12 @@ class Source:
 class Target:
     """A server of oaihostd on a folder of its own, and how often each item was deposited and deleted since it was last asked."""
 
-    def __init__(self, folder):
+    def __init__(self, folder, formats):
         self.folder, self.port, self.server = folder, 0, None
         os.mkdir(folder)
-        write_configuration(f"{folder}/config.json", configuration(1000, 3600, 1000, 4 * ITEMS))
+        made = configuration(1000, 3600, 1000, 4 * ITEMS)
+        made["repositories"][0]["formats"] = formats
+        write_configuration(f"{folder}/config.json", made)
         self.journal = Journal(f"{folder}/archive/journal")
 
     def start(self):
@@ -183,14 +201,14 @@ class Trial:
         self.to_source = Relay(lambda: self.source.port)
         self.to_target = Relay(lambda: self.target.port)
 
-    def new_target(self):
-        """An empty target, for a move from the beginning."""
+    def new_target(self, *formats):
+        """An empty target, with these formats beside oai_dc, for a move from the beginning."""
         if self.target:
             self.target.kill()
         if os.path.exists(self.state):
             os.remove(self.state)
         self.targets += 1
-        self.target = Target(f"{self.folder}/target-{self.targets}")
+        self.target = Target(f"{self.folder}/target-{self.targets}", formats or [JOURNAL])
         self.target.start()
 
     def differ(self, text):
@@ -350,31 +368,124 @@ def check_moves(trial):
 def check_source(trial):
     """The source says 503, refuses a token, and is killed in the middle of a list."""
     whole(trial, "a whole move again")
-    token = b"resumptionToken="
-    later(trial, "the source says 503", (token, lambda *_: LATER))
-    later(trial, "the source refuses a token", (token, lambda *_: REFUSED_TOKEN))
-    later(trial, "the source is killed, and started", (token, cut_answer(trial.source, True)))
-    later(trial, "the source is killed", (token, cut_answer(trial.source, False)), fails=True)
+    later(trial, "the source says 503", (TOKEN, lambda *_: LATER))
+    later(trial, "the source refuses a token", (TOKEN, lambda *_: REFUSED_TOKEN))
+    later(trial, "the source is killed, and started", (TOKEN, cut_answer(trial.source, True)))
+    later(trial, "the source is killed", (TOKEN, cut_answer(trial.source, False)), fails=True)
 
 
 def check_target(trial):
     """The target is killed in the middle of a deposit. The first message is handed on."""
-    post = b"POST "
     for what, cut in {"within a message": cut_request, "before its answer": drop_answer}.items():
         for restart in (True, False):
             whole(
                 trial,
                 f"the target is killed {what}" + (", and started" if restart else ""),
-                (post, lambda request, relay: relay.answer(request)),
-                (post, lambda request, relay, cut=cut, restart=restart: cut(trial.target, restart)(request, relay)),
+                (POST, lambda request, relay: relay.answer(request)),
+                (POST, lambda request, relay, cut=cut, restart=restart: cut(trial.target, restart)(request, relay)),
                 fails=not restart,
             )
 
 
-PARTS = {"moves": check_moves, "source": check_source, "target": check_target}
+def elements_at(base, prefix):
+    """Each record there, by its identifier: its sets, the tree of its element, and its canonical form, which are None where it is deleted."""
+    found, query = {}, f"metadataPrefix={prefix}"
+    while query:
+        with urllib.request.urlopen(f"{base}?verb=ListRecords&{query}", timeout=600) as answer:
+            data = answer.read()
+        document = ElementTree.fromstring(data)
+        records = document.findall(f"*/{OAI}record")
+        for record, text in zip(records, texts_of(data), strict=True):
+            sets = [it.text for it in record.iter(f"{OAI}setSpec")]
+            metadata = record.find(f"{OAI}metadata")
+            element = (None, None) if metadata is None else (tree(metadata[0]), canonical(text))
+            found[record.findtext(f"{OAI}header/{OAI}identifier")] = sorted(shown_sets(sets)), *element
+        token = document.findtext(f".//{OAI}resumptionToken")
+        query = token and "resumptionToken=" + urllib.parse.quote(token)
+    return found
 
 
-def mirror_trial(*parts: typing.Literal["moves", "source", "target"]):
+def texts_of(data):
+    """Of each record of a document the text of its element, byte by byte, or None."""
+    found, path, begun = [], [], []
+    parser = expat.ParserCreate(namespace_separator="}")
+
+    def start(name, _):
+        path.append(name)
+        if len(path) == 3 and name == f"{OAI[1:]}record":
+            found.append(None)
+        if len(path) == 5 and path[3] == f"{OAI[1:]}metadata":
+            begun[:] = [parser.CurrentByteIndex]
+
+    def end(_):
+        path.pop()
+        if len(path) == 3 and begun:
+            found[-1] = data[begun.pop() : parser.CurrentByteIndex]
+
+    parser.StartElementHandler, parser.EndElementHandler = start, end
+    parser.Parse(data, True)
+    return found
+
+
+def canonical(text):
+    """The canonical form of an element, in which namespaces are declared where they are used (C14N 2.0, as exclusive canonicalization has it), without
+    comments and instructions."""
+    return INSTRUCTION.sub("", ElementTree.canonicalize(text.decode()))
+
+
+def compare_elements(trial, what):
+    """Each record of the target is the element of the source."""
+    count = 0
+    for prefix in [*PREFIXES, MARC["prefix"]]:
+        theirs = elements_at(f"http://127.0.0.1:{trial.source.port}/oai", prefix)
+        ours = elements_at(f"http://127.0.0.1:{trial.target.port}/oai/archive", prefix)
+        for it in NO_URIS:
+            theirs.pop(uri(it), None)
+        trial.equal(f"{what}: the identifiers in {prefix}", sorted(theirs), sorted(ours))
+        for name in theirs.keys() & ours.keys():
+            trial.equal(f"{what}: {name} in {prefix}", theirs[name], ours[name])
+        count += len(ours)
+    print(f"    {count} records are compared", flush=True)
+
+
+def check_elements(trial):
+    """Moves of records with attributes and nested elements, to formats without fields, while source and target are killed."""
+    trial.source.kill()
+    trial.source.templates = "scripts/mirror-source/elements"
+    trial.source.start()
+    trial.new_target({name: it for name, it in JOURNAL.items() if name != "fields"}, MARC)
+    trial.to_source.cuts += [(MARC["prefix"].encode(), lambda request, relay: relay.answer(request)), (TOKEN, cut_answer(trial.source, True))]
+    trial.to_target.cuts += [(POST, lambda request, relay: relay.answer(request)), (POST, cut_request(trial.target, True)), (POST, drop_answer(trial.target, True))]
+    printed, _ = trial.mirror("elements", "--elements")
+    trial.equal("elements: the cuts", [], trial.to_source.cuts + trial.to_target.cuts)
+    names, deleted = items_of(trial.source)
+    wanted = f"new {len(names) - len(deleted)}, changed 0, deleted {len(deleted)}, unchanged 0, sets {len(NAMES)}, refused {len(NO_URIS)}\n"
+    trial.equal("elements: the counts", wanted, printed.splitlines(keepends=True)[0])
+    trial.equal("elements: what was dropped", False, "dropped" in printed)
+    compare_elements(trial, "elements")
+    trial.performed("elements", *items_of(trial.source))
+    os.remove(trial.state)
+    trial.mirror("elements again, without a state", "--elements")
+    trial.performed("elements again", [], [])
+    changed, deleted = trial.source.change(500, 50)
+    trial.to_target.cuts += [(POST, drop_answer(trial.target, False))]
+    trial.mirror("elements that have changed, and the target is killed", "--elements", status=1)
+    trial.target.start()
+    trial.to_source.cuts += [(TOKEN, cut_answer(trial.source, False))]
+    trial.mirror("and the source is killed", "--elements", status=1)
+    trial.source.start()
+    trial.mirror("elements that have changed", "--elements")
+    compare_elements(trial, "elements that have changed")
+    trial.performed("elements that have changed", changed, deleted)
+    trial.source.kill()
+    trial.source.templates = "scripts/mirror-source"
+    trial.source.start()
+
+
+PARTS = {"moves": check_moves, "source": check_source, "target": check_target, "elements": check_elements}
+
+
+def mirror_trial(*parts: typing.Literal["moves", "source", "target", "elements"]):
     """Shows that scripts/mirror moves an archive from a data provider that is not this repository's own.
 
     That is Dancer::Plugin::Catmandu::OAI under starman (mirror-source/app.psgi); the target is a server of `oaihostd`.
@@ -387,6 +498,8 @@ def mirror_trial(*parts: typing.Literal["moves", "source", "target"]):
                is killed, and started for the next run
       target   a whole archive each time, where the target is killed when half of a message has come, or when its answer is on the way, and started
                again; is killed so, and started for the next run
+      elements a whole archive with --elements, in three formats, whose records have attributes, nested elements and prefixes in values, while source and
+               target are killed; again; 500 changes and 50 deletions, with kills. Each record is then the source's, as a tree and in the canonical form
     Between the two and the program stand relays, which cut. It ends with `N runs, M differences`; the status is 0 where
     M is 0. ITEMS is the number of items, 5000 if it is not set: at least 1000. Packages of Debian:
         apt-get install libhttp-oai-perl libdancer-plugin-catmandu-oai-perl starman

@@ -9,6 +9,7 @@ from dataclasses import dataclass
 from typing import NamedTuple, Optional
 from urllib.parse import parse_qsl
 
+from oai.element_texts import IN_ATTRIBUTE, IN_TEXT, Element, NoElement, read_element
 from oai.items import DUBLIN_CORE
 
 DAY = 86_400
@@ -24,9 +25,6 @@ IDENTIFIER = re.compile(r"[A-Za-z][A-Za-z0-9+\-.]*:[A-Za-z0-9\-._~:/?#\[\]@!$&'(
 EXCLUDED = re.compile("[\x00-\x08\x0b\x0c\x0e-\x1f\ufffe\uffff]")
 BOUND = re.compile(r"([0-9]{4})-([0-9]{2})-([0-9]{2})(?:T([0-9]{2}):([0-9]{2}):([0-9]{2})Z)?")
 TOKEN = re.compile(r"(0|[1-9][0-9]*)\.(0|[1-9][0-9]*)")
-
-IN_TEXT = str.maketrans({"&": "&amp;", "<": "&lt;", ">": "&gt;", "\r": "&#13;"})
-IN_ATTRIBUTE = IN_TEXT | str.maketrans({'"': "&quot;", "\t": "&#9;", "\n": "&#10;"})
 
 SCHEMA_INSTANCE = 'xmlns:xsi="http://www.w3.org/2001/XMLSchema-instance"'
 OAI = "http://www.openarchives.org/OAI/2.0/"
@@ -51,7 +49,7 @@ ERRORS = {
 # Why a deposit line is refused, numbered from 1.
 REFUSALS = (
     "bad-json bad-command bad-identifier bad-set-spec bad-text unknown-set unknown-format no-dc unknown-field drops-format too-large"
-    " too-many-items no-such-item already-deleted not-transient bad-date set-exists no-parent too-many-sets"
+    " too-many-items no-such-item already-deleted not-transient bad-date set-exists no-parent too-many-sets bad-xml not-of-format"
 ).split()
 
 # Of each verb the arguments that it requires, and those that it may have beside them.
@@ -155,16 +153,38 @@ def are_texts(them):
     return isinstance(them, list) and all(isinstance(it, str) for it in them)
 
 
-def is_command(line):
-    """Whether a line has just the members of one of the four commands, each of its kind."""
+def is_record(given, has_elements):
+    """Whether a member of `records` is a list of fields or, if records may be elements, a text."""
+    if isinstance(given, str):
+        return has_elements
+    return isinstance(given, list) and all(are_texts(it) and len(it) == 2 for it in given)
+
+
+def is_command(line, has_elements):
+    """Whether a line has just the members of one of the commands, each of its kind. If records may be elements, one of them is a put."""
     if not isinstance(line, dict):
         return False
-    if set(line) == {"deposit", "sets", "records"}:
+    if set(line) in [{it, "sets", "records"} for it in ["deposit", "put"][: 1 + has_elements]]:
         records = line["records"]
-        return isinstance(line["deposit"], str) and are_texts(line["sets"]) and isinstance(records, dict) and all(
-            isinstance(fields, list) and all(are_texts(it) and len(it) == 2 for it in fields) for fields in records.values()
-        )
+        is_dict = isinstance(identifier_in(line), str) and are_texts(line["sets"]) and isinstance(records, dict)
+        return is_dict and all(is_record(it, has_elements) for it in records.values())
     return set(line) in ({"delete"}, {"purge"}, {"set", "name"}) and are_texts(list(line.values()))
+
+
+def identifier_in(line):
+    """The identifier of a deposit or a put."""
+    return line["put" if "put" in line else "deposit"]
+
+
+def read_elements(records):
+    """The records with each text read as an element, in the order of the bytes of their prefixes."""
+    prefixes = sorted(records, key=str.encode)
+    return {it: read_element(records[it]) if isinstance(records[it], str) else records[it] for it in prefixes}
+
+
+def kept(given):
+    """The fields as which an item keeps what is given: an element as one without a name."""
+    return [["", given.text]] if isinstance(given, Element) else given
 
 
 def are_bounds(arguments, granularity):
@@ -208,17 +228,19 @@ def text_element(name, text):
 
 
 class Repository:
-    """One repository: its clock, its items by their identifiers, its sets in order of addition, and its open lists by their numbers."""
+    """One repository: its clock, its items by their identifiers, its sets in order of addition, and its open lists by their numbers. Where it has elements, a
+    record may be one."""
 
-    def __init__(self, base, settings):
-        self.settings = settings
+    def __init__(self, base, settings, has_elements=False):
+        self.settings, self.has_elements = settings, has_elements
         self.name = settings["name"]
         self.base = f"{base}/oai/{self.name}"
         self.is_by_day = settings["granularity"] == "days"
         self.clock = read_bound(settings["earliestDatestamp"]).moment
         self.items, self.sets, self.lists, self.next = {}, {}, {}, 1
         self.formats = {"oai_dc": None} | {it["prefix"]: it for it in settings["formats"]}
-        self.finished = 0
+        # how many lists were read to their end, and how many puts left an item as it is
+        self.finished, self.left = 0, 0
 
     def tick(self, moment):
         self.clock = max(self.clock, min(moment, LAST_TICK))
@@ -239,17 +261,20 @@ class Repository:
             line = json.loads(text)
         except ValueError:
             return "refused 1 bad-json\n"
-        if not is_command(line):
+        if not is_command(line, self.has_elements):
             return "refused 2 bad-command\n"
+        try:
+            line |= {"records": read_elements(line["records"])} if "records" in line else {}
+        except NoElement as fault:
+            return f"refused 20 bad-xml {fault.at}\n"
         number = next((number for number, applies in self.refusals(line) if applies), None)
         if number:
             return f"refused {number} {REFUSALS[number - 1]}\n"
-        self.perform(line)
-        return f"ok {self.stamp_text(self.stamp())}\n"
+        return f"ok {self.stamp_text(self.perform(line))}\n"
 
     def refusals(self, line):
         """Each refusal that the kind of line may meet, in order, with whether it applies."""
-        if "deposit" in line:
+        if "records" in line:
             return self.deposit_refusals(line)
         if "delete" in line:
             return self.delete_refusals(line["delete"])
@@ -257,14 +282,16 @@ class Repository:
 
     def deposit_refusals(self, line):
         records = line["records"]
-        old = self.items.get(line["deposit"])
-        yield 3, not is_short(IDENTIFIER, IDENTIFIER_BYTES, line["deposit"])
+        lists = {prefix: it for prefix, it in records.items() if not isinstance(it, Element)}
+        old = self.items.get(identifier_in(line))
+        yield 3, not is_short(IDENTIFIER, IDENTIFIER_BYTES, identifier_in(line))
         yield 4, not all(is_short(SET_SPEC, SET_SPEC_BYTES, it) for it in line["sets"])
-        yield 5, any(EXCLUDED.search(text) for fields in records.values() for _, text in fields)
+        yield 5, any(EXCLUDED.search(text) for fields in lists.values() for _, text in fields)
         yield 6, any(it not in self.sets for it in line["sets"])
         yield 7, any(it not in self.formats for it in records)
         yield 8, "oai_dc" not in records
-        yield 9, any(name not in self.field_names(prefix) for prefix, fields in records.items() for name, _ in fields)
+        yield 9, any(name not in self.field_names(prefix) for prefix, fields in lists.items() for name, _ in fields)
+        yield 21, not all(self.is_of_format(prefix, it) for prefix, it in records.items())
         yield 10, old and not set(old.records) <= set(records)
         yield 11, encoded_length(self.item_of(line)) > ITEM_BYTES
         yield 12, not old and len(self.items) >= self.settings["items"]
@@ -287,14 +314,28 @@ class Repository:
         yield 19, len(self.sets) >= SETS
 
     def field_names(self, prefix):
-        return DUBLIN_CORE if prefix == "oai_dc" else self.formats[prefix]["fields"]
+        return DUBLIN_CORE if prefix == "oai_dc" else self.formats[prefix].get("fields", [])
+
+    def is_of_format(self, prefix, given):
+        """Whether the root of an element is the format's; a list is of any format that has fields."""
+        if not isinstance(given, Element):
+            return bool(self.field_names(prefix))
+        declared = self.formats[prefix] or {"namespace": f"{OAI}oai_dc/", "root": "dc"}
+        return (given.namespace, given.local) == (declared["namespace"], declared["root"].rpartition(":")[2])
 
     def item_of(self, line):
-        return Item(line["deposit"], self.stamp(), True, shown_sets(line["sets"]), line["records"])
+        records = {prefix: kept(it) for prefix, it in line["records"].items()}
+        return Item(identifier_in(line), self.stamp(), True, shown_sets(line["sets"]), records)
 
     def perform(self, line):
-        if "deposit" in line:
-            self.items[line["deposit"]] = self.item_of(line)
+        """The datestamp that answers a line that is not refused: the one of now, but for a put that leaves its item as it is."""
+        if "records" in line:
+            item = self.item_of(line)
+            old = self.items.get(item.identifier)
+            if "put" in line and old and old._replace(stamp=item.stamp) == item:
+                self.left += 1
+                return old.stamp
+            self.items[item.identifier] = item
         elif "delete" in line:
             self.delete(line["delete"])
         elif "purge" in line:
@@ -302,6 +343,7 @@ class Repository:
             self.items = {name: it for name, it in self.items.items() if it.is_live or it.stamp >= below}
         else:
             self.sets[line["set"]] = line["name"]
+        return self.stamp()
 
     def delete(self, identifier):
         old = self.items.pop(identifier)
@@ -439,6 +481,8 @@ class Repository:
 
     def metadata(self, item, prefix):
         fields = item.records[prefix]
+        if [name for name, _ in fields] == [""]:
+            return fields[0][1]
         if prefix == "oai_dc":
             return DUBLIN_CORE_START + "".join(text_element(f"dc:{name}", text) for name, text in fields) + "</oai_dc:dc>"
         declared = self.formats[prefix]
@@ -450,8 +494,9 @@ class Repository:
 class Host:
     """Repositories by their names."""
 
-    def __init__(self, configuration):
-        self.repositories = {it["name"]: Repository(configuration["base"], it) for it in configuration["repositories"]}
+    def __init__(self, configuration, has_elements=False):
+        base = configuration["base"]
+        self.repositories = {it["name"]: Repository(base, it, has_elements) for it in configuration["repositories"]}
 
     def exchange(self, moment, method, target, body, is_form=True):
         if not target.startswith("/"):

@@ -23,6 +23,9 @@ CONFIG = """\
    "granularity":"days","chunk":200,"lifetime":7200,"lists":20,"items":2000,"formats":[]}]}
 """
 
+# The same with a format whose records are elements.
+WHOLE = CONFIG.replace(',\n     "fields":["volume","pages"]', "")
+
 # The second repository, as it stands in one line.
 SECOND = '{"name":"b","repositoryName":"B","adminEmail":["b@host.example"],"earliestDatestamp":"2024-01-01","deletedRecord":"no",\
 "granularity":"days","chunk":1,"lifetime":1,"lists":1,"items":1,"formats":[]}'
@@ -85,6 +88,7 @@ SHAPES = [
     ('"article"', "2", 'line 8: repositories[0] (a): formats[0]: "root" is a number, and not a text'),
     ('["volume","pages"]', '"volume"', 'line 9: repositories[0] (a): formats[0]: "fields" is a text, and not a list'),
     ('["volume","pages"]', '["volume",\n7]', "line 10: repositories[0] (a): formats[0]: fields[1] is a number, and not a text"),
+    ('["volume","pages"]', "[]", 'line 9: repositories[0] (a): formats[0]: "fields" is empty: a format whose records are elements has no such member'),
 ]
 
 NAMES = [
@@ -102,9 +106,7 @@ FORMATS = [
     ('"http://host.example/jnl/"', '""', f'line 8: repositories[0] (a): formats[0]: "namespace" {URI}'),
     ('"article"', '"1article"', f'line 8: repositories[0] (a): formats[0]: "root" {NAME}'),
     ('"article"', f'"{"r" * 65}"', f'line 8: repositories[0] (a): formats[0]: "root" {NAME}'),
-    ('["volume","pages"]', "[]", 'line 9: repositories[0] (a): formats[0]: "fields" does not have 1 to 256 names'),
-    ('["volume","pages"]', json.dumps([f"f{it}" for it in range(257)]),
-     'line 9: repositories[0] (a): formats[0]: "fields" does not have 1 to 256 names'),
+    ('["volume","pages"]', json.dumps([f"f{it}" for it in range(257)]), 'line 9: repositories[0] (a): formats[0]: "fields" has more than 256 names'),
     ('["volume","pages"]', '["volume",\n"pa:ges"]', f"line 10: repositories[0] (a): formats[0]: fields[1] {NAME}"),
     ('["volume","pages"]', '["volume",\n"volume"]', "line 10: repositories[0] (a): formats[0]: fields[1] stands twice"),
 ]  # fmt: skip
@@ -178,6 +180,8 @@ def try_configurations(trial):
     """Each fault of a configuration."""
     path = trial.written("config.json", CONFIG)
     trial.check("the configuration", trial.call("check", path), (0, "ok 2\n", []))
+    path = trial.written("config.json", WHOLE)
+    trial.check("a format without fields", trial.call("check", path), (0, "ok 2\n", []))
     trial.refused("a comma that is missing", CONFIG.replace(":16,", ":16 "), "1 BadJson: line 2, column 2: here the text is no JSON")
     trial.refused("a text that ends", '{"base":', "1 BadJson: line 1, column 9: the text ends too early")
     trial.refused("no text", "", "1 BadJson: line 1, column 1: the text ends too early")
@@ -226,11 +230,15 @@ ITEMS = [
     ('["letters"]', '"letters"', '29: 2 bad-command: "sets" is a text, and not a list'),
     ('["letters"]', '["letters",1]', '40: 2 bad-command: it is a number, and a setSpec is a text'),
     ('{"oai_dc":[["title","On Sets"]],"jnl":[["volume","7"]]}', "[]", '51: 2 bad-command: "records" is a list, and not an object'),
-    ('[["title","On Sets"]]', '"On Sets"', '61: 2 bad-command: "oai_dc" is a text, and not a list of fields'),
+    ('[["title","On Sets"]]', "7", '61: 2 bad-command: "oai_dc" is a number, and neither a list of fields nor an element\'s text'),
     ('[["title","On Sets"]]', '["title","On Sets"]', '62: 2 bad-command: "title" is a text, and a field is a list of two texts'),
     ('["title","On Sets"]', "{}", '62: 2 bad-command: it is an object, and a field is a list of two texts'),
     ('["title","On Sets"]', '["title"]', '62: 2 bad-command: it is another list, and a field is a list of two texts'),
     ('["volume","7"]', '["volume",7]', '90: 2 bad-command: it is another list, and a field is a list of two texts'),
+    ('[["title","On Sets"]]', '"On Sets"', '61: 20 bad-xml: at byte 0 of "oai_dc": this cannot stand here'),
+    ('[["volume","7"]]', '"<a>&nbsp;</a>"', '89: 20 bad-xml: at byte 4 of "jnl": this is no reference that can be resolved without a document type'),
+    ('[["volume","7"]]', '"<article/>"', '89: 21 not-of-format: the root is not "article" of "http://host.example/jnl/"'),
+    ('[["title","On Sets"]]', '"<title/>"', '61: 21 not-of-format: the root is not "dc" of "http://www.openarchives.org/OAI/2.0/oai_dc/"'),
     ('"oai:a:1"', '"a"', '12: 3 bad-identifier: "a" is not a scheme, a colon and characters of a URI, of at most 512 bytes'),
     ('["letters"]', '["letters","a b"]', "40: 4 bad-set-spec: \"a b\" is not parts of letters, digits and -_.!~*'() joined by colons, of at most 256 bytes"),
     ('"On Sets"', '"On\\u0001Sets"', '71: 5 bad-text: the text of "title" has a character that XML forbids'),
@@ -240,9 +248,13 @@ ITEMS = [
     ('"volume"', '"number"', '91: 9 unknown-field: the format "jnl" has no field "number"'),
 ]
 
+# A list of fields, and an element, of the format.
+VOLUME, ARTICLE = '[["volume","7"]]', '"<article xmlns=\\"http://host.example/jnl/\\"><volume n=\\"1\\">7</volume></article>"'
+
 OTHERS = [
     ("[]", '1: 2 bad-command: it is a list, and not an object'),
-    ("{}", '1: 2 bad-command: it has no member "deposit", "delete", "purge" or "set"'),
+    ("{}", '1: 2 bad-command: it has no member "deposit", "put", "delete", "purge" or "set"'),
+    ('{"put":"oai:a:1","set":"x"}', '1: 2 bad-command: member "sets" is missing'),
     ('{"delete":1}', '11: 2 bad-command: "delete" is a number, and not a text'),
     ('{"delete":"oai:a:1","sets":[]}', '28: 2 bad-command: "sets" is no member of this command'),
     ('{"purge":null}', '10: 2 bad-command: "purge" is null, and not a text'),
@@ -258,17 +270,29 @@ OTHERS = [
 ]
 
 
+def as_put(text):
+    return text.replace('"deposit"', '"put"')
+
+
+def as_put_cause(cause):
+    """What is reported of a put where that is reported of the deposit: nearer by the letters between their names."""
+    column, _, why = cause.partition(":")
+    return f"{int(column) - (4 if int(column) >= ITEM.index('oai:a:1') else 0)}:{as_put(why)}"
+
+
 def try_lines(trial):
     """Each refusal that a line has by itself, by the configuration, or by the sets of the lines before it."""
     config = trial.written("config.json", CONFIG)
-    good = trial.written("good.jsonl", f"{SETS}\n\n{ITEM}\r\n" + '{"delete":"oai:a:1"}\n')
-    trial.check("good lines", trial.call("check", config, good), (0, "ok 2\nrepository a: 3 lines, 0 refused\n", []))
+    good = trial.written("good.jsonl", f"{SETS}\n\n{ITEM}\r\n{as_put(ITEM)}\n" + '{"delete":"oai:a:1"}\n')
+    trial.check("good lines", trial.call("check", config, good), (0, "ok 2\nrepository a: 4 lines, 0 refused\n", []))
     changed = []
     for old, new, _ in ITEMS:
         trial.expect(old in ITEM, f"{old} is not in the item")
         changed.append(ITEM.replace(old, new, 1))
+    changed += [as_put(it) for it in changed]
     text = "\n".join([SETS, "", *changed, *(line for line, _ in OTHERS), ITEM]) + "\n"
-    causes = [wanted for _, _, wanted in ITEMS] + [wanted for _, wanted in OTHERS]
+    causes = [wanted for _, _, wanted in ITEMS]
+    causes += [*map(as_put_cause, causes), *(wanted for _, wanted in OTHERS)]
     wanted = [f"lines:{number}:{cause}" for number, cause in enumerate(causes, 3)]
     said = f"ok 2\nrepository a: {len(causes) + 2} lines, {len(causes)} refused\n"
     found = trial.call("check", config, trial.written("bad.jsonl", text))
@@ -276,6 +300,12 @@ def try_lines(trial):
     for line, cause in zip(found[2], wanted):
         trial.check("a line", line, cause)
     trial.check("how many lines", len(found[2]), len(wanted))
+    whole = trial.written("whole.json", WHOLE)
+    lines = trial.written("whole.jsonl", f"{SETS}\n{ITEM.replace('volume', 'leader')}\n{ITEM.replace(VOLUME, '[]')}\n{ITEM.replace(VOLUME, ARTICLE)}\n")
+    found = trial.call("check", whole, lines)
+    trial.check("a format without fields: lines", found, (1, "ok 2\nrepository a: 4 lines, 2 refused\n", [
+        'lines:2:91: 9 unknown-field: the format "jnl" has no field "leader"',
+        'lines:3:89: 21 not-of-format: the format "jnl" has no fields: a record is an element\'s text']))
     latin = trial.written("latin.jsonl", b'{"set":"x","name":"\xef"}\n')
     trial.check("a letter of Latin-1", trial.call("check", config, latin)[2], ["lines:1:20: 1 bad-json: here the text is not in UTF-8"])
 

@@ -104,16 +104,16 @@ class Process:
         return kilobytes_of(self.process.pid, "VmHWM") / 1024
 
 
-def serve_durably(config, folder, front=(), port=0, **others):
-    """A server of `oaihostd` on the folder, perhaps below another program."""
-    return Process([*front, oaihostd(), "serve", str(config), str(port), str(folder)], **others)
+def serve_durably(config, folder, front=(), port=0, behind=(), **others):
+    """A server of `oaihostd` on the folder, perhaps below another program, and with more arguments."""
+    return Process([*front, oaihostd(), "serve", str(config), str(port), str(folder), *behind], **others)
 
 
 class Server(Process):
     """A server of a configuration, with its pages in that file, or in one of its own. It is one of `oaihostd` where that is said, or where it is not
-    said and the environment names one: then it has its folder there. `front` gives, for a folder, a program that it runs below."""
+    said and the environment names one: then it has its folder there. `front` gives, for a folder, a program that it runs below; `behind` are more arguments."""
 
-    def __init__(self, configuration, place=None, durable=None, front=lambda folder: []):
+    def __init__(self, configuration, place=None, durable=None, front=lambda folder: [], behind=()):
         self.folder = tempfile.TemporaryDirectory(prefix="oaihost-")
         self.place = place or f"{self.folder.name}/place"
         self.durable = is_given("oaihostd") if durable is None else durable
@@ -121,7 +121,7 @@ class Server(Process):
         write_configuration(path, configuration)
         program = [oaihostd()] if self.durable else [oaihost()]
         count = [] if self.durable else [CONNECTIONS]
-        super().__init__([*front(self.folder.name), *program, "serve", path, "0", self.place, *count])
+        super().__init__([*front(self.folder.name), *program, "serve", path, "0", self.place, *count, *behind])
 
     def kill(self):
         super().kill()

@@ -9,6 +9,7 @@ import subprocess
 import tempfile
 
 from oai.clients import exchange
+from oai.journal import set_version
 from oai.programs import EXAMPLE, TOP, oaihost, oaihostd
 from oai.servers import Process, serve_durably
 from oai.trials import Trial
@@ -187,8 +188,8 @@ NO_PORT = "error: PORT is no number from 0 to 65535"
 DAEMON_UNKNOWN = {
     "": "error: 'oaihostd' requires a subcommand but one was not provided",
     "serve": MISSING, "serve a": MISSING, "serve a 1": MISSING, "verify": MISSING, "dump a": MISSING, "checkpoint a": MISSING,
-    "check": MISSING,
-    "serve a 1 b c": "error: unexpected argument 'c' found", "verify a b": "error: unexpected argument 'b' found",
+    "check": MISSING, "keys": MISSING, "keys a": MISSING, "keys a b c": "error: unexpected argument 'c' found",
+    "serve a 1 b c d": "error: unexpected argument 'd' found", "verify a b": "error: unexpected argument 'b' found",
     "dump a b c": "error: unexpected argument 'c' found", "check a b c": "error: unexpected argument 'c' found",
     "verify a --quiet": "error: unexpected argument '--quiet' found", "--all": "error: unexpected argument '--all' found",
     "Serve a 1 b": "error: unrecognized subcommand 'Serve'", "backup a": "error: unrecognized subcommand 'backup'",
@@ -197,7 +198,7 @@ DAEMON_UNKNOWN = {
     "serve --listen 127.0.0.1:80 a 1 b": "error: the ADDRESS of --listen is no IP address",
     "serve a 1 b --listen": "error: a value is required for '--listen <ADDRESS>' but none was supplied",
 }  # fmt: skip
-COMMANDS = ("serve", "check", "verify", "dump", "checkpoint", "xml")
+COMMANDS = ("serve", "check", "keys", "verify", "dump", "checkpoint", "xml")
 MANUAL = "packaging/man/oaihostd.8"
 LINE = '{"deposit":"oai:a:1","sets":[],"records":{"oai_dc":[["title","On Sets"]]}}'
 DUMPED = '{"deposit":"oai:a:1","records":{"oai_dc":[["title","On Sets"]]},"sets":[]}\n'
@@ -234,7 +235,7 @@ def try_help(trial):
         trial.expect(f"\nExample: oaihostd {command} " in found, f"oaihostd {command} --help has no example")
         synopses.append(synopsis_of(found, command))
     trial.check("the synopsis of the manual", manual_synopsis(), [*synopses, "oaihostd [COMMAND] --help", "oaihostd --version"])
-    trial.check("oaihostd --version", trial.said("--version"), "oaihostd (journal version 1)\n")
+    trial.check("oaihostd --version", trial.said("--version"), "oaihostd (journal version 2)\n")
     trial.ended("oaihostd --version", 0, "", "--version")
     trial.ended("an output of --help that is full", 1, "output fault", "--help", output="/dev/full")
 
@@ -324,6 +325,22 @@ def try_damages(trial, folder):
         trial.check(f"{what}: the journal", (other / "journal").read_bytes() == before, True)
 
 
+def try_versions(trial, folder):
+    """A journal of the version before, which a checkpoint replaces, and one of a version to come."""
+    old, later = folder / "version-1", folder / "version-3"
+    for other, version in ((old, 1), (later, 3)):
+        shutil.copytree(folder / "good", other)
+        set_version(other / "journal", version)
+    trial.ended("version 1, verified", 0, "", "verify", old)
+    trial.check("version 1: the lines of a dump", trial.said("dump", old, "a"), DUMPED)
+    trial.ended("version 1", 124, "journal: of version 1: no elements until a checkpoint", "serve", EXAMPLE, 0, old)
+    trial.ended("version 1: a checkpoint", 0, "", "checkpoint", EXAMPLE, old)
+    trial.ended("version 2", 124, "", "serve", EXAMPLE, 0, old)
+    trial.check("version 2: the lines of a dump", trial.said("dump", old, "a"), DUMPED)
+    trial.ended("version 3", 1, "journal: of version 3", "serve", EXAMPLE, 0, later)
+    trial.ended("version 3: a dump", 1, "journal: of version 3", "dump", later, "a")
+
+
 def try_ends(trial, folder):
     """Journals that end otherwise, and a start that was cut off before there was one."""
     last = changed_journal(folder, "last", -1, "x")
@@ -356,7 +373,7 @@ def daemon_statuses():
     with tempfile.TemporaryDirectory() as place:
         folder = pathlib.Path(place)
         try_help(trial)
-        for step in (try_beginnings, try_beside, try_configs, try_damages, try_ends):
+        for step in (try_beginnings, try_beside, try_configs, try_damages, try_versions, try_ends):
             step(trial, folder)
     if trial.differ == 0:
         print("daemon-statuses: none differs")

@@ -10,7 +10,7 @@ import urllib.request
 
 from oai.programs import TOP, needs, oaihostd
 from oai.proxy import HOST
-from oai.web_archive import ADDRESSES, ARABIC, DEPOSITS, FOUR_BYTES, HEBREW, HOSTILE, LINK, STEAL, Archive
+from oai.web_archive import ADDRESSES, ARABIC, DC, DEPOSITS, FOUR_BYTES, HEBREW, HOSTILE, LINK, STEAL, Archive
 from oai.web_reader import Reader
 from oai.webdriver import DOWN, ENTER, TAB, Browser
 
@@ -267,6 +267,34 @@ def read_hostile(reader):
     reader.check("nothing was stolen", reader.browser.run("return typeof window.stolen"), "undefined")
 
 
+# The items of the trees of elements: of each its own line, and the items below it.
+TREES = """
+const line = (item) => [...item.childNodes].filter((it) => it.nodeName !== "UL").map((it) => it.textContent).join("");
+const tree = (item) => [line(item), ...[...item.querySelectorAll(":scope > ul > li")].map(tree)];
+return [...document.querySelectorAll(".tree > li")].map(tree);"""
+
+
+def read_element(reader):
+    """A record that is an element is seen as a tree, with its namespaces; nothing of it is markup."""
+    reader.go("#/theses?verb=GetRecord&identifier=oai:theses:2&metadataPrefix=oai_dc")
+    reader.expect("an element", "A record in oai_dc", "")
+    [[root, *inside]] = reader.browser.run(TREES)
+    reader.check("its root", root, f"oai_dc:dc namespace none prefix dc is {DC} prefix oai_dc is http://www.openarchives.org/OAI/2.0/oai_dc/")
+    xhtml = "namespace http://www.w3.org/1999/xhtml"
+    reader.check("what stands in it", inside[:4], [
+        ["dc:title xml:lang = en On Elements"], [f"script {xhtml} src = /none window.stolen = 1"], [f"img {xhtml} src = /none onerror = window.stolen = 1"],
+        ["dc:relation", [f"a namespace none href = {LINK} <b> {HEBREW}"], [" and "], ["dc:b xml:space = preserve", [" "], ["i namespace none"], [" "]]]])
+    reader.check("how much stands in it", len(inside), 201)
+    deep = inside[4]
+    for _ in range(59):
+        deep = deep[1]
+    reader.check("the deepest", deep, ["d deep"])
+    reader.orderly("an element")
+    reader.enter(".tree button", "Show 6 more of 6")
+    reader.check("more of it", len(reader.browser.run(TREES)[0]) - 1, 206)
+    reader.check("nothing was stolen", reader.browser.run("return typeof window.stolen"), "undefined")
+
+
 # What the Content-Security-Policy has to refuse: each ends with an error, or does nothing.
 REFUSED = [
     ("document.body.insertAdjacentHTML('beforeend', '<img src=x onerror=\"window.stolen = 1\">')", "TypeError"),
@@ -301,9 +329,10 @@ def try_policy(reader):
 
 
 def read_console(reader):
-    """The browser had nothing to complain of but the statuses that were wanted."""
+    """The browser had nothing to complain of but the statuses that were wanted, and the handler in an element, which it did not take."""
     said = [it["message"] for it in reader.browser.log("browser")]
-    reader.check("what the browser said", [it for it in said if not re.search(r"/oai/.*status of (404|502|503)", it)], [])
+    wanted = r"/oai/.*status of (404|502|503)|/oai.js .* inline event handler violates .* Content Security Policy"
+    reader.check("what the browser said", [it for it in said if not re.search(wanted, it)], [])
 
 
 def read_many(reader):
@@ -348,6 +377,7 @@ def unfold_depths(reader):
 NARROW = [
     ("", "Choose a repository"), ("#/journal", "Journal of Sets"), ("#/journal?verb=ListMetadataFormats", "Formats"), ("#/journal?verb=ListSets", "Sets"),
     ("#/hostile?verb=ListRecords&metadataPrefix=oai_dc", "Records"), ("#/many?verb=ListSets", "Sets"), ("#/theses?verb=ListSets", "No sets"),
+    ("#/theses?verb=ListRecords&metadataPrefix=oai_dc", "Records"),
 ]
 
 
@@ -386,7 +416,7 @@ def go_through(reader, archive, stamp):
     """All of it; `stamp` is the datestamp of the journal's items. Where one step finds no way the next ones go on."""
     steps = [
         (choose_repository,), (look_around,), (read_one, stamp), (read_headers, stamp), (read_errors,), (read_parts, stamp), (read_busy, archive),
-        (read_while_down, archive), (read_hostile,), (read_many,), (read_narrow,), (network,), (read_console,), (try_policy,),
+        (read_while_down, archive), (read_hostile,), (read_element,), (read_many,), (read_narrow,), (network,), (read_console,), (try_policy,),
     ]
     for step, *arguments in steps:
         try:

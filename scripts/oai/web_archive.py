@@ -81,6 +81,17 @@ DEPOSITS = {
 }
 
 
+# An element that attacks: names and texts of markup in it are seen as they are.
+DC = "http://purl.org/dc/elements/1.1/"
+ELEMENT = (
+    f'<oai_dc:dc xmlns:oai_dc="http://www.openarchives.org/OAI/2.0/oai_dc/" xmlns:dc="{DC}">\n  <dc:title xml:lang="en">On Elements</dc:title>\n'
+    f'  <script xmlns="http://www.w3.org/1999/xhtml" src="/none">window.stolen = 1</script><img xmlns="http://www.w3.org/1999/xhtml" src="/none" '
+    f'onerror="window.stolen = 1"/>\n  <dc:relation><a xmlns="" href="{LINK}">&lt;b&gt; {HEBREW}</a> and <dc:b xml:space="preserve"> <i xmlns=""/> </dc:b>'
+    f"</dc:relation>{'<d>' * 60}deep{'</d>' * 60}{'<n/>' * 201}</oai_dc:dc>"
+)
+DEPOSITS["theses"].append({"deposit": "oai:theses:2", "sets": [], "records": {"oai_dc": ELEMENT}})
+
+
 class Archive(Proxy):
     """The server on a folder, and nginx before it."""
 

@@ -8,12 +8,13 @@ use Rattle.oai_names.proofs.EscapeCuts.{text_cut}
 use Rattle.oai_time.specs.TimeTexts.{datestamp_text, second_text}
 use Rattle.oai_time.specs.declared.granularity.Granularity.TheVariants.{Day}
 use Rattle.oai_item.specs.Item.{ItemState, fields_in}
-use Rattle.oai_item.specs.declared.fields.Field.{Field}
 use Rattle.oai_item.specs.declared.formats.Format.{Format}
+use Rattle.oai_xml.specs.Trees.{Tree}
 use Rattle.oai_answers.specs.Answers.{Continuation, Description, Dissemination, Document, Page, VerbAnswer, completes, fails, gives_record, identifies, lists_formats, lists_headers, lists_records, lists_sets, remains, whole}
 use Rattle.oai_answers.specs.Documents.{answer_element, document, error_element, extent_attributes, formats_element, identify_element, sets_element, get_record_element, head, header_element, header_start, identifiers_element, metadata, metadata_part, record_element, records_element, token_element}
 use Rattle.oai_answers.specs.Markup.{attribute_start, element, end_tag, plain, spelled_attribute, start_tag, text_element}
-use Rattle.oai_answers.specs.Seen.{SeenFormat, SeenMetadata, answer_seen, document_seen, empty_token, format_seen, header_seen, identity_seen, metadata_seen, no_token, offer_seen, record_seen, seen_error, seen_formats, seen_headers, seen_identity, seen_record, seen_records, seen_sets, seen_token, token_seen}
+use Rattle.oai_answers.specs.MetadataTrees.{metadata_tree}
+use Rattle.oai_answers.specs.Seen.{answer_seen, document_seen, empty_token, header_seen, identity_seen, metadata_seen, no_token, offer_seen, record_seen, seen_error, seen_formats, seen_headers, seen_identity, seen_record, seen_records, seen_sets, seen_token, token_seen}
 use Rattle.oai_answers.specs.declared.errors.ErrorCode.{ErrorCode}
 use Rattle.oai_answers.specs.declared.errors.ErrorCode.TheVariants.{BadVerb}
 use Rattle.oai_item.specs.declared.deleted_record.DeletedRecord.TheVariants.{No}
@@ -65,18 +66,18 @@ part_told d rest ends = by_test d.item.live
     by_test true = refl
     by_test false = ap as_live (slash_at rest ends)
 
-abbrev some_metadata : SeenFormat × List Field → Option SeenMetadata
-some_metadata content = Some (record { format = content.0; fields = content.1 })
+abbrev some_metadata : Tree → Option Tree
+some_metadata tree = Some tree
 
-abbrev live_seen : Dissemination → Option SeenMetadata
-live_seen d = some_metadata (pair (format_seen d.format) (fields_in d.format.prefix d.item.formats))
+abbrev live_seen : Dissemination → Option Tree
+live_seen d = some_metadata (metadata_tree d.format (fields_in d.format.prefix d.item.formats))
 
 live_cut : Cuts closes is_plain_record (λ (d : Dissemination). element (codes "metadata") (metadata d.format (fields_in d.format.prefix d.item.formats))) live_seen
 live_cut =
     let content = of_part content_of metadata_cut in
     seen_as some_metadata (where_next (λ rest _. refl) (element_cut (codes "metadata") content (λ rest. refl)))
 
-abbrev nothing_seen : Option SeenMetadata
+abbrev nothing_seen : Option Tree
 nothing_seen = None
 
 dead_cut : Cuts closes is_plain_record (λ (d : Dissemination). []) (λ d. nothing_seen)

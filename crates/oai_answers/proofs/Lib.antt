@@ -2,7 +2,11 @@ pub mod Appending
 pub mod Spelled
 pub mod Printed
 pub mod PartCuts
+pub mod Written
+pub mod ElementLemmas
 pub mod RecordCuts
 pub mod DocumentCuts
+pub mod NamedTrees
+pub mod FieldLemmas
 pub mod RegularLemmas
 pub mod UnseenLemmas

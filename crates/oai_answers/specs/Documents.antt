@@ -9,6 +9,7 @@ use Rattle.oai_names.specs.Escapes.{escaped_text, escaped_attribute}
 use Rattle.oai_time.specs.TimeTexts.{datestamp_text, second_text}
 use Rattle.oai_time.specs.declared.granularity.Granularity.{Granularity}
 use Rattle.oai_time.specs.declared.granularity.Granularity.TheVariants.{Day, Second}
+use Rattle.oai_item.specs.Elements.{element_in}
 use Rattle.oai_item.specs.declared.fields.Field.{Field}
 use Rattle.oai_item.specs.declared.formats.Format.{Format}
 use Rattle.oai_answers.specs.Answers.{Attributes, arguments_told, Description, Dissemination, Continuation, whole, remains, completes, Page, VerbAnswer, fails, identifies, lists_formats, lists_sets, gives_record, lists_headers, lists_records, Document}
@@ -175,11 +176,21 @@ unfoldable pub declared_metadata : Format → List Field → List ℕ
 declared_metadata format fields =
     declared_start format ++ flat_map (field_element []) fields ++ end_tag format.root
 
--- the fields in their format; oai_dc is known by its prefix
-unfoldable pub metadata : Format → List Field → List ℕ
-metadata format fields =
+-- fields in their format; oai_dc is known by its prefix
+unfoldable pub fields_metadata : Format → List Field → List ℕ
+fields_metadata format fields =
     if bytes_eq format.prefix (codes "oai_dc") then dublin_core_metadata fields
     else declared_metadata format fields
+
+-- an element is written as it stands: its canonical text declares a default namespace, so no name in it changes its meaning here (Namespaces in
+-- XML 1.0, section 6.2)
+abbrev pub content_written : Format → List Field → Option (List ℕ) → List ℕ
+content_written format fields None = fields_metadata format fields
+content_written format fields (Some element) = plain element
+
+-- the metadata of a record: the element that its fields keep, or its fields
+unfoldable pub metadata : Format → List Field → List ℕ
+metadata format fields = content_written format fields (element_in fields)
 
 -- Headers and records. Sections 2.5, 2.5.1 and 4.1
 
@@ -197,7 +208,7 @@ header_element granularity item =
     ++ flat_map (text_element (codes "setSpec")) item.sets
     ++ end_tag (codes "header")
 
--- the part of a record after its header, the fields of the item's record in the format: a deleted record has none
+-- the part of a record after its header, the item's record in the format: a deleted record has none
 unfoldable pub metadata_part : Format → ItemState → List ℕ
 metadata_part format item =
     if item.live

@@ -1,6 +1,8 @@
 pub mod Answers
 pub mod Appends
 pub mod Borrowed
+pub mod ElementParts
+pub mod MetadataTrees
 pub mod Documents
 pub mod Markup
 pub mod Seen

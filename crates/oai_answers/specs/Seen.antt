@@ -10,10 +10,11 @@ use Rattle.oai_item.specs.Formats.{dublin_core}
 use Rattle.oai_item.specs.Item.{ItemState, fields_in}
 use Rattle.oai_item.specs.Known.{are_fields_of}
 use Rattle.oai_item.specs.Rules.{is_allowed}
-use Rattle.oai_item.specs.declared.fields.Field.{Field}
 use Rattle.oai_item.specs.declared.formats.Format.{Format}
 use Rattle.oai_answers.specs.Answers.{Attributes, Continuation, Description, Document, VerbAnswer, arguments_told, completes, fails, gives_record, identifies, lists_formats, lists_headers, lists_records, lists_sets, remains, whole}
+use Rattle.oai_answers.specs.MetadataTrees.{metadata_tree}
 use Rattle.oai_answers.specs.declared.errors.ErrorCode.{ErrorCode}
+use Rattle.oai_xml.specs.Trees.{Tree}
 use Rattle.oai_item.specs.declared.deleted_record.DeletedRecord.{DeletedRecord}
 
 -- ---- what is seen
@@ -26,20 +27,10 @@ pub record SeenHeader : Type 0 where
   pub datestamp : List ℕ
   pub sets : List (List ℕ)
 
--- of a format: that it is unqualified Dublin Core; or its root, its namespace and its schema
-pub data SeenFormat : Type 0 where
-  seen_dublin_core : SeenFormat
-  seen_declared : List ℕ → List ℕ → List ℕ → SeenFormat
-
--- of the metadata of a record: its format, and its fields, name and text, in order
-pub record SeenMetadata : Type 0 where
-  pub format : SeenFormat
-  pub fields : List Field
-
--- of a record: its header; and its metadata, where it is live
+-- of a record: its header; and the tree of its metadata, where it is live. `fields_law` says what such a tree shows of fields
 pub record SeenRecord : Type 0 where
   pub header : SeenHeader
-  pub metadata : Option SeenMetadata
+  pub metadata : Option Tree
 
 -- of how a list continues (section 3.5): nothing; or a token, with expirationDate, completeListSize and cursor as they
 -- are printed; or the empty token, with completeListSize and cursor
@@ -90,16 +81,10 @@ header_seen granularity item = record {
   sets = item.sets;
 }
 
--- oai_dc is known by its prefix
-abbrev pub format_seen : Format → SeenFormat
-format_seen format =
-    if bytes_eq format.prefix (codes "oai_dc") then seen_dublin_core
-    else seen_declared format.root format.namespace format.schema
-
 -- the record in the format
-abbrev pub metadata_seen : Format → ItemState → Option SeenMetadata
+abbrev pub metadata_seen : Format → ItemState → Option Tree
 metadata_seen format item =
-    if item.live then Some (record { format = format_seen format; fields = fields_in format.prefix item.formats }) else None
+    if item.live then Some (metadata_tree format (fields_in format.prefix item.formats)) else None
 
 abbrev pub record_seen : Granularity → Format → ItemState → SeenRecord
 record_seen granularity format item = record {
@@ -148,7 +133,7 @@ document_seen d = record {
 abbrev pub IsGoodFormat : Format → Type 0
 IsGoodFormat format = (format ≡ dublin_core) ⊎ (is_allowed format ≡ true)
 
--- each field of the item's record in the format is a field of the format
+-- each field of the item's record in the format is a field of the format, or they keep an element of the format
 abbrev pub has_own_fields : Format → ItemState → Bool
 has_own_fields format item = are_fields_of (Some format) (fields_in format.prefix item.formats)
 
@@ -161,3 +146,16 @@ IsRegular (lists_sets sets) = Unit {0}
 IsRegular (gives_record d) = IsGoodFormat d.format × (has_own_fields d.format d.item ≡ true)
 IsRegular (lists_headers page) = Unit {0}
 IsRegular (lists_records format page) = IsGoodFormat format × (list_all (has_own_fields format) page.items ≡ true)
+
+-- ---- what trees show of fields
+
+-- of a format: that it is unqualified Dublin Core; or its root, its namespace and its schema
+pub data SeenFormat : Type 0 where
+  seen_dublin_core : SeenFormat
+  seen_declared : List ℕ → List ℕ → List ℕ → SeenFormat
+
+-- oai_dc is known by its prefix
+abbrev pub format_seen : Format → SeenFormat
+format_seen format =
+    if bytes_eq format.prefix (codes "oai_dc") then seen_dublin_core
+    else seen_declared format.root format.namespace format.schema

@@ -24,7 +24,7 @@ pub use documents::{Body, Doc, write_document};
 pub use errors::ErrorCode;
 pub use formats::Offered;
 pub use identify::Identity;
-pub use laws::{document_law, unseen_law};
+pub use laws::{document_law, fields_law, unseen_law};
 pub use lists::Listed;
 pub use oai_item::DeletedRecord;
 pub use records::Record;

@@ -1,7 +1,7 @@
 ghost use Rattle.std.specs.Prelude.{◌≡◌, OnOk, ◌++◌, codes};
 ghost use Rattle.std.specs.List.{flat_map};
 ghost use Rattle.oai_answers.specs.Appends.{Appends};
-ghost use Rattle.oai_answers.specs.Documents.{declared_metadata, declared_start, dublin_core_metadata, dublin_core_start, field_element, metadata, qualifier_of, schema_location};
+ghost use Rattle.oai_answers.specs.Documents.{declared_metadata, declared_start, dublin_core_metadata, dublin_core_start, field_element, fields_metadata, metadata, qualifier_of, schema_location};
 ghost use Rattle.oai_answers.specs.Markup.{end_tag, start_tag};
 
 use crate::markup::{attribute, end, put, put_text, put_value, start_attribute};
@@ -47,14 +47,29 @@ impl Qualifier {
     }
 }
 
-/// Appends the metadata in its format.
-#[tactic(auto, unfolding(crate::specs::Documents::metadata))]
+/// Appends the metadata in its format: the element that the fields keep, as it stands, or the fields.
+#[tactic(auto, unfolding(crate::specs::Documents::metadata, crate::specs::Markup::plain))]
 pub(crate) fn write_metadata(
     format: &Format,
     fields: Fields<'_>,
     out: &mut Vec<u8>,
 ) -> Result<(), AllocError>
     ensures { OnOk result (Appends out.old.items out.new.items (metadata format.now fields.entry)) }
+{
+    match fields.element() {
+        Some(element) => put(element, out),
+        None => write_fields_metadata(format, fields, out),
+    }
+}
+
+/// Appends the fields in their format.
+#[tactic(auto, unfolding(crate::specs::Documents::fields_metadata))]
+fn write_fields_metadata(
+    format: &Format,
+    fields: Fields<'_>,
+    out: &mut Vec<u8>,
+) -> Result<(), AllocError>
+    ensures { OnOk result (Appends out.old.items out.new.items (fields_metadata format.now fields.entry)) }
 {
     if format.prefix.as_str() == "oai_dc" {
         write_dublin_core(fields, out)

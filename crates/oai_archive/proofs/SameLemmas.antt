@@ -8,6 +8,8 @@ use Rattle.serde_json.proofs.Nesting.{depth-read}
 use Rattle.serde_json.proofs.Views.{get_member-put_other}
 use Rattle.oai_item.specs.ShortTexts.{is_short_text}
 use Rattle.oai_item.specs.declared.formats.Format.{Format}
+use Rattle.oai_item.specs.declared.forms.Forms.{Forms}
+use Rattle.oai_item.specs.declared.forms.Forms.TheVariants.{Fields, Elements}
 use Rattle.oai_item.specs.declared.deleted_record.DeletedRecord.{DeletedRecord}
 use Rattle.oai_time.specs.declared.granularity.Granularity.{Granularity}
 use Rattle.oai_names.specs.Optional.{◌>>=◌, each_of, tested}
@@ -19,12 +21,12 @@ use Rattle.oai_settings.specs.declared.settings.Settings.{Settings}
 use Rattle.oai_config.specs.Configs.{HostConfig, NamedConfig}
 use Rattle.oai_config.specs.Reading.{HasSettings, HaveSettings, IsConfigOf}
 use Rattle.oai_config.specs.Shapes.{base_at, host_members, repositories_at, settings_of, told_from, told_in, told_of}
-use Rattle.oai_archive.specs.Firsts.{AreSame, IsOf, IsSameConfig, but_cache, first_body}
+use Rattle.oai_archive.specs.Firsts.{AreSame, IsOf, IsSameConfig, versioned_body, but_cache}
 
 -- ---- a configuration is determined by its settings
 
-made : List ℕ → List ℕ → List (List ℕ) → ℤ → DeletedRecord → Granularity → ℕ → ℕ → ℕ → ℕ → List Format → RepositoryConfig
-made base name addresses earliest deleted granularity chunk lifetime lists items formats = record {
+made : List ℕ → List ℕ → List (List ℕ) → ℤ → DeletedRecord → Granularity → ℕ → ℕ → ℕ → ℕ → List Format → Forms → RepositoryConfig
+made base name addresses earliest deleted granularity chunk lifetime lists items formats forms = record {
   base = base;
   repository_name = name;
   addresses = addresses;
@@ -36,13 +38,14 @@ made base name addresses earliest deleted granularity chunk lifetime lists items
   lists = lists;
   items = items;
   formats = formats;
+  forms = forms;
 }
 
-same_made : (b b' n n' : List ℕ) (a a' : List (List ℕ)) (e e' : ℤ) (d d' : DeletedRecord) (g g' : Granularity) (c c' t t' l l' i i' : ℕ) (f f' : List Format)
-    → b ≡ b' → n ≡ n' → a ≡ a' → e ≡ e' → d ≡ d' → g ≡ g' → c ≡ c' → t ≡ t' → l ≡ l' → i ≡ i' → f ≡ f'
-    → made b n a e d g c t l i f ≡ made b' n' a' e' d' g' c' t' l' i' f'
-same_made b b' n n' a a' e e' d d' g g' c c' t t' l l' i i' f f' p1 p2 p3 p4 p5 p6 p7 p8 p9 p10 p11 =
-    rw (p1, p2, p3, p4, p5, p6, p7, p8, p9, p10, p11) refl
+same_made : (b b' n n' : List ℕ) (a a' : List (List ℕ)) (e e' : ℤ) (d d' : DeletedRecord) (g g' : Granularity) (c c' t t' l l' i i' : ℕ) (f f' : List Format) (h h' : Forms)
+    → b ≡ b' → n ≡ n' → a ≡ a' → e ≡ e' → d ≡ d' → g ≡ g' → c ≡ c' → t ≡ t' → l ≡ l' → i ≡ i' → f ≡ f' → h ≡ h'
+    → made b n a e d g c t l i f h ≡ made b' n' a' e' d' g' c' t' l' i' f' h'
+same_made b b' n n' a a' e e' d d' g g' c c' t t' l l' i i' f f' h h' p1 p2 p3 p4 p5 p6 p7 p8 p9 p10 p11 p12 =
+    rw (p1, p2, p3, p4, p5, p6, p7, p8, p9, p10, p11, p12) refl
 
 -- what two values are, where one thing is some of both
 both_some : {A : Type 0} (o : Option A) (x y : A) → o ≡ Some x → o ≡ Some y → x ≡ y
@@ -52,10 +55,10 @@ one_config : (s : Settings) (c d : RepositoryConfig) → Configures s c → Conf
 unfolding made
 one_config s c d p q =
     same_made c.base d.base c.repository_name d.repository_name c.addresses d.addresses c.earliest d.earliest c.deleted d.deleted c.granularity d.granularity
-    c.chunk d.chunk c.lifetime d.lifetime c.lists d.lists c.items d.items c.formats d.formats
+    c.chunk d.chunk c.lifetime d.lifetime c.lists d.lists c.items d.items c.formats d.formats c.forms d.forms
     (p.base ∙ sym q.base) (p.repository_name ∙ sym q.repository_name) (p.addresses ∙ sym q.addresses) (both_some _ _ _ p.earliest q.earliest)
     (p.deleted ∙ sym q.deleted) (p.granularity ∙ sym q.granularity) (both_some _ _ _ p.chunk q.chunk) (both_some _ _ _ p.lifetime q.lifetime)
-    (both_some _ _ _ p.lists q.lists) (both_some _ _ _ p.items q.items) (p.formats ∙ sym q.formats)
+    (both_some _ _ _ p.lists q.lists) (both_some _ _ _ p.items q.items) (p.formats ∙ sym q.formats) (p.forms ∙ sym q.forms)
 
 named : List ℕ → RepositoryConfig → NamedConfig
 named name config = record { name = name; config = config }
@@ -86,13 +89,13 @@ tested_read true d f x is = is
 tested_read false d f x is = absurd cc
 
 -- the settings of repositories come from two members
-repositories_told : (d : Data) (told : _) → told_of d ≡ Some told → (base : List ℕ) × (base_at d ≡ Some base) × (repositories_at base d ≡ Some told.repositories)
+repositories_told : (forms : Forms) (d : Data) (told : _) → told_of forms d ≡ Some told → (base : List ℕ) × (base_at d ≡ Some base) × (repositories_at forms base d ≡ Some told.repositories)
 unfolding told_of
-repositories_told d told is =
-    let from : told_from d ≡ Some told = tested_read (has_members host_members d) d told_from told is in
+repositories_told forms d told is =
+    let from : told_from forms d ≡ Some told = tested_read (has_members host_members d) d (told_from forms) told is in
     let base = bind-Some (base_at d) _ told from in
     let cache = bind-Some (number_at (codes "cache") d) _ told base.2 in
-    let list = bind-Some (repositories_at base.0 d) _ told cache.2 in
+    let list = bind-Some (repositories_at forms base.0 d) _ told cache.2 in
     let same = Some-injective _ told list.2 in
     let last : Some list.0 ≡ Some told.repositories = λ i. Some ((same i).repositories) in
     (base.0, base.1, list.1 ∙ last)
@@ -101,18 +104,18 @@ same_base : (d e : Data) → get (codes "base") d ≡ get (codes "base") e → b
 unfolding base_at text_at
 same_base d e same = ap (λ (o : Option Data). (o >>= as_str) >>= tested is_short_text) same
 
-same_repositories_at : (base : List ℕ) (d e : Data) → get (codes "repositories") d ≡ get (codes "repositories") e → repositories_at base d ≡ repositories_at base e
+same_repositories_at : (forms : Forms) (base : List ℕ) (d e : Data) → get (codes "repositories") d ≡ get (codes "repositories") e → repositories_at forms base d ≡ repositories_at forms base e
 unfolding repositories_at elements_at
-same_repositories_at base d e same = ap (λ (o : Option Data). (o >>= elements_of) >>= each_of (settings_of base)) same
+same_repositories_at forms base d e same = ap (λ (o : Option Data). (o >>= elements_of) >>= each_of (settings_of forms base)) same
 
-same_told : (d e : Data) (one : _) (other : _) → get (codes "base") d ≡ get (codes "base") e → get (codes "repositories") d ≡ get (codes "repositories") e
-    → told_of d ≡ Some one → told_of e ≡ Some other → one.repositories ≡ other.repositories
-same_told d e one other based listed p q =
-    let a = repositories_told d one p in
-    let b = repositories_told e other q in
+same_told : (forms : Forms) (d e : Data) (one : _) (other : _) → get (codes "base") d ≡ get (codes "base") e → get (codes "repositories") d ≡ get (codes "repositories") e
+    → told_of forms d ≡ Some one → told_of forms e ≡ Some other → one.repositories ≡ other.repositories
+same_told forms d e one other based listed p q =
+    let a = repositories_told forms d one p in
+    let b = repositories_told forms e other q in
     let base : a.0 ≡ b.0 = Some-injective a.0 b.0 (sym a.1 ∙ same_base d e based ∙ b.1) in
     Some-injective one.repositories other.repositories
-    (sym a.2 ∙ same_repositories_at a.0 d e listed ∙ ap (λ (x : List ℕ). repositories_at x e) base ∙ b.2)
+    (sym a.2 ∙ same_repositories_at forms a.0 d e listed ∙ ap (λ (x : List ℕ). repositories_at forms x e) base ∙ b.2)
 
 -- ---- two texts
 
@@ -161,31 +164,31 @@ shallow text ms is =
     omega arith
 
 -- the settings of a text that is an object are those of the object
-told_in_object : (text : List ℕ) (d : Data) (told : _) → json_in text ≡ Some d → told_in text ≡ Some told → told_of d ≡ Some told
+told_in_object : (forms : Forms) (text : List ℕ) (d : Data) (told : _) → json_in text ≡ Some d → told_in forms text ≡ Some told → told_of forms d ≡ Some told
 unfolding told_in
-told_in_object text d told is tells = ap (λ (o : Option Data). o >>= told_of) (sym is) ∙ tells
+told_in_object forms text d told is tells = ap (λ (o : Option Data). o >>= told_of forms) (sym is) ∙ tells
 
-repositories_of_text : (text : List ℕ) (a b : HostConfig) → IsConfigOf text a → IsConfigOf text b → a.repositories ≡ b.repositories
-repositories_of_text text a b p q =
-    let told : p.told ≡ q.told = both_some (told_in text) p.told q.told p.tells q.tells in
+repositories_of_text : (forms : Forms) (text : List ℕ) (a b : HostConfig) → IsConfigOf forms text a → IsConfigOf forms text b → a.repositories ≡ b.repositories
+repositories_of_text forms text a b p q =
+    let told : p.told ≡ q.told = both_some (told_in forms text) p.told q.told p.tells q.tells in
     let settings : p.told.repositories ≡ q.told.repositories = λ i. (told i).repositories in
     let are : HaveSettings q.told.repositories a.repositories = subst (λ (ss : List Settings). HaveSettings ss a.repositories) settings p.repositories in
     one_list q.told.repositories a.repositories b.repositories are q.repositories
 
-repositories_of_objects : (one other : List ℕ) (ms ns : Members) (a b : HostConfig) → json_in one ≡ Some (object ms) → json_in other ≡ Some (object ns)
-    → AreSame (but_cache ms) (but_cache ns) → IsConfigOf one a → IsConfigOf other b → a.repositories ≡ b.repositories
-repositories_of_objects one other ms ns a b is too same p q =
+repositories_of_objects : (forms : Forms) (one other : List ℕ) (ms ns : Members) (a b : HostConfig) → json_in one ≡ Some (object ms) → json_in other ≡ Some (object ns)
+    → AreSame (but_cache ms) (but_cache ns) → IsConfigOf forms one a → IsConfigOf forms other b → a.repositories ≡ b.repositories
+repositories_of_objects forms one other ms ns a b is too same p q =
     let equal : but_cache ms ≡ but_cache ns = same (shallow one ms is) (shallow other ns too) in
     let settings : p.told.repositories ≡ q.told.repositories =
-    same_told (object ms) (object ns) p.told q.told (same_member (codes "base") ms ns base_is_another equal) (same_member (codes "repositories") ms ns repositories_are_another equal)
-    (told_in_object one (object ms) p.told is p.tells) (told_in_object other (object ns) q.told too q.tells) in
+    same_told forms (object ms) (object ns) p.told q.told (same_member (codes "base") ms ns base_is_another equal) (same_member (codes "repositories") ms ns repositories_are_another equal)
+    (told_in_object forms one (object ms) p.told is p.tells) (told_in_object forms other (object ns) q.told too q.tells) in
     let are : HaveSettings q.told.repositories a.repositories = subst (λ (ss : List Settings). HaveSettings ss a.repositories) settings p.repositories in
     one_list q.told.repositories a.repositories b.repositories are q.repositories
 
 -- both are read to the same repositories
-pub same_repositories : (one other : List ℕ) (a b : HostConfig) → IsSameConfig one other → IsConfigOf one a → IsConfigOf other b → a.repositories ≡ b.repositories
-same_repositories one other a b (inl same) p q = repositories_of_text other a b (subst (λ (text : List ℕ). IsConfigOf text a) same p) q
-same_repositories one other a b (inr same) p q = repositories_of_objects one other same.0 same.1 a b same.2 same.3 same.4 p q
+pub same_repositories : (forms : Forms) (one other : List ℕ) (a b : HostConfig) → IsSameConfig one other → IsConfigOf forms one a → IsConfigOf forms other b → a.repositories ≡ b.repositories
+same_repositories forms one other a b (inl same) p q = repositories_of_text forms other a b (subst (λ (text : List ℕ). IsConfigOf forms text a) same p) q
+same_repositories forms one other a b (inr same) p q = repositories_of_objects forms one other same.0 same.1 a b same.2 same.3 same.4 p q
 
 -- ---- one journal
 
@@ -200,12 +203,26 @@ same_transitive one between other (inr same) (inr is) =
     let both : same.1 ≡ is.0 = object-injective same.1 is.0 (Some-injective (object same.1) (object is.0) (sym same.3 ∙ is.2)) in
     inr (same.0, is.1, same.2, is.3, λ d e. same.4 d (shallow between same.1 same.3) ∙ ap but_cache both ∙ is.4 (shallow between is.0 is.2) e)
 
--- the text of a first record is that of its body
-body_of : (one other : List ℕ) → first_body one ≡ first_body other → one ≡ other
-body_of one other same = ap (drop 2) same
+-- a first record tells the forms, and its text is that of its body
+first_of : List ℕ → ℕ
+first_of [] = 0
+first_of (b ∷ bs) = b
 
--- texts of which one first record is are the same
-pub same_of_first : (name body one other : List ℕ) → IsOf name body one → IsOf name body other → IsSameConfig one other
-same_of_first name body one other p q =
-    let same : p.1 ≡ q.1 = body_of p.1 q.1 (sym p.2 ∙ q.2) in
-    same_transitive one p.1 other (same_symmetric p.1 one p.3) (subst (λ (text : List ℕ). IsSameConfig text other) (sym same) q.3)
+same_body : (forms found : Forms) (one other : List ℕ) → versioned_body forms one ≡ versioned_body found other → (forms ≡ found) × (one ≡ other)
+unfolding first_of
+same_body Fields Fields one other same = (refl, ap (drop 2) same)
+same_body Elements Elements one other same = (refl, ap (drop 2) same)
+same_body Fields Elements one other same = absurd (smaller 49 50 (lit< tt) (ap first_of same))
+same_body Elements Fields one other same = absurd (smaller 49 50 (lit< tt) (sym (ap first_of same)))
+
+-- texts of which one first record is are the same, and the forms of its records
+pub same_of_first : (forms found : Forms) (name body one other : List ℕ) → IsOf forms name body one → IsOf found name body other → (forms ≡ found) × IsSameConfig one other
+same_of_first forms found name body one other p q =
+    let same = same_body forms found p.1 q.1 (sym p.2 ∙ q.2) in
+    (same.0, same_transitive one p.1 other (same_symmetric p.1 one p.3) (subst (λ (text : List ℕ). IsSameConfig text other) (sym same.1) q.3))
+
+pub same_of_journal : (forms found : Forms) (name body one other : List ℕ) (a b : HostConfig) → IsOf forms name body one → IsOf found name body other
+    → IsConfigOf forms one a → IsConfigOf found other b → a.repositories ≡ b.repositories
+same_of_journal forms found name body one other a b p q read again =
+    let same = same_of_first forms found name body one other p q in
+    same_repositories found one other a b same.1 (subst (λ (forms : Forms). IsConfigOf forms one a) same.0 read) again

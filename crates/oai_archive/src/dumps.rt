@@ -16,8 +16,8 @@ use std::alloc::Global;
 use std::io::Write;
 
 /// Writes the sets and the items of the repository with that name as deposit lines, in an order in which they can be
-/// deposited: the sets in the order in which they were added, and the items in their order, a deleted one as its
-/// deposit and its deletion. The journal on the disk is replayed with its pages in memory, and not written to. A server
+/// deposited: the sets in the order in which they were added, and the items in their order, an element as its
+/// text, and a deleted item as its deposit and its deletion. The journal on the disk is replayed with its pages in memory, and not written to. A server
 /// may write to it meanwhile, as `verify_journal` says. The errors are those of `verify_journal`, `Performing`, and
 /// `NoRepository`, after which nothing was written.
 pub fn dump_repository<D: Disk + Drop, W: Write>(
@@ -27,7 +27,8 @@ pub fn dump_repository<D: Disk + Drop, W: Write>(
     writer: &mut W,
 ) -> Result<(), ServerStop> {
     let recovery = begin_reading(alloc, disk)?;
-    let config = config_in(alloc, &config_text(alloc, &recovery)?)?;
+    let (forms, text) = config_text(alloc, &recovery)?;
+    let config = config_in(alloc, forms, &text)?;
     check_name(&config, name)?;
     let host = host_on(alloc, config, MemoryDevice::new(alloc))?;
     dump_replayed(alloc, host, recovery, name, writer)

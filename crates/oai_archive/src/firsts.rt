@@ -1,9 +1,10 @@
 //! The first record of a journal: the program, the version, and the configuration.
 ghost use Rattle.std.specs.Prelude.{◌≡◌, IfOk, IfSome, IsTrue, OnOk, string_bytes};
-ghost use Rattle.oai_archive.specs.Firsts.{IsOf, IsSameConfig, IsWrittenFor, first_body, program};
+ghost use Rattle.oai_archive.specs.Firsts.{IsOf, IsSameConfig, IsWrittenFor, versioned_body, first_body, program};
 
 use crate::stop::ServerStop;
 use oai_bytes::read_number;
+use oai_item::Forms;
 use oai_journal::LogRecord;
 use oai_json::read_json;
 use serde_json::{Value, put};
@@ -13,12 +14,15 @@ use std::alloc::{AllocError, Global};
 pub(crate) const PROGRAM: &[u8] = b"oaihostd";
 
 /// The version in the first record, and the line end after it.
-const FRONT: &[u8] = b"1\n";
+const FRONT: &[u8] = b"2\n";
 
-/// The version that this program reads and writes.
-pub const VERSION: u64 = 1;
+/// The same of a journal of the version before, whose records are lists of fields alone.
+const OLD_FRONT: &[u8] = b"1\n";
 
-/// The body of the first record: the version, a line end, and the configuration. The error is out of memory.
+/// The version that this program writes. It reads 1 too.
+pub const VERSION: u64 = 2;
+
+/// The body of the first record of a new journal: the version, a line end, and the configuration. The error is out of memory.
 pub(crate) fn write_first(alloc: Global, text: &[u8]) -> Result<Vec<u8>, AllocError>
     ensures { IfOk result (λ body. body.items ≡ first_body text.now) }
 {
@@ -28,13 +32,25 @@ pub(crate) fn write_first(alloc: Global, text: &[u8]) -> Result<Vec<u8>, AllocEr
     Ok(body)
 }
 
-/// Whether the first record has the configuration in the text, ignoring the size of the cache. The errors are `NotOurs`
-/// and `OfVersion`, if the record is not this program's, or of another version of it, and `NoMemory`.
-pub(crate) fn is_of(alloc: Global, first: &LogRecord<'_>, text: &[u8]) -> Result<bool, ServerStop>
-    ensures { IfOk result (λ same. IsTrue same → IsOf first.now.name.now first.now.body.now text.now) }
+/// The forms of the records of the journal, if its first record has the configuration in the text, ignoring the size of
+/// the cache. The errors are `NotOurs` and `OfVersion`, if the record is not this program's, or of another version of it,
+/// and `NoMemory`.
+pub(crate) fn forms_for(
+    alloc: Global,
+    first: &LogRecord<'_>,
+    text: &[u8],
+) -> Result<Option<Forms>, ServerStop>
+    ensures { IfOk result (λ found. IfSome found
+        (λ forms. IsOf forms first.now.name.now first.now.body.now text.now)) }
 {
     match config_of(first) {
-        Ok(config) => Ok(is_same(alloc, config, text)?),
+        Ok((forms, config)) => {
+            if is_same(alloc, config, text)? {
+                Ok(Some(forms))
+            } else {
+                Ok(None)
+            }
+        }
         Err(stop) => Err(stop),
     }
 }
@@ -67,25 +83,35 @@ fn without_cache(alloc: Global, config: &[u8]) -> Result<Option<String>, AllocEr
     }
 }
 
-/// The configuration in the first record. The errors are `NotOurs` and `OfVersion`, if the record is not this
-/// program's, or of another version of it.
-pub(crate) fn config_of<'a>(first: &LogRecord<'a>) -> Result<&'a [u8], ServerStop>
+/// The forms of the journal's records, by its version, and the configuration in its first record. The errors are
+/// `NotOurs` and `OfVersion`, if the record is not this program's, or of another version of it.
+pub(crate) fn config_of<'a>(first: &LogRecord<'a>) -> Result<(Forms, &'a [u8]), ServerStop>
     ensures name { OnOk result (first.now.name.now ≡ program) }
-    ensures body { IfOk result (λ config. first.now.body.now ≡ first_body config.now) }
+    ensures body { IfOk result (λ found. first.now.body.now ≡ versioned_body found.0 found.1.now) }
 {
     if first.name != PROGRAM {
         return Err(ServerStop::NotOurs);
     }
     match first.body.strip_prefix(FRONT) {
-        Some(config) => Ok(config),
-        None => Err(stop_of_version(first.body)),
+        Some(config) => Ok((Forms::Elements, config)),
+        None => old_config_of(first.body),
+    }
+}
+
+/// The same of a body that is not of this version.
+fn old_config_of(body: &[u8]) -> Result<(Forms, &[u8]), ServerStop>
+    ensures { IfOk result (λ found. body.now ≡ versioned_body found.0 found.1.now) }
+{
+    match body.strip_prefix(OLD_FRONT) {
+        Some(config) => Ok((Forms::Fields, config)),
+        None => Err(stop_of_version(body)),
     }
 }
 
 /// Why a journal whose first record has that body is not read.
 fn stop_of_version(body: &[u8]) -> ServerStop {
     match version_in(body) {
-        Some(version) if version != VERSION => ServerStop::OfVersion(version),
+        Some(version) if version != 1 && version != VERSION => ServerStop::OfVersion(version),
         _ => ServerStop::NotOurs,
     }
 }

@@ -6,20 +6,20 @@ use Rattle.std.proofs.lemmas.List.Elements.{filter-append}
 use Rattle.std.proofs.lemmas.List.Folds.{list_all-append}
 use Rattle.oai_names.specs.Characters.{is_xml_text}
 use Rattle.oai_names.specs.Names.{is_among}
-use Rattle.oai_args.specs.Arguments.{known_keys, given_of, given, arguments_in}
+use Rattle.oai_args.specs.Arguments.{known_keys, occurrence_of, given, arguments_in}
 use Rattle.oai_args.specs.Pairs.{Pair, decoded_text, decoded_pair, decoded_pairs, values_of, has_only_keys, has_xml_values}
 use Rattle.oai_args.specs.declared.arguments.Arguments.{Arguments}
 use Rattle.oai_args.specs.Steps.{given_with, arguments_with}
 
-given_with-given_of : (front rest : List (List ℕ)) → given_with (given_of front) rest ≡ given_of (front ++ rest)
+given_with-occurrence_of : (front rest : List (List ℕ)) → given_with (occurrence_of front) rest ≡ occurrence_of (front ++ rest)
 unfolding given_with
-given_with-given_of [] [] = refl
-given_with-given_of [] (value ∷ []) = refl
-given_with-given_of [] (value ∷ other ∷ values) = refl
-given_with-given_of (first ∷ []) [] = refl
-given_with-given_of (first ∷ []) (value ∷ values) = refl
-given_with-given_of (first ∷ second ∷ front) [] = refl
-given_with-given_of (first ∷ second ∷ front) (value ∷ values) = refl
+given_with-occurrence_of [] [] = refl
+given_with-occurrence_of [] (value ∷ []) = refl
+given_with-occurrence_of [] (value ∷ other ∷ values) = refl
+given_with-occurrence_of (first ∷ []) [] = refl
+given_with-occurrence_of (first ∷ []) (value ∷ values) = refl
+given_with-occurrence_of (first ∷ second ∷ front) [] = refl
+given_with-occurrence_of (first ∷ second ∷ front) (value ∷ values) = refl
 
 values_of-append : (key : List ℕ) (front rest : List Pair) → values_of key (front ++ rest) ≡ values_of key front ++ values_of key rest
 unfolding values_of
@@ -31,7 +31,7 @@ values_of-append key front rest =
 given_with-append : (key : List ℕ) (front rest : List Pair) → given_with (given key front) (values_of key rest) ≡ given key (front ++ rest)
 unfolding given
 given_with-append key front rest =
-    given_with-given_of (values_of key front) (values_of key rest) ∙ ap given_of (sym (values_of-append key front rest))
+    given_with-occurrence_of (values_of key front) (values_of key rest) ∙ ap occurrence_of (sym (values_of-append key front rest))
 
 known-append : (keys : List (List ℕ)) (front rest : List Pair) → (has_only_keys keys front && has_only_keys keys rest) ≡ has_only_keys keys (front ++ rest)
 unfolding has_only_keys

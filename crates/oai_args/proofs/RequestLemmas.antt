@@ -16,8 +16,8 @@ use Rattle.oai_names.specs.Optional.{◌>>=◌}
 use Rattle.oai_args.specs.Steps.{result_of}
 use Rattle.oai_args.specs.Verbs.{verbs, name_of, verb_of_list}
 use Rattle.oai_args.specs.declared.arguments.Arguments.{Arguments}
-use Rattle.oai_args.specs.declared.givens.Given.{Given}
-use Rattle.oai_args.specs.declared.givens.Given.TheVariants.{Never, Once, Often}
+use Rattle.oai_args.specs.declared.occurrences.Occurrence.{Occurrence}
+use Rattle.oai_args.specs.declared.occurrences.Occurrence.TheVariants.{Never, Once, Often}
 use Rattle.oai_args.specs.declared.requests.Ask.{Ask}
 use Rattle.oai_args.specs.declared.requests.Ask.TheVariants as ask
 use Rattle.oai_args.specs.declared.requests.ArgFault.{ArgFault}
@@ -53,7 +53,7 @@ verb_named-name_of GetRecord = refl
 verb_named-name_of ListIdentifiers = refl
 verb_named-name_of ListRecords = refl
 
-verb_of-is : (value : Given) (verb : Verb) → (once value >>= verb_named) ≡ Some verb → value ≡ Once (name_of verb)
+verb_of-is : (value : Occurrence) (verb : Verb) → (once value >>= verb_named) ≡ Some verb → value ≡ Once (name_of verb)
 verb_of-is Never verb asked = cc
 verb_of-is (Once name) verb asked = ap (λ (n : List ℕ). Once n) (verb_named-is name verb asked)
 verb_of-is Often verb asked = cc
@@ -119,13 +119,13 @@ suit_from part verb pairs h =
 
 -- ---- one value
 
-once-then : (value : Given) (next : List ℕ → Option Ask) (request : Ask) → (once value >>= next) ≡ Some request → (text : List ℕ) × (value ≡ Once text) × (next text ≡ Some request)
+once-then : (value : Occurrence) (next : List ℕ → Option Ask) (request : Ask) → (once value >>= next) ≡ Some request → (text : List ℕ) × (value ≡ Once text) × (next text ≡ Some request)
 once-then Never next request made = cc
 once-then (Once text) next request made = (text, refl, made)
 once-then Often next request made = cc
 
 -- an optional argument that suits is given with its value, or not
-optional-is : (value : Given) → suits First Optional value ≡ true → value ≡ at_most_once (once value)
+optional-is : (value : Occurrence) → suits First Optional value ≡ true → value ≡ at_most_once (once value)
 optional-is Never h = refl
 optional-is (Once text) h = refl
 optional-is Often h = cc
@@ -151,7 +151,7 @@ made_as granularity pairs made request same h =
 formats_is : (granularity : Granularity) (pairs : List Pair) (request : Ask) → IsVerbRequest First ListMetadataFormats pairs → first_of granularity ListMetadataFormats (arguments_in pairs) ≡ Some request → IsAsk granularity pairs request
 unfolding first_of arguments_in
 formats_is granularity pairs request asked made =
-    let identifier : Given = given (key_of Identifier) pairs in
+    let identifier : Occurrence = given (key_of Identifier) pairs in
     made_as granularity pairs (ask.Formats (once identifier)) request (cc) (asked, optional-is identifier (asked.suited Identifier))
 
 item_is : (granularity : Granularity) (pairs : List Pair) (request : Ask) → IsVerbRequest First GetRecord pairs → get_record_of (arguments_in pairs) ≡ Some request → IsAsk granularity pairs request

@@ -2,8 +2,8 @@
 use Rattle.std.specs.Prelude.{ℕ, Bool, true, false, not, List, [], ◌∷◌, codes, Option, Some, None}
 use Rattle.oai_args.specs.Pairs.{Pair, values_of, has_only_keys, has_xml_values}
 use Rattle.oai_args.specs.declared.arguments.Arguments.{Arguments}
-use Rattle.oai_args.specs.declared.givens.Given.{Given}
-use Rattle.oai_args.specs.declared.givens.Given.TheVariants.{Never, Once, Often}
+use Rattle.oai_args.specs.declared.occurrences.Occurrence.{Occurrence}
+use Rattle.oai_args.specs.declared.occurrences.Occurrence.TheVariants.{Never, Once, Often}
 use Rattle.oai_args.specs.declared.roles.Key.{Key}
 use Rattle.oai_args.specs.declared.roles.Key.TheVariants as key
 use Rattle.oai_args.specs.declared.roles.Role.{Role}
@@ -52,35 +52,35 @@ role_of _ _ = Absent
 -- ---- how often a key is given
 
 -- these values are none, one, or more
-abbrev pub given_of : List (List ℕ) → Given
-given_of [] = Never
-given_of (value ∷ []) = Once value
-given_of (value ∷ other ∷ values) = Often
+abbrev pub occurrence_of : List (List ℕ) → Occurrence
+occurrence_of [] = Never
+occurrence_of (value ∷ []) = Once value
+occurrence_of (value ∷ other ∷ values) = Often
 
 -- how often the pairs give the key, and its value if they give it once
-unfoldable pub given : List ℕ → List Pair → Given
-given key pairs = given_of (values_of key pairs)
+unfoldable pub given : List ℕ → List Pair → Occurrence
+given key pairs = occurrence_of (values_of key pairs)
 
 -- the value of a key that is given once
-abbrev pub once : Given → Option (List ℕ)
+abbrev pub once : Occurrence → Option (List ℕ)
 once (Once value) = Some value
 once _ = None
 
-abbrev pub is_never : Given → Bool
+abbrev pub is_never : Occurrence → Bool
 is_never Never = true
 is_never _ = false
 
-abbrev pub is_once : Given → Bool
+abbrev pub is_once : Occurrence → Bool
 is_once (Once value) = true
 is_once _ = false
 
-abbrev pub is_often : Given → Bool
+abbrev pub is_often : Occurrence → Bool
 is_often Often = true
 is_often _ = false
 
 -- an argument with that role is given as often as required: in a first request the required ones once, the optional
 -- ones at most once and no others; in a request for the next part of a list the exclusive one once and no others
-abbrev pub suits : Pagination → Role → Given → Bool
+abbrev pub suits : Pagination → Role → Occurrence → Bool
 suits First Required given = is_once given
 suits First Optional given = not (is_often given)
 suits First Exclusive given = is_never given

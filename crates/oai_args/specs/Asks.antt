@@ -7,8 +7,8 @@ use Rattle.oai_args.specs.Arguments.{key_of, known_keys, role_of, given, suits}
 use Rattle.oai_args.specs.Bounds.{is_none_or_set_spec, are_bounds}
 use Rattle.oai_args.specs.Pairs.{Pair, has_only_keys, has_xml_values}
 use Rattle.oai_args.specs.Verbs.{name_of, verb_of_list}
-use Rattle.oai_args.specs.declared.givens.Given.{Given}
-use Rattle.oai_args.specs.declared.givens.Given.TheVariants.{Never, Once}
+use Rattle.oai_args.specs.declared.occurrences.Occurrence.{Occurrence}
+use Rattle.oai_args.specs.declared.occurrences.Occurrence.TheVariants.{Never, Once}
 use Rattle.oai_args.specs.declared.requests.Ask.{Ask}
 use Rattle.oai_args.specs.declared.requests.Ask.TheVariants as ask
 use Rattle.oai_args.specs.declared.roles.Key.{Key}
@@ -42,7 +42,7 @@ abbrev pub IsGiven : Key → List Pair → List ℕ → Type 0
 IsGiven key pairs value = given (key_of key) pairs ≡ Once value
 
 -- a value that is there, or not
-abbrev pub at_most_once : Option (List ℕ) → Given
+abbrev pub at_most_once : Option (List ℕ) → Occurrence
 at_most_once None = Never
 at_most_once (Some value) = Once value
 

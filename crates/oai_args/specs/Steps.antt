@@ -4,15 +4,15 @@ use Rattle.oai_args.specs.Arguments.{key_of, known_keys}
 use Rattle.oai_args.specs.Asks.{AskOrError, asks, bad_verb, bad_argument}
 use Rattle.oai_args.specs.Pairs.{Pair, values_of, has_only_keys, has_xml_values}
 use Rattle.oai_args.specs.declared.arguments.Arguments.{Arguments}
-use Rattle.oai_args.specs.declared.givens.Given.{Given}
-use Rattle.oai_args.specs.declared.givens.Given.TheVariants.{Never, Once, Often}
+use Rattle.oai_args.specs.declared.occurrences.Occurrence.{Occurrence}
+use Rattle.oai_args.specs.declared.occurrences.Occurrence.TheVariants.{Never, Once, Often}
 use Rattle.oai_args.specs.declared.requests.Ask.{Ask}
 use Rattle.oai_args.specs.declared.requests.ArgFault.{ArgFault}
 use Rattle.oai_args.specs.declared.requests.ArgFault.TheVariants.{BadVerb, BadArgument}
 use Rattle.oai_args.specs.declared.roles.Key.TheVariants as key
 
 -- a key after these further values
-unfoldable pub given_with : Given → List (List ℕ) → Given
+unfoldable pub given_with : Occurrence → List (List ℕ) → Occurrence
 given_with given [] = given
 given_with Never (value ∷ []) = Once value
 given_with Never (value ∷ other ∷ values) = Often

@@ -4,7 +4,7 @@ ghost use Rattle.oai_args.specs.Pairs.{decoded_pairs};
 ghost use Rattle.oai_args.specs.Requests.{asked_verb, suit};
 ghost use Rattle.oai_args.specs.Steps.{arguments_with};
 
-use crate::givens::Given;
+use crate::occurrences::Occurrence;
 use crate::roles::{Key, Pagination};
 use crate::verbs::Verb;
 use oai_names::is_xml_text;
@@ -13,13 +13,13 @@ use std::alloc::{AllocError, Global};
 /// The arguments of a request: how often each key of any verb is given, and its value.
 #[derive(Drop)]
 pub(crate) struct Arguments {
-    pub(crate) verb: Given,
-    pub(crate) identifier: Given,
-    pub(crate) prefix: Given,
-    pub(crate) from: Given,
-    pub(crate) until: Given,
-    pub(crate) set: Given,
-    pub(crate) token: Given,
+    pub(crate) verb: Occurrence,
+    pub(crate) identifier: Occurrence,
+    pub(crate) prefix: Occurrence,
+    pub(crate) from: Occurrence,
+    pub(crate) until: Occurrence,
+    pub(crate) set: Occurrence,
+    pub(crate) token: Occurrence,
     pub(crate) are_keys_known: bool,
     pub(crate) are_values_xml: bool,
 }
@@ -31,13 +31,13 @@ impl Arguments {
         ensures { result ≡ arguments_in [] }
     {
         Arguments {
-            verb: Given::Never,
-            identifier: Given::Never,
-            prefix: Given::Never,
-            from: Given::Never,
-            until: Given::Never,
-            set: Given::Never,
-            token: Given::Never,
+            verb: Occurrence::Never,
+            identifier: Occurrence::Never,
+            prefix: Occurrence::Never,
+            from: Occurrence::Never,
+            until: Occurrence::Never,
+            set: Occurrence::Never,
+            token: Occurrence::Never,
             are_keys_known: true,
             are_values_xml: true,
         }
@@ -95,9 +95,9 @@ impl Arguments {
         ensures { result ≡ asked_verb self.now }
     {
         match &self.verb {
-            Given::Once(name) => Verb::named(name.as_str()),
-            Given::Never => None,
-            Given::Often => None,
+            Occurrence::Once(name) => Verb::named(name.as_str()),
+            Occurrence::Never => None,
+            Occurrence::Often => None,
         }
     }
 

@@ -4,7 +4,7 @@
 mod arguments;
 mod bounds;
 mod forms;
-mod givens;
+mod occurrences;
 mod requests;
 mod roles;
 mod verbs;

@@ -1,7 +1,7 @@
 ghost use Rattle.std.specs.Prelude.{◌≡◌};
 ghost use Rattle.oai_args.specs.Arguments.{role_in_list, role_of, suits};
 
-use crate::givens::Given;
+use crate::occurrences::Occurrence;
 use crate::verbs::Verb;
 
 /// The keys of arguments.
@@ -77,7 +77,7 @@ fn role_in_list(key: Key) -> Role
 
 impl Pagination {
     /// Whether an argument with the role is given as often as such a request requires.
-    pub(crate) fn suits(self, role: Role, given: &Given) -> bool
+    pub(crate) fn suits(self, role: Role, given: &Occurrence) -> bool
         ensures { result ≡ suits self role given.now }
     {
         match (self, role) {

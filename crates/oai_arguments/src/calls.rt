@@ -20,6 +20,13 @@ pub enum Called<'a> {
         /// The name of their repository.
         repository: Option<&'a str>,
     },
+    /// Checks the keys of depositors in a file, for the configuration in another.
+    Keys {
+        /// The file of the configuration.
+        config: &'a str,
+        /// The file of the keys.
+        keys: &'a str,
+    },
     /// Reads the journal in a folder to its end.
     Verify(&'a str),
     /// Writes what the repository with a name holds, by the journal in a folder, as deposit lines.
@@ -51,6 +58,8 @@ pub struct Serving<'a> {
     pub port: u16,
     /// The folder of the journal.
     pub folder: &'a str,
+    /// The file of the depositors' keys.
+    pub keys: Option<&'a str>,
     /// The address that it listens at.
     pub address: IpAddr,
     /// Whether it reports neither progress nor notes.
@@ -80,6 +89,10 @@ fn of_texts<'a>(name: &str, given: &ArgMatches<'a>) -> Called<'a> {
             lines: given.get_str("LINES"),
             repository: given.get_str("repository"),
         },
+        "keys" => Called::Keys {
+            config: text_of(given, "CONFIG"),
+            keys: text_of(given, "KEYS"),
+        },
         "verify" => Called::Verify(text_of(given, "FOLDER")),
         "dump" => Called::Dump {
             folder: text_of(given, "FOLDER"),
@@ -106,6 +119,7 @@ fn to_serve<'a>(alloc: Global, given: &ArgMatches<'a>) -> Result<Called<'a>, Err
         config: text_of(given, "CONFIG"),
         port,
         folder: text_of(given, "FOLDER"),
+        keys: given.get_str("KEYS"),
         address,
         is_quiet: given.get_flag("quiet"),
     }))

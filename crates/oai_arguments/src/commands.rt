@@ -1,6 +1,6 @@
 //! The commands of the program, as `clap` reads them.
 use crate::texts::{
-    CHECK_END, CHECKPOINT_END, DUMP_END, PROGRAM_END, SERVE_END, VERIFY_END, XML_END,
+    CHECK_END, CHECKPOINT_END, DUMP_END, KEYS_END, PROGRAM_END, SERVE_END, VERIFY_END, XML_END,
 };
 use clap::{Arg, ArgAction, Command};
 use std::alloc::{AllocError, Global};
@@ -13,8 +13,11 @@ pub(crate) fn program<'a>(alloc: Global, version: &'a str) -> Result<Command<'a>
         .after_help(PROGRAM_END)
         .subcommand_required(true);
     let top = top.subcommand(serve(alloc)?)?.subcommand(check(alloc)?)?;
-    let top = top.subcommand(verify(alloc)?)?.subcommand(dump(alloc)?)?;
-    top.subcommand(checkpoint(alloc)?)?.subcommand(xml(alloc)?)
+    let top = top.subcommand(keys(alloc)?)?.subcommand(verify(alloc)?)?;
+    let top = top
+        .subcommand(dump(alloc)?)?
+        .subcommand(checkpoint(alloc)?)?;
+    top.subcommand(xml(alloc)?)
 }
 
 /// The command that serves.
@@ -34,6 +37,7 @@ pub(crate) fn serve<'a>(alloc: Global) -> Result<Command<'a>, AllocError> {
         .arg(wanted(alloc, "CONFIG", "The file of the configuration"))?
         .arg(wanted(alloc, "PORT", "The port, 0 to 65535; 0 means any free port"))?
         .arg(folder)?
+        .arg(keys_file(alloc))?
         .arg(listen)?
         .arg(quiet(alloc))
 }
@@ -51,6 +55,15 @@ fn check<'a>(alloc: Global) -> Result<Command<'a>, AllocError> {
         .arg(wanted(alloc, "CONFIG", "The file of the configuration"))?
         .arg(lines)?
         .arg(repository)
+}
+
+/// The command that checks keys.
+fn keys<'a>(alloc: Global) -> Result<Command<'a>, AllocError> {
+    Command::new(alloc, "keys")
+        .about("Say where the keys of depositors are wrong, and which repositories have none")
+        .after_help(KEYS_END)
+        .arg(wanted(alloc, "CONFIG", "The file of the configuration"))?
+        .arg(wanted(alloc, "KEYS", "The file of the keys' digests"))
 }
 
 /// The command that verifies a journal.
@@ -95,6 +108,13 @@ fn xml<'a>(alloc: Global) -> Result<Command<'a>, AllocError> {
 /// An argument that has to be there, at its place.
 fn wanted<'a>(alloc: Global, name: &'a str, help: &'a str) -> Arg<'a> {
     Arg::new(alloc, name).required(true).help(help)
+}
+
+/// The argument of the keys, which may be missing.
+fn keys_file<'a>(alloc: Global) -> Arg<'a> {
+    Arg::new(alloc, "KEYS").help(
+        "The file of the keys' digests; deposits into its repositories need a key",
+    )
 }
 
 /// The option that leaves out notes.

@@ -3,6 +3,7 @@ use Rattle.std.proofs.Common.{◌≡◌, ℕ, true, List, Option, Some, None, re
 use Rattle.std.specs.Prelude.{codes}
 use Rattle.serde_json.specs.Data.{Data}
 use Rattle.oai_time.specs.declared.granularity.Granularity.{Granularity}
+use Rattle.oai_item.specs.declared.forms.Forms.{Forms}
 use Rattle.oai_item.specs.declared.deleted_record.DeletedRecord.{DeletedRecord}
 use Rattle.oai_names.specs.Optional.{◌>>=◌}
 use Rattle.oai_json.specs.Json.{has_members, number_at, text_at, texts_at}
@@ -15,9 +16,9 @@ use Rattle.oai_config.specs.Shapes.{deleted_at, granularity_at, formats_at, repo
 use Rattle.oai_config.proofs.PartLemmas.{of_three, first_missing, second_missing, third_missing, none_missing}
 
 -- the settings of these members, one after the other
-abbrev from_members : List ℕ → Option (List ℕ) → Option (List ℕ) → Option (List (List ℕ)) → Option (List ℕ) → Option DeletedRecord → Option Granularity
+abbrev from_members : Forms → List ℕ → Option (List ℕ) → Option (List ℕ) → Option (List (List ℕ)) → Option (List ℕ) → Option DeletedRecord → Option Granularity
     → Option (Option ℕ) → Option (Option ℕ) → Option (Option ℕ) → Option (Option ℕ) → Option (List FormatSettings) → Option Settings
-from_members base n r a e d g c t l i f = do
+from_members forms base n r a e d g c t l i f = do
   name ← n
   repository_name ← r
   addresses ← a
@@ -42,6 +43,7 @@ from_members base n r a e d g c t l i f = do
     lists = lists;
     items = items;
     formats = formats;
+    forms = forms;
   })
 
 abbrev texts_in : Option (List ℕ) → Option (List ℕ) → Option (List (List ℕ)) → Option (List ℕ) → Option Texts
@@ -62,42 +64,42 @@ rules_in d g c t l i = do
   items ← i
   Some (record { deleted = deleted; granularity = granularity; chunk = chunk; lifetime = lifetime; lists = lists; items = items })
 
-in_parts : (base : List ℕ) (n r : Option (List ℕ)) (a : Option (List (List ℕ))) (e : Option (List ℕ)) (d : Option DeletedRecord) (g : Option Granularity)
+in_parts : (forms : Forms) (base : List ℕ) (n r : Option (List ℕ)) (a : Option (List (List ℕ))) (e : Option (List ℕ)) (d : Option DeletedRecord) (g : Option Granularity)
     (c t l i : Option (Option ℕ)) (f : Option (List FormatSettings))
-    → from_members base n r a e d g c t l i f ≡ of_three (settings_with base) (texts_in n r a e) (rules_in d g c t l i) f
-in_parts base None r a e d g c t l i f = refl
-in_parts base (Some n) None a e d g c t l i f = refl
-in_parts base (Some n) (Some r) None e d g c t l i f = refl
-in_parts base (Some n) (Some r) (Some a) None d g c t l i f = refl
-in_parts base (Some n) (Some r) (Some a) (Some e) None g c t l i f = refl
-in_parts base (Some n) (Some r) (Some a) (Some e) (Some d) None c t l i f = refl
-in_parts base (Some n) (Some r) (Some a) (Some e) (Some d) (Some g) None t l i f = refl
-in_parts base (Some n) (Some r) (Some a) (Some e) (Some d) (Some g) (Some c) None l i f = refl
-in_parts base (Some n) (Some r) (Some a) (Some e) (Some d) (Some g) (Some c) (Some t) None i f = refl
-in_parts base (Some n) (Some r) (Some a) (Some e) (Some d) (Some g) (Some c) (Some t) (Some l) None f = refl
-in_parts base (Some n) (Some r) (Some a) (Some e) (Some d) (Some g) (Some c) (Some t) (Some l) (Some i) f = refl
+    → from_members forms base n r a e d g c t l i f ≡ of_three (settings_with forms base) (texts_in n r a e) (rules_in d g c t l i) f
+in_parts forms base None r a e d g c t l i f = refl
+in_parts forms base (Some n) None a e d g c t l i f = refl
+in_parts forms base (Some n) (Some r) None e d g c t l i f = refl
+in_parts forms base (Some n) (Some r) (Some a) None d g c t l i f = refl
+in_parts forms base (Some n) (Some r) (Some a) (Some e) None g c t l i f = refl
+in_parts forms base (Some n) (Some r) (Some a) (Some e) (Some d) None c t l i f = refl
+in_parts forms base (Some n) (Some r) (Some a) (Some e) (Some d) (Some g) None t l i f = refl
+in_parts forms base (Some n) (Some r) (Some a) (Some e) (Some d) (Some g) (Some c) None l i f = refl
+in_parts forms base (Some n) (Some r) (Some a) (Some e) (Some d) (Some g) (Some c) (Some t) None i f = refl
+in_parts forms base (Some n) (Some r) (Some a) (Some e) (Some d) (Some g) (Some c) (Some t) (Some l) None f = refl
+in_parts forms base (Some n) (Some r) (Some a) (Some e) (Some d) (Some g) (Some c) (Some t) (Some l) (Some i) f = refl
 
 -- the settings of an object of the members are made of its parts
-pub settings_of-parts : (base : List ℕ) (d : Data) → has_members repository_members d ≡ true
-    → settings_of base d ≡ of_three (settings_with base) (texts_from d) (rules_from d) (formats_at d)
+pub settings_of-parts : (forms : Forms) (base : List ℕ) (d : Data) → has_members repository_members d ≡ true
+    → settings_of forms base d ≡ of_three (settings_with forms base) (texts_from d) (rules_from d) (formats_at forms d)
 unfolding settings_of texts_from rules_from
-settings_of-parts base d whole =
-    rw whole (in_parts base (text_at (codes "name") d) (text_at (codes "repositoryName") d) (texts_at (codes "adminEmail") d) (text_at (codes "earliestDatestamp") d) (deleted_at d) (granularity_at d)
-    (number_at (codes "chunk") d) (number_at (codes "lifetime") d) (number_at (codes "lists") d) (number_at (codes "items") d) (formats_at d))
+settings_of-parts forms base d whole =
+    rw whole (in_parts forms base (text_at (codes "name") d) (text_at (codes "repositoryName") d) (texts_at (codes "adminEmail") d) (text_at (codes "earliestDatestamp") d) (deleted_at d) (granularity_at d)
+    (number_at (codes "chunk") d) (number_at (codes "lifetime") d) (number_at (codes "lists") d) (number_at (codes "items") d) (formats_at forms d))
 
-pub no_texts : (base : List ℕ) (d : Data) → has_members repository_members d ≡ true → texts_from d ≡ None → settings_of base d ≡ None
-no_texts base d whole none = settings_of-parts base d whole ∙ first_missing (settings_with base) (rules_from d) (formats_at d) _ none
+pub no_texts : (forms : Forms) (base : List ℕ) (d : Data) → has_members repository_members d ≡ true → texts_from d ≡ None → settings_of forms base d ≡ None
+no_texts forms base d whole none = settings_of-parts forms base d whole ∙ first_missing (settings_with forms base) (rules_from d) (formats_at forms d) _ none
 
-pub no_rules : (base : List ℕ) (d : Data) → has_members repository_members d ≡ true → rules_from d ≡ None → settings_of base d ≡ None
-no_rules base d whole none = settings_of-parts base d whole ∙ second_missing (settings_with base) (texts_from d) (formats_at d) _ none
+pub no_rules : (forms : Forms) (base : List ℕ) (d : Data) → has_members repository_members d ≡ true → rules_from d ≡ None → settings_of forms base d ≡ None
+no_rules forms base d whole none = settings_of-parts forms base d whole ∙ second_missing (settings_with forms base) (texts_from d) (formats_at forms d) _ none
 
-pub no_formats : (base : List ℕ) (d : Data) → has_members repository_members d ≡ true → formats_at d ≡ None → settings_of base d ≡ None
-no_formats base d whole none = settings_of-parts base d whole ∙ third_missing (settings_with base) (texts_from d) (rules_from d) _ none
+pub no_formats : (forms : Forms) (base : List ℕ) (d : Data) → has_members repository_members d ≡ true → formats_at forms d ≡ None → settings_of forms base d ≡ None
+no_formats forms base d whole none = settings_of-parts forms base d whole ∙ third_missing (settings_with forms base) (texts_from d) (rules_from d) _ none
 
-pub settings_of-whole : (base : List ℕ) (d : Data) (texts : Texts) (rules : Rules) (formats : List FormatSettings) → has_members repository_members d ≡ true
-    → texts_from d ≡ Some texts → rules_from d ≡ Some rules → formats_at d ≡ Some formats → settings_of base d ≡ Some (settings_with base texts rules formats)
-settings_of-whole base d texts rules formats whole one other last =
-    settings_of-parts base d whole ∙ none_missing (settings_with base) _ _ _ texts rules formats one other last
+pub settings_of-whole : (forms : Forms) (base : List ℕ) (d : Data) (texts : Texts) (rules : Rules) (formats : List FormatSettings) → has_members repository_members d ≡ true
+    → texts_from d ≡ Some texts → rules_from d ≡ Some rules → formats_at forms d ≡ Some formats → settings_of forms base d ≡ Some (settings_with forms base texts rules formats)
+settings_of-whole forms base d texts rules formats whole one other last =
+    settings_of-parts forms base d whole ∙ none_missing (settings_with forms base) _ _ _ texts rules formats one other last
 
 -- once each member was read
 pub settings_of-Some : (s : Settings) (d : Data) → has_members repository_members d ≡ true
@@ -111,8 +113,8 @@ pub settings_of-Some : (s : Settings) (d : Data) → has_members repository_memb
     → number_at (codes "lifetime") d ≡ Some s.lifetime
     → number_at (codes "lists") d ≡ Some s.lists
     → number_at (codes "items") d ≡ Some s.items
-    → formats_at d ≡ Some s.formats
-    → settings_of s.base d ≡ Some s
+    → formats_at s.forms d ≡ Some s.formats
+    → settings_of s.forms s.base d ≡ Some s
 unfolding settings_of
 settings_of-Some s d whole name repository_name addresses earliest deleted granularity chunk lifetime lists items formats =
     rw (whole, name, repository_name, addresses, earliest, deleted, granularity, chunk, lifetime, lists, items, formats) refl

@@ -1,18 +1,20 @@
 -- What a value tells is what it is written as: the law of the shape.
-use Rattle.std.proofs.Common.{◌≡◌, ℕ, Bool, eqb, true, false, cond, Option, Some, None, List, codes, refl, sym, ap, subst, is_some, ◌∙◌}
+use Rattle.std.proofs.Common.{◌≡◌, ℕ, Bool, eqb, true, false, cond, Option, Some, None, List, [], ◌∷◌, codes, refl, sym, ap, subst, is_some, ◌∙◌}
 use Rattle.std.proofs.lemmas.Bool.{and_from}
 use Rattle.std.proofs.lemmas.Bool.Decides.{Decides-eqb}
 use Rattle.serde_json.specs.Data.{Data, number, string}
 use Rattle.serde_json.specs.Find.{get}
 use Rattle.oai_item.specs.ShortTexts.{is_short_text}
+use Rattle.oai_item.specs.declared.forms.Forms.{Forms}
+use Rattle.oai_item.specs.declared.forms.Forms.TheVariants.{Fields, Elements}
 use Rattle.oai_json.specs.Json.{has_members, number_at, size, text_at, texts_at}
 use Rattle.oai_settings.specs.declared.settings.FormatSettings.{FormatSettings}
 use Rattle.oai_settings.specs.declared.settings.Settings.{Settings}
 use Rattle.oai_config.specs.declared.host_settings.HostSettings.{HostSettings}
 use Rattle.oai_names.specs.Optional.{◌>>=◌, tested}
-use Rattle.oai_config.specs.Shapes.{format_members, format_in, deleted_at, granularity_at, formats_at, repository_members, settings_of, base_at, repositories_at, host_members, told_of, format_from, settings_from, told_from}
-use Rattle.oai_config.specs.Written.{HasText, HasNumber, HasList, IsFormat, IsRepository, IsHost, ConfigShapeLaw}
-use Rattle.oai_json.proofs.MemberLemmas.{of_size}
+use Rattle.oai_config.specs.Shapes.{format_members, element_members, format_in, fields_at, fields_told, deleted_at, granularity_at, formats_at, repository_members, settings_of, base_at, repositories_at, host_members, told_of, format_from, settings_from, told_from}
+use Rattle.oai_config.specs.Written.{HasText, HasTexts, HasNumber, HasList, HasFields, IsFormat, IsRepository, IsHost, ConfigShapeLaw}
+use Rattle.oai_json.proofs.MemberLemmas.{of_size, of_another_size}
 use Rattle.oai_json.proofs.MemberLemmas.{number_again, number_takes, text_again, text_takes, texts_are, texts_take}
 use Rattle.oai_json.proofs.ReadingLemmas.{Some-injective, bind-Some}
 use Rattle.oai_config.proofs.MemberLemmas.{IsUndone, list_again, list_takes}
@@ -41,58 +43,151 @@ same_size d n is = (Decides-eqb (size d) n).1 is
 
 -- ---- a format
 
-format_parts : (d : Data) (f : FormatSettings) → size d ≡ 5 → format_from d ≡ Some f → IsFormat f d
-format_parts d f five is =
+-- what is read of a format beside how many members it has
+record HasParts (told : Option (List (List ℕ))) (f : FormatSettings) (d : Data) : Type 0 where
+  pub prefix : HasText (codes "prefix") f.prefix d
+  pub schema : HasText (codes "schema") f.schema d
+  pub namespace : HasText (codes "namespace") f.namespace d
+  pub root : HasText (codes "root") f.root d
+  pub fields : told ≡ Some f.fields
+
+format_parts : (d : Data) (told : Option (List (List ℕ))) (f : FormatSettings) → format_from d told ≡ Some f → HasParts told f d
+format_parts d told f is =
     let prefix = bind-Some (text_at (codes "prefix") d) _ f is in
     let schema = bind-Some (text_at (codes "schema") d) _ f prefix.2 in
     let namespace = bind-Some (text_at (codes "namespace") d) _ f schema.2 in
     let root = bind-Some (text_at (codes "root") d) _ f namespace.2 in
-    let fields = bind-Some (texts_at (codes "fields") d) _ f root.2 in
-    subst (λ (f : FormatSettings). IsFormat f d) (Some-injective (record { prefix = prefix.0; schema = schema.0; namespace = namespace.0; root = root.0; fields = fields.0 }) f fields.2) (record {
+    let fields = bind-Some told _ f root.2 in
+    subst (λ (f : FormatSettings). HasParts told f d) (Some-injective (record { prefix = prefix.0; schema = schema.0; namespace = namespace.0; root = root.0; fields = fields.0 }) f fields.2) (record {
       prefix = text_takes _ d prefix.0 prefix.1;
       schema = text_takes _ d schema.0 schema.1;
       namespace = text_takes _ d namespace.0 namespace.1;
       root = text_takes _ d root.0 root.1;
-      fields = texts_take _ d fields.0 fields.1;
-      no_other = five;
+      fields = fields.1;
     })
 
-format_takes : (d : Data) (f : FormatSettings) → format_in d ≡ Some f → IsFormat f d
-unfolding format_in
-format_takes d f is =
-    let p = passed (has_members format_members) format_from d f is in
-    format_parts d f (of_size format_members d p.0) p.1
+-- fields that are told are told as they are
+same_told : (forms : Forms) (texts fields : List (List ℕ)) → fields_told forms texts ≡ Some fields → Some texts ≡ Some fields
+same_told Fields texts fields is = is
+same_told Elements [] fields is = absurd cc
+same_told Elements (text ∷ texts) fields is = is
 
-are_format : (d : Data) (f : FormatSettings) → IsFormat f d → has_members format_members d ≡ true
+-- and are not none, where records may be elements
+none_told : (texts : List (List ℕ)) → fields_told Elements texts ≡ Some [] → ⊥
+none_told [] is = absurd cc
+none_told (text ∷ texts) is = absurd cc
+
+fields_take : (forms : Forms) (d : Data) (fields : List (List ℕ)) → size d ≡ 5 → fields_at forms d ≡ Some fields → HasFields forms fields d
+unfolding fields_at
+fields_take Fields d fields five is =
+    let p = bind-Some (texts_at (codes "fields") d) (fields_told Fields) fields is in
+    (texts_take (codes "fields") d fields (p.1 ∙ same_told Fields p.0 fields p.2), five)
+fields_take Elements d [] five is =
+    let p = bind-Some (texts_at (codes "fields") d) (fields_told Elements) [] is in
+    absurd (none_told p.0 p.2)
+fields_take Elements d (field ∷ fields) five is =
+    let p = bind-Some (texts_at (codes "fields") d) (fields_told Elements) (field ∷ fields) is in
+    (texts_take (codes "fields") d (field ∷ fields) (p.1 ∙ same_told Elements p.0 (field ∷ fields) p.2), five)
+
+-- of a format with the member
+listed_takes : (forms : Forms) (d : Data) (f : FormatSettings) → (tested (has_members format_members) d >>= λ d. format_from d (fields_at forms d)) ≡ Some f → IsFormat forms f d
+listed_takes forms d f is =
+    let p = passed (has_members format_members) (λ d. format_from d (fields_at forms d)) d f is in
+    let parts = format_parts d (fields_at forms d) f p.1 in record {
+      prefix = parts.prefix;
+      schema = parts.schema;
+      namespace = parts.namespace;
+      root = parts.root;
+      fields = fields_take forms d f.fields (of_size format_members d p.0) parts.fields;
+    }
+
+-- and of one without it
+no_fields_held : (d : Data) (fields : List (List ℕ)) → size d ≡ 4 → Some [] ≡ Some fields → HasFields Elements fields d
+no_fields_held d [] four is = four
+no_fields_held d (field ∷ fields) four is = absurd cc
+
+whole_takes : (d : Data) (f : FormatSettings) → has_members element_members d ≡ true → format_from d (Some []) ≡ Some f → IsFormat Elements f d
+whole_takes d f whole is =
+    let parts = format_parts d (Some []) f is in record {
+      prefix = parts.prefix;
+      schema = parts.schema;
+      namespace = parts.namespace;
+      root = parts.root;
+      fields = no_fields_held d f.fields (of_size element_members d whole) parts.fields;
+    }
+
+either_takes : (d : Data) (f : FormatSettings) (whole : Bool) → has_members element_members d ≡ whole
+    → cond whole (format_from d (Some [])) (tested (has_members format_members) d >>= λ d. format_from d (fields_at Elements d)) ≡ Some f → IsFormat Elements f d
+either_takes d f true whole is = whole_takes d f whole is
+either_takes d f false whole is = listed_takes Elements d f is
+
+format_takes : (forms : Forms) (d : Data) (f : FormatSettings) → format_in forms d ≡ Some f → IsFormat forms f d
+unfolding format_in
+format_takes Fields d f is = listed_takes Fields d f is
+format_takes Elements d f is = either_takes d f (has_members element_members d) refl is
+
+are_listed : (d : Data) (forms : Forms) (f : FormatSettings) → IsFormat forms f d → HasTexts (codes "fields") f.fields d → size d ≡ 5 → has_members format_members d ≡ true
 unfolding has_members
-are_format d f is =
-    and_from _ _ (same_size d 5 is.no_other)
+are_listed d forms f is told five =
+    and_from _ _ (same_size d 5 five)
     (and_from _ _ (is_there _ _ is.prefix)
     (and_from _ _ (is_there _ _ is.schema)
     (and_from _ _ (is_there _ _ is.namespace)
     (and_from _ _ (is_there _ _ is.root)
-    (and_from _ _ (is_there _ _ is.fields) refl)))))
+    (and_from _ _ (is_there _ _ told) refl)))))
 
-format_again : (d : Data) (f : FormatSettings) → IsFormat f d → format_in d ≡ Some f
+are_whole : (d : Data) (forms : Forms) (f : FormatSettings) → IsFormat forms f d → size d ≡ 4 → has_members element_members d ≡ true
+unfolding has_members
+are_whole d forms f is four =
+    and_from _ _ (same_size d 4 four)
+    (and_from _ _ (is_there _ _ is.prefix)
+    (and_from _ _ (is_there _ _ is.schema)
+    (and_from _ _ (is_there _ _ is.namespace)
+    (and_from _ _ (is_there _ _ is.root) refl))))
+
+-- the format of texts that are there
+from_again : (d : Data) (forms : Forms) (f : FormatSettings) (told : Option (List (List ℕ))) → IsFormat forms f d → told ≡ Some f.fields → format_from d told ≡ Some f
+from_again d forms f told is fields =
+    rw (text_again (codes "prefix") d f.prefix is.prefix, text_again (codes "schema") d f.schema is.schema, text_again (codes "namespace") d f.namespace is.namespace, text_again (codes "root") d f.root is.root, fields) refl
+
+-- the fields that are told are those, where they may be
+told_again : (forms : Forms) (d : Data) (fields : List (List ℕ)) → HasTexts (codes "fields") fields d → fields_told forms fields ≡ Some fields → fields_at forms d ≡ Some fields
+unfolding fields_at
+told_again forms d fields is told = ap (λ o. o >>= fields_told forms) (texts_are (codes "fields") d fields is) ∙ told
+
+listed_again : (forms : Forms) (d : Data) (f : FormatSettings) → IsFormat forms f d → HasTexts (codes "fields") f.fields d → size d ≡ 5 → fields_told forms f.fields ≡ Some f.fields
+    → (tested (has_members format_members) d >>= λ d. format_from d (fields_at forms d)) ≡ Some f
+listed_again forms d f is texts five told =
+    ap (λ b. cond b (Some d) None >>= λ d. format_from d (fields_at forms d)) (are_listed d forms f is texts five)
+    ∙ from_again d forms f (fields_at forms d) is (told_again forms d f.fields texts told)
+
+again_Elements : (d : Data) (f : FormatSettings) (fields : List (List ℕ)) → f.fields ≡ fields → IsFormat Elements f d → HasFields Elements fields d → format_in Elements d ≡ Some f
 unfolding format_in
-format_again d f is =
-    rw (are_format d f is, text_again (codes "prefix") d f.prefix is.prefix, text_again (codes "schema") d f.schema is.schema, text_again (codes "namespace") d f.namespace is.namespace, text_again (codes "root") d f.root is.root, texts_are (codes "fields") d f.fields is.fields) refl
+again_Elements d f [] none is held = rw (are_whole d Elements f is held) (from_again d Elements f (Some []) is (ap (λ fields. Some fields) (sym none)))
+again_Elements d f (field ∷ fields) some is held =
+    rw (of_another_size element_members d 5 held.1 refl)
+    (listed_again Elements d f is (subst (λ fields. HasTexts (codes "fields") fields d) (sym some) held.0) held.1 (ap (fields_told Elements) some ∙ ap (λ fields. Some fields) (sym some)))
 
-one_format : IsUndone format_in IsFormat
-one_format = record { takes = format_takes; again = format_again }
+format_again : (forms : Forms) (d : Data) (f : FormatSettings) → IsFormat forms f d → format_in forms d ≡ Some f
+unfolding format_in
+format_again Fields d f is = listed_again Fields d f is is.fields.0 is.fields.1 refl
+format_again Elements d f is = again_Elements d f f.fields refl is is.fields
+
+one_format : (forms : Forms) → IsUndone (format_in forms) (IsFormat forms)
+one_format forms = record { takes = format_takes forms; again = format_again forms }
 
 -- ---- a repository
 
-formats_take : (d : Data) (fs : List FormatSettings) → formats_at d ≡ Some fs → HasList (codes "formats") IsFormat fs d
+formats_take : (forms : Forms) (d : Data) (fs : List FormatSettings) → formats_at forms d ≡ Some fs → HasList (codes "formats") (IsFormat forms) fs d
 unfolding formats_at
-formats_take d fs is = list_takes format_in IsFormat one_format (codes "formats") d fs is
+formats_take forms d fs is = list_takes (format_in forms) (IsFormat forms) (one_format forms) (codes "formats") d fs is
 
-formats_again : (d : Data) (fs : List FormatSettings) → HasList (codes "formats") IsFormat fs d → formats_at d ≡ Some fs
+formats_again : (forms : Forms) (d : Data) (fs : List FormatSettings) → HasList (codes "formats") (IsFormat forms) fs d → formats_at forms d ≡ Some fs
 unfolding formats_at
-formats_again d fs is = list_again format_in IsFormat one_format (codes "formats") d fs is
+formats_again forms d fs is = list_again (format_in forms) (IsFormat forms) (one_format forms) (codes "formats") d fs is
 
-repository_parts : (base : List ℕ) (d : Data) (s : Settings) → size d ≡ 11 → settings_from base d ≡ Some s → IsRepository base s d
-repository_parts base d s eleven is =
+repository_parts : (forms : Forms) (base : List ℕ) (d : Data) (s : Settings) → size d ≡ 11 → settings_from forms base d ≡ Some s → IsRepository forms base s d
+repository_parts forms base d s eleven is =
     let name = bind-Some (text_at (codes "name") d) _ s is in
     let repository_name = bind-Some (text_at (codes "repositoryName") d) _ s name.2 in
     let addresses = bind-Some (texts_at (codes "adminEmail") d) _ s repository_name.2 in
@@ -103,7 +198,7 @@ repository_parts base d s eleven is =
     let lifetime = bind-Some (number_at (codes "lifetime") d) _ s chunk.2 in
     let lists = bind-Some (number_at (codes "lists") d) _ s lifetime.2 in
     let items = bind-Some (number_at (codes "items") d) _ s lists.2 in
-    let formats = bind-Some (formats_at d) _ s items.2 in
+    let formats = bind-Some (formats_at forms d) _ s items.2 in
     let made : Settings = record {
       base = base;
       name = name.0;
@@ -117,8 +212,10 @@ repository_parts base d s eleven is =
       lists = lists.0;
       items = items.0;
       formats = formats.0;
+      forms = forms;
     } in
-    subst (λ (s : Settings). IsRepository base s d) {x = made} (Some-injective made s formats.2) (record {
+    subst (λ (s : Settings). IsRepository forms base s d) {x = made} (Some-injective made s formats.2) (record {
+      formed = refl;
       below = refl;
       name = text_takes _ d name.0 name.1;
       repository_name = text_takes _ d repository_name.0 repository_name.1;
@@ -130,19 +227,19 @@ repository_parts base d s eleven is =
       lifetime = number_takes _ d lifetime.0 lifetime.1;
       lists = number_takes _ d lists.0 lists.1;
       items = number_takes _ d items.0 items.1;
-      formats = formats_take d formats.0 formats.1;
+      formats = formats_take forms d formats.0 formats.1;
       no_other = eleven;
     })
 
-repository_takes : (base : List ℕ) (d : Data) (s : Settings) → settings_of base d ≡ Some s → IsRepository base s d
+repository_takes : (forms : Forms) (base : List ℕ) (d : Data) (s : Settings) → settings_of forms base d ≡ Some s → IsRepository forms base s d
 unfolding settings_of
-repository_takes base d s is =
-    let p = passed (has_members repository_members) (settings_from base) d s is in
-    repository_parts base d s (of_size repository_members d p.0) p.1
+repository_takes forms base d s is =
+    let p = passed (has_members repository_members) (settings_from forms base) d s is in
+    repository_parts forms base d s (of_size repository_members d p.0) p.1
 
-are_repository : (base : List ℕ) (d : Data) (s : Settings) → IsRepository base s d → has_members repository_members d ≡ true
+are_repository : (forms : Forms) (base : List ℕ) (d : Data) (s : Settings) → IsRepository forms base s d → has_members repository_members d ≡ true
 unfolding has_members
-are_repository base d s is =
+are_repository forms base d s is =
     and_from _ _ (same_size d 11 is.no_other)
     (and_from _ _ (is_there _ _ is.name)
     (and_from _ _ (is_there _ _ is.repository_name)
@@ -156,10 +253,11 @@ are_repository base d s is =
     (and_from _ _ (number_there (codes "items") s.items d is.items)
     (and_from _ _ (is_there _ _ is.formats.1) refl)))))))))))
 
-repository_again : (base : List ℕ) (d : Data) (s : Settings) → IsRepository base s d → settings_of base d ≡ Some s
-repository_again base d s is =
-    ap (λ b. settings_of b d) (sym is.below)
-    ∙ settings_of-Some s d (are_repository base d s is)
+repository_again : (forms : Forms) (base : List ℕ) (d : Data) (s : Settings) → IsRepository forms base s d → settings_of forms base d ≡ Some s
+repository_again forms base d s is =
+    ap (λ b. settings_of forms b d) (sym is.below)
+    ∙ ap (λ forms. settings_of forms s.base d) (sym is.formed)
+    ∙ settings_of-Some s d (are_repository forms base d s is)
     (text_again _ d s.name is.name)
     (text_again _ d s.repository_name is.repository_name)
     (texts_are _ d s.addresses is.addresses)
@@ -170,10 +268,10 @@ repository_again base d s is =
     (number_again _ d s.lifetime is.lifetime)
     (number_again _ d s.lists is.lists)
     (number_again _ d s.items is.items)
-    (formats_again d s.formats is.formats)
+    (ap (λ forms. formats_at forms d) is.formed ∙ formats_again forms d s.formats is.formats)
 
-one_repository : (base : List ℕ) → IsUndone (settings_of base) (IsRepository base)
-one_repository base = record { takes = repository_takes base; again = repository_again base }
+one_repository : (forms : Forms) (base : List ℕ) → IsUndone (settings_of forms base) (IsRepository forms base)
+one_repository forms base = record { takes = repository_takes forms base; again = repository_again forms base }
 
 -- ---- the host
 
@@ -189,49 +287,49 @@ unfolding base_at
 base_again d base is short =
     ap (λ o. o >>= tested is_short_text) (text_again (codes "base") d base is) ∙ ap (λ b. cond b (Some base) None) short
 
-repositories_take : (base : List ℕ) (d : Data) (ss : List Settings) → repositories_at base d ≡ Some ss → HasList (codes "repositories") (IsRepository base) ss d
+repositories_take : (forms : Forms) (base : List ℕ) (d : Data) (ss : List Settings) → repositories_at forms base d ≡ Some ss → HasList (codes "repositories") (IsRepository forms base) ss d
 unfolding repositories_at
-repositories_take base d ss is = list_takes (settings_of base) (IsRepository base) (one_repository base) (codes "repositories") d ss is
+repositories_take forms base d ss is = list_takes (settings_of forms base) (IsRepository forms base) (one_repository forms base) (codes "repositories") d ss is
 
-repositories_again : (base : List ℕ) (d : Data) (ss : List Settings) → HasList (codes "repositories") (IsRepository base) ss d → repositories_at base d ≡ Some ss
+repositories_again : (forms : Forms) (base : List ℕ) (d : Data) (ss : List Settings) → HasList (codes "repositories") (IsRepository forms base) ss d → repositories_at forms base d ≡ Some ss
 unfolding repositories_at
-repositories_again base d ss is = list_again (settings_of base) (IsRepository base) (one_repository base) (codes "repositories") d ss is
+repositories_again forms base d ss is = list_again (settings_of forms base) (IsRepository forms base) (one_repository forms base) (codes "repositories") d ss is
 
-host_parts : (d : Data) (told : HostSettings) → size d ≡ 3 → told_from d ≡ Some told → (base : List ℕ) × IsHost base told d
-host_parts d told three is =
+host_parts : (forms : Forms) (d : Data) (told : HostSettings) → size d ≡ 3 → told_from forms d ≡ Some told → (base : List ℕ) × IsHost forms base told d
+host_parts forms d told three is =
     let base = bind-Some (base_at d) _ told is in
     let cache = bind-Some (number_at (codes "cache") d) _ told base.2 in
-    let repositories = bind-Some (repositories_at base.0 d) _ told cache.2 in
+    let repositories = bind-Some (repositories_at forms base.0 d) _ told cache.2 in
     let based = base_takes d base.0 base.1 in
     let made : HostSettings = record { cache = cache.0; repositories = repositories.0 } in (
       base.0,
-      subst (λ (t : HostSettings). IsHost base.0 t d) (Some-injective made told repositories.2) (record {
+      subst (λ (t : HostSettings). IsHost forms base.0 t d) (Some-injective made told repositories.2) (record {
         based = based.0;
         short = based.1;
         cache = number_takes _ d cache.0 cache.1;
-        repositories = repositories_take base.0 d repositories.0 repositories.1;
+        repositories = repositories_take forms base.0 d repositories.0 repositories.1;
         no_other = three;
       }),
     )
 
-host_takes : (d : Data) (told : HostSettings) → told_of d ≡ Some told → (base : List ℕ) × IsHost base told d
+host_takes : (forms : Forms) (d : Data) (told : HostSettings) → told_of forms d ≡ Some told → (base : List ℕ) × IsHost forms base told d
 unfolding told_of
-host_takes d told is =
-    let p = passed (has_members host_members) told_from d told is in
-    host_parts d told (of_size host_members d p.0) p.1
+host_takes forms d told is =
+    let p = passed (has_members host_members) (told_from forms) d told is in
+    host_parts forms d told (of_size host_members d p.0) p.1
 
-are_host : (base : List ℕ) (d : Data) (told : HostSettings) → IsHost base told d → has_members host_members d ≡ true
+are_host : (forms : Forms) (base : List ℕ) (d : Data) (told : HostSettings) → IsHost forms base told d → has_members host_members d ≡ true
 unfolding has_members
-are_host base d told is =
+are_host forms base d told is =
     and_from _ _ (same_size d 3 is.no_other)
     (and_from _ _ (is_there _ _ is.based)
     (and_from _ _ (number_there (codes "cache") told.cache d is.cache)
     (and_from _ _ (is_there _ _ is.repositories.1) refl)))
 
-host_again : (d : Data) (told : HostSettings) (base : List ℕ) → IsHost base told d → told_of d ≡ Some told
+host_again : (forms : Forms) (d : Data) (told : HostSettings) (base : List ℕ) → IsHost forms base told d → told_of forms d ≡ Some told
 unfolding told_of
-host_again d told base is =
-    rw (are_host base d told is, base_again d base is.based is.short, number_again (codes "cache") d told.cache is.cache, repositories_again base d told.repositories is.repositories) refl
+host_again forms d told base is =
+    rw (are_host forms base d told is, base_again d base is.based is.short, number_again (codes "cache") d told.cache is.cache, repositories_again forms base d told.repositories is.repositories) refl
 
 pub shape_law_holds : ConfigShapeLaw
-shape_law_holds d told = (host_takes d told, λ is. host_again d told is.0 is.1)
+shape_law_holds forms d told = (host_takes forms d told, λ is. host_again forms d told is.0 is.1)

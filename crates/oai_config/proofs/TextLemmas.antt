@@ -5,6 +5,7 @@ use Rattle.std.specs.Option.{option_map_or}
 use Rattle.serde_json.specs.Data.{Data}
 use Rattle.serde_json.specs.View.{view}
 use Rattle.serde_json.specs.declared.value.Value.{Value}
+use Rattle.oai_item.specs.declared.forms.Forms.{Forms}
 use Rattle.oai_json.specs.Json.{TakesMemory, json_in}
 use Rattle.oai_settings.specs.declared.settings.Settings.{Settings}
 use Rattle.oai_config.specs.declared.faults.ReadFault.{ReadFault}
@@ -21,22 +22,22 @@ use Rattle.oai_json.proofs.JsonLemmas.{takes-read}
 
 -- ---- what the text tells
 
-none_after : (o : Option Data) → o ≡ None → (o >>= told_of) ≡ None
-none_after o none = ap (λ o. o >>= told_of) none
+none_after : (forms : Forms) (o : Option Data) → o ≡ None → (o >>= told_of forms) ≡ None
+none_after forms o none = ap (λ o. o >>= told_of forms) none
 
-pub told_of_value : (text : List ℕ) (value : Value) (result : Result HostSettings ReadFault) → json_in text ≡ Some (view value)
-    → GivesRead result (told_of (view value)) → IsJsonText text result
+pub told_of_value : (forms : Forms) (text : List ℕ) (value : Value) (result : Result HostSettings ReadFault) → json_in text ≡ Some (view value)
+    → GivesRead result (told_of forms (view value)) → IsJsonText forms text result
 unfolding told_in
-told_of_value text value (Ok told) is gives = ap (λ o. o >>= told_of) is ∙ gives
-told_of_value text value (Err BadShape) is gives = (ap (λ o. is_none o) is, ap (λ o. o >>= told_of) is ∙ gives)
-told_of_value text value (Err NoMemory) is gives = takes-read text (view value) is
-told_of_value text value (Err BadJson) is gives = absurd gives
-told_of_value text value (Err BadName) is gives = absurd gives
-told_of_value text value (Err DuplicateName) is gives = absurd gives
-told_of_value text value (Err BadFormat) is gives = absurd gives
-told_of_value text value (Err BadDate) is gives = absurd gives
-told_of_value text value (Err BadNumber) is gives = absurd gives
-told_of_value text value (Err TooMany) is gives = absurd gives
+told_of_value forms text value (Ok told) is gives = ap (λ o. o >>= told_of forms) is ∙ gives
+told_of_value forms text value (Err BadShape) is gives = (ap (λ o. is_none o) is, ap (λ o. o >>= told_of forms) is ∙ gives)
+told_of_value forms text value (Err NoMemory) is gives = takes-read text (view value) is
+told_of_value forms text value (Err BadJson) is gives = absurd gives
+told_of_value forms text value (Err BadName) is gives = absurd gives
+told_of_value forms text value (Err DuplicateName) is gives = absurd gives
+told_of_value forms text value (Err BadFormat) is gives = absurd gives
+told_of_value forms text value (Err BadDate) is gives = absurd gives
+told_of_value forms text value (Err BadNumber) is gives = absurd gives
+told_of_value forms text value (Err TooMany) is gives = absurd gives
 
 -- ---- the causes
 
@@ -44,53 +45,53 @@ none_of : (settings : List Settings) → list_any (is_wrong_alone BadJson) setti
 none_of [] = refl
 none_of (s ∷ settings) = none_of settings
 
-there_is : (o : Option Data) (told : HostSettings) → (o >>= told_of) ≡ Some told → is_none o ≡ false
-there_is (Some d) told is = refl
-there_is None told is = absurd cc
+there_is : (forms : Forms) (o : Option Data) (told : HostSettings) → (o >>= told_of forms) ≡ Some told → is_none o ≡ false
+there_is forms (Some d) told is = refl
+there_is forms None told is = absurd cc
 
 -- where the text tells something, what applies to the text is what is wrong with that
-pub applies_told : (text : List ℕ) (told : HostSettings) → told_in text ≡ Some told → (cause : ReadFault) → is_wrong cause told ≡ applies cause text
+pub applies_told : (forms : Forms) (text : List ℕ) (told : HostSettings) → told_in forms text ≡ Some told → (cause : ReadFault) → is_wrong cause told ≡ applies forms cause text
 unfolding told_in
-applies_told text told is BadJson = none_of told.repositories ∙ sym (there_is (json_in text) told is)
-applies_told text told is BadShape = sym (ap (λ o. option_map_or (is_wrong BadShape) o true) is)
-applies_told text told is BadName = sym (ap (λ o. option_map_or (is_wrong BadName) o false) is)
-applies_told text told is DuplicateName = sym (ap (λ o. option_map_or (is_wrong DuplicateName) o false) is)
-applies_told text told is BadFormat = sym (ap (λ o. option_map_or (is_wrong BadFormat) o false) is)
-applies_told text told is BadDate = sym (ap (λ o. option_map_or (is_wrong BadDate) o false) is)
-applies_told text told is BadNumber = sym (ap (λ o. option_map_or (is_wrong BadNumber) o false) is)
-applies_told text told is TooMany = sym (ap (λ o. option_map_or (is_wrong TooMany) o false) is)
-applies_told text told is NoMemory = sym (ap (λ o. option_map_or (is_wrong NoMemory) o false) is)
+applies_told forms text told is BadJson = none_of told.repositories ∙ sym (there_is forms (json_in text) told is)
+applies_told forms text told is BadShape = sym (ap (λ o. option_map_or (is_wrong BadShape) o true) is)
+applies_told forms text told is BadName = sym (ap (λ o. option_map_or (is_wrong BadName) o false) is)
+applies_told forms text told is DuplicateName = sym (ap (λ o. option_map_or (is_wrong DuplicateName) o false) is)
+applies_told forms text told is BadFormat = sym (ap (λ o. option_map_or (is_wrong BadFormat) o false) is)
+applies_told forms text told is BadDate = sym (ap (λ o. option_map_or (is_wrong BadDate) o false) is)
+applies_told forms text told is BadNumber = sym (ap (λ o. option_map_or (is_wrong BadNumber) o false) is)
+applies_told forms text told is TooMany = sym (ap (λ o. option_map_or (is_wrong TooMany) o false) is)
+applies_told forms text told is NoMemory = sym (ap (λ o. option_map_or (is_wrong NoMemory) o false) is)
 
 -- ---- the answer
 
-lowest_told : (text : List ℕ) (told : HostSettings) (fault : ReadFault) → told_in text ≡ Some told → IsLowest (λ cause. is_wrong cause told) fault → IsLowest (λ cause. applies cause text) fault
-lowest_told text told fault is lowest = same_lowest (λ cause. is_wrong cause told) (λ cause. applies cause text) fault (applies_told text told is) lowest
+lowest_told : (forms : Forms) (text : List ℕ) (told : HostSettings) (fault : ReadFault) → told_in forms text ≡ Some told → IsLowest (λ cause. is_wrong cause told) fault → IsLowest (λ cause. applies forms cause text) fault
+lowest_told forms text told fault is lowest = same_lowest (λ cause. is_wrong cause told) (λ cause. applies forms cause text) fault (applies_told forms text told is) lowest
 
-takes-told : (o : Option Data) (text : List ℕ) (told : HostSettings) → json_in text ≡ o → (o >>= told_of) ≡ Some told → TakesMemory text
-takes-told (Some d) text told is tells = takes-read text d is
-takes-told None text told is tells = absurd cc
+takes-told : (forms : Forms) (o : Option Data) (text : List ℕ) (told : HostSettings) → json_in text ≡ o → (o >>= told_of forms) ≡ Some told → TakesMemory text
+takes-told forms (Some d) text told is tells = takes-read text d is
+takes-told forms None text told is tells = absurd cc
 
-memory_taken : (text : List ℕ) (told : HostSettings) → told_in text ≡ Some told → TakesMemory text
+memory_taken : (forms : Forms) (text : List ℕ) (told : HostSettings) → told_in forms text ≡ Some told → TakesMemory text
 unfolding told_in
-memory_taken text told is = takes-told (json_in text) text told refl is
+memory_taken forms text told is = takes-told forms (json_in text) text told refl is
 
-pub made_of_told : (text : List ℕ) (told : HostSettings) (result : Result HostConfig ReadFault) → told_in text ≡ Some told → IsMade told result → IsRead text result
-made_of_told text told (Ok config) is made = record {
+pub made_of_told : (forms : Forms) (text : List ℕ) (told : HostSettings) (result : Result HostConfig ReadFault) → told_in forms text ≡ Some told → IsMade told result → IsRead forms text result
+made_of_told forms text told (Ok config) is made = record {
   told = told;
   tells = is;
-  faultless = λ cause. sym (applies_told text told is cause) ∙ made.0 cause;
+  faultless = λ cause. sym (applies_told forms text told is cause) ∙ made.0 cause;
   cache = made.1;
   repositories = made.2;
 }
-made_of_told text told (Err BadJson) is made = lowest_told text told BadJson is made
-made_of_told text told (Err BadShape) is made = lowest_told text told BadShape is made
-made_of_told text told (Err BadName) is made = lowest_told text told BadName is made
-made_of_told text told (Err DuplicateName) is made = lowest_told text told DuplicateName is made
-made_of_told text told (Err BadFormat) is made = lowest_told text told BadFormat is made
-made_of_told text told (Err BadDate) is made = lowest_told text told BadDate is made
-made_of_told text told (Err BadNumber) is made = lowest_told text told BadNumber is made
-made_of_told text told (Err TooMany) is made = lowest_told text told TooMany is made
-made_of_told text told (Err NoMemory) is made = memory_taken text told is
+made_of_told forms text told (Err BadJson) is made = lowest_told forms text told BadJson is made
+made_of_told forms text told (Err BadShape) is made = lowest_told forms text told BadShape is made
+made_of_told forms text told (Err BadName) is made = lowest_told forms text told BadName is made
+made_of_told forms text told (Err DuplicateName) is made = lowest_told forms text told DuplicateName is made
+made_of_told forms text told (Err BadFormat) is made = lowest_told forms text told BadFormat is made
+made_of_told forms text told (Err BadDate) is made = lowest_told forms text told BadDate is made
+made_of_told forms text told (Err BadNumber) is made = lowest_told forms text told BadNumber is made
+made_of_told forms text told (Err TooMany) is made = lowest_told forms text told TooMany is made
+made_of_told forms text told (Err NoMemory) is made = memory_taken forms text told is
 
 -- nothing is of a lower number than the first
 first_of_all : (causes : ReadFault → Bool) (other : ReadFault) → fault_number other < 1 → causes other ≡ false
@@ -116,19 +117,19 @@ second_of_all causes is BadNumber low = absurd (omega arith)
 second_of_all causes is TooMany low = absurd (omega arith)
 second_of_all causes is NoMemory low = absurd (omega arith)
 
-pub nothing_told : (text : List ℕ) (fault : ReadFault) → IsJsonText text (Err fault) → IsRead text (Err fault)
-nothing_told text BadJson is = record {
+pub nothing_told : (forms : Forms) (text : List ℕ) (fault : ReadFault) → IsJsonText forms text (Err fault) → IsRead forms text (Err fault)
+nothing_told forms text BadJson is = record {
   applies = ap (λ o. is_none o) is;
-  lowest = first_of_all (λ cause. applies cause text);
+  lowest = first_of_all (λ cause. applies forms cause text);
 }
-nothing_told text BadShape is = record {
+nothing_told forms text BadShape is = record {
   applies = ap (λ o. option_map_or (is_wrong BadShape) o true) is.1;
-  lowest = second_of_all (λ cause. applies cause text) is.0;
+  lowest = second_of_all (λ cause. applies forms cause text) is.0;
 }
-nothing_told text NoMemory is = is
-nothing_told text BadName is = absurd is
-nothing_told text DuplicateName is = absurd is
-nothing_told text BadFormat is = absurd is
-nothing_told text BadDate is = absurd is
-nothing_told text BadNumber is = absurd is
-nothing_told text TooMany is = absurd is
+nothing_told forms text NoMemory is = is
+nothing_told forms text BadName is = absurd is
+nothing_told forms text DuplicateName is = absurd is
+nothing_told forms text BadFormat is = absurd is
+nothing_told forms text BadDate is = absurd is
+nothing_told forms text BadNumber is = absurd is
+nothing_told forms text TooMany is = absurd is

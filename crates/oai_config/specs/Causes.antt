@@ -3,10 +3,11 @@ use Rattle.std.specs.Prelude.{ℕ, Bool, true, false, ◌==◌, ◌||◌, not, n
 use Rattle.std.specs.List.{list_any}
 use Rattle.std.specs.Option.{option_map_or}
 use Rattle.oai_item.specs.Rules.{has_repeat}
+use Rattle.oai_item.specs.declared.forms.Forms.{Forms}
 use Rattle.oai_json.specs.Json.{json_in}
 use Rattle.oai_settings.specs.declared.settings.Settings.{Settings}
 use Rattle.oai_settings.specs.Config.{is_repository_name}
-use Rattle.oai_settings.specs.Settings.{has_shape, are_formats, earliest_of, passes_number, are_numbers}
+use Rattle.oai_settings.specs.Settings.{has_shape, have_formats, earliest_of, passes_number, are_numbers}
 use Rattle.oai_config.specs.declared.faults.ReadFault.{ReadFault}
 use Rattle.oai_config.specs.declared.faults.ReadFault.TheVariants.{BadJson, BadShape, BadName, DuplicateName, BadFormat, BadDate, BadNumber, TooMany, NoMemory}
 use Rattle.oai_config.specs.declared.host_settings.HostSettings.{HostSettings}
@@ -17,7 +18,7 @@ use Rattle.oai_config.specs.Shapes.{told_in}
 abbrev pub is_wrong_alone : ReadFault → Settings → Bool
 is_wrong_alone BadShape s = not (has_shape s)
 is_wrong_alone BadName s = not (is_repository_name s.name)
-is_wrong_alone BadFormat s = not (are_formats s.formats)
+is_wrong_alone BadFormat s = not (have_formats s)
 is_wrong_alone BadDate s = is_none (earliest_of s.granularity s.earliest)
 is_wrong_alone BadNumber s = not (are_numbers s.chunk s.lifetime s.lists s.items)
 is_wrong_alone fault s = false
@@ -41,10 +42,10 @@ is_wrong fault told =
 
 -- a cause that applies to a text; one that is no JSON, or does not have the shape, has no settings: then 1 or 2
 -- applies, and none of the others
-abbrev pub applies : ReadFault → List ℕ → Bool
-applies BadJson text = is_none (json_in text)
-applies BadShape text = option_map_or (is_wrong BadShape) (told_in text) true
-applies fault text = option_map_or (is_wrong fault) (told_in text) false
+abbrev pub applies : Forms → ReadFault → List ℕ → Bool
+applies forms BadJson text = is_none (json_in text)
+applies forms BadShape text = option_map_or (is_wrong BadShape) (told_in forms text) true
+applies forms fault text = option_map_or (is_wrong fault) (told_in forms text) false
 
 -- the number of each fault
 abbrev pub fault_number : ReadFault → ℕ

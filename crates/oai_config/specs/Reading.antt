@@ -1,6 +1,7 @@
 -- The result of reading a configuration: the configuration, or the lowest cause that applies anywhere in the text.
 use Rattle.std.specs.Prelude.{◌≡◌, ◌<◌, ℕ, Bool, true, false, List, codes, Some, Result, Ok, Err}
 use Rattle.std.specs.List.{AllZip}
+use Rattle.oai_item.specs.declared.forms.Forms.{Forms}
 use Rattle.oai_json.specs.Json.{TakesMemory}
 use Rattle.oai_settings.specs.declared.settings.Settings.{Settings}
 use Rattle.oai_settings.specs.Settings.{Configures}
@@ -20,11 +21,11 @@ pub record HasSettings (settings : Settings) (entry : NamedConfig) : Type 0 wher
 abbrev pub HaveSettings : List Settings → List NamedConfig → Type 0
 HaveSettings settings entries = AllZip HasSettings settings entries
 
--- the text has settings to which no cause applies, and the configuration is made of these
-pub record IsConfigOf (text : List ℕ) (config : HostConfig) : Type 0 where
+-- the text has settings, where records have these forms, to which no cause applies, and the configuration is made of these
+pub record IsConfigOf (forms : Forms) (text : List ℕ) (config : HostConfig) : Type 0 where
   pub told : HostSettings
-  pub tells : told_in text ≡ Some told
-  pub faultless : (fault : ReadFault) → applies fault text ≡ false
+  pub tells : told_in forms text ≡ Some told
+  pub faultless : (fault : ReadFault) → applies forms fault text ≡ false
   pub cache : told.cache ≡ Some config.cache
   pub repositories : HaveSettings told.repositories config.repositories
 
@@ -34,10 +35,10 @@ pub record IsLowest (causes : ReadFault → Bool) (fault : ReadFault) : Type 0 w
   pub lowest : (other : ReadFault) → fault_number other < fault_number fault → causes other ≡ false
 
 -- the result of reading a text; out of memory is possible for a text in UTF-8 that is not empty
-abbrev pub IsRead : List ℕ → Result HostConfig ReadFault → Type 0
-IsRead text (Ok config) = IsConfigOf text config
-IsRead text (Err NoMemory) = TakesMemory text
-IsRead text (Err fault) = IsLowest (λ cause. applies cause text) fault
+abbrev pub IsRead : Forms → List ℕ → Result HostConfig ReadFault → Type 0
+IsRead forms text (Ok config) = IsConfigOf forms text config
+IsRead forms text (Err NoMemory) = TakesMemory text
+IsRead forms text (Err fault) = IsLowest (λ cause. applies forms cause text) fault
 
 -- the number and the name of a fault
 abbrev pub read_fault_text : ReadFault → List ℕ

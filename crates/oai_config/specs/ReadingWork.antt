@@ -4,6 +4,7 @@ use Rattle.std.specs.Prelude.{◌≡◌, ◌||◌, ℕ, Bool, false, nat_le, if�
 use Rattle.std.specs.List.{list_any}
 use Rattle.serde_json.specs.Data.{Data}
 use Rattle.oai_names.specs.Optional.{◌>>=◌}
+use Rattle.oai_item.specs.declared.forms.Forms.{Forms}
 use Rattle.oai_json.specs.Json.{TakesMemory, json_in, number_at, text_at, texts_at}
 use Rattle.oai_settings.specs.declared.settings.ConfigFault.{ConfigFault}
 use Rattle.oai_settings.specs.declared.settings.ConfigFault.TheVariants as alone
@@ -62,8 +63,8 @@ rules_from d = do
   Some (record { deleted = deleted; granularity = granularity; chunk = chunk; lifetime = lifetime; lists = lists; items = items })
 
 -- its settings, of these parts
-abbrev pub settings_with : List ℕ → Texts → Rules → List FormatSettings → Settings
-settings_with base texts rules formats = record {
+abbrev pub settings_with : Forms → List ℕ → Texts → Rules → List FormatSettings → Settings
+settings_with forms base texts rules formats = record {
   base = base;
   name = texts.name;
   repository_name = texts.repository_name;
@@ -76,15 +77,16 @@ settings_with base texts rules formats = record {
   lists = rules.lists;
   items = rules.items;
   formats = formats;
+  forms = forms;
 }
 
 -- the settings in the text, or why it has none
-abbrev pub IsJsonText : List ℕ → Result HostSettings ReadFault → Type 0
-IsJsonText text (Ok told) = told_in text ≡ Some told
-IsJsonText text (Err BadJson) = json_in text ≡ None
-IsJsonText text (Err BadShape) = (is_none (json_in text) ≡ false) × (told_in text ≡ None)
-IsJsonText text (Err NoMemory) = TakesMemory text
-IsJsonText text (Err fault) = ⊥
+abbrev pub IsJsonText : Forms → List ℕ → Result HostSettings ReadFault → Type 0
+IsJsonText forms text (Ok told) = told_in forms text ≡ Some told
+IsJsonText forms text (Err BadJson) = json_in text ≡ None
+IsJsonText forms text (Err BadShape) = (is_none (json_in text) ≡ false) × (told_in forms text ≡ None)
+IsJsonText forms text (Err NoMemory) = TakesMemory text
+IsJsonText forms text (Err fault) = ⊥
 
 -- ---- the causes
 

@@ -1,12 +1,14 @@
 -- The settings of the JSON object of a configuration, if its members are of their kinds (RFC 8259, sections 3 to 7).
 -- The members are this repository's own.
-use Rattle.std.specs.Prelude.{ℕ, List, [], ◌∷◌, codes, Option, Some}
+use Rattle.std.specs.Prelude.{ℕ, Bool, true, false, ◌&&◌, if◌then◌else◌, List, [], ◌∷◌, codes, Option, Some, None}
 use Rattle.std.specs.List.{find}
 use Rattle.std.specs.Str.{bytes_eq}
 use Rattle.serde_json.specs.Data.{Data}
 use Rattle.oai_time.specs.declared.granularity.Granularity.{Granularity}
 use Rattle.oai_time.specs.declared.granularity.Granularity.TheVariants.{Day, Second}
 use Rattle.oai_item.specs.ShortTexts.{is_short_text}
+use Rattle.oai_item.specs.declared.forms.Forms.{Forms}
+use Rattle.oai_item.specs.declared.forms.Forms.TheVariants.{Fields, Elements}
 use Rattle.oai_item.specs.declared.deleted_record.DeletedRecord.{DeletedRecord}
 use Rattle.oai_item.specs.declared.deleted_record.DeletedRecord.TheVariants.{No, Transient, Persistent}
 use Rattle.oai_answers.specs.Documents.{deleted_text}
@@ -22,19 +24,40 @@ use Rattle.oai_names.specs.Optional.{◌>>=◌, each_of, tested}
 abbrev pub format_members : List (List ℕ)
 format_members = codes "prefix" ∷ codes "schema" ∷ codes "namespace" ∷ codes "root" ∷ codes "fields" ∷ []
 
--- the settings of a format, from these members
-abbrev pub format_from : Data → Option FormatSettings
-format_from d = do
+-- those of a format without fields, whose records are elements
+abbrev pub element_members : List (List ℕ)
+element_members = codes "prefix" ∷ codes "schema" ∷ codes "namespace" ∷ codes "root" ∷ []
+
+-- the settings of a format, from these members, and its fields
+abbrev pub format_from : Data → Option (List (List ℕ)) → Option FormatSettings
+format_from d told = do
   prefix ← text_at (codes "prefix") d
   schema ← text_at (codes "schema") d
   namespace ← text_at (codes "namespace") d
   root ← text_at (codes "root") d
-  fields ← texts_at (codes "fields") d
+  fields ← told
   Some (record { prefix = prefix; schema = schema; namespace = namespace; root = root; fields = fields })
 
--- {"prefix":TEXT,"schema":TEXT,"namespace":TEXT,"root":TEXT,"fields":[TEXT,..]}, and no other member
-unfoldable pub format_in : Data → Option FormatSettings
-format_in d = tested (has_members format_members) d >>= format_from
+-- records may be elements
+abbrev pub takes_elements : Forms → Bool
+takes_elements Fields = false
+takes_elements Elements = true
+
+-- a format without fields is written without the member, where it may be: so it is written in one way
+abbrev pub fields_told : Forms → List (List ℕ) → Option (List (List ℕ))
+fields_told Fields fields = Some fields
+fields_told Elements [] = None
+fields_told Elements (field ∷ fields) = Some (field ∷ fields)
+
+unfoldable pub fields_at : Forms → Data → Option (List (List ℕ))
+fields_at forms d = texts_at (codes "fields") d >>= fields_told forms
+
+-- {"prefix":TEXT,"schema":TEXT,"namespace":TEXT,"root":TEXT,"fields":[TEXT,..]}, and no other member; where records may be elements `fields`
+-- may be missing, and is not empty
+unfoldable pub format_in : Forms → Data → Option FormatSettings
+format_in forms d =
+    if takes_elements forms && has_members element_members d then format_from d (Some [])
+    else (tested (has_members format_members) d >>= λ d. format_from d (fields_at forms d))
 
 -- ---- a repository
 
@@ -61,8 +84,8 @@ unfoldable pub granularity_at : Data → Option Granularity
 granularity_at d = text_at (codes "granularity") d >>= granularity_of
 
 -- the formats, from the member `formats`
-unfoldable pub formats_at : Data → Option (List FormatSettings)
-formats_at d = elements_at (codes "formats") d >>= each_of format_in
+unfoldable pub formats_at : Forms → Data → Option (List FormatSettings)
+formats_at forms d = elements_at (codes "formats") d >>= each_of (format_in forms)
 
 -- the members of a repository
 abbrev pub repository_members : List (List ℕ)
@@ -71,8 +94,8 @@ repository_members =
     ∷ codes "granularity" ∷ codes "chunk" ∷ codes "lifetime" ∷ codes "lists" ∷ codes "items" ∷ codes "formats" ∷ []
 
 -- the settings of a repository below the base, from these members
-abbrev pub settings_from : List ℕ → Data → Option Settings
-settings_from base d = do
+abbrev pub settings_from : Forms → List ℕ → Data → Option Settings
+settings_from forms base d = do
   name ← text_at (codes "name") d
   repository_name ← text_at (codes "repositoryName") d
   addresses ← texts_at (codes "adminEmail") d
@@ -83,7 +106,7 @@ settings_from base d = do
   lifetime ← number_at (codes "lifetime") d
   lists ← number_at (codes "lists") d
   items ← number_at (codes "items") d
-  formats ← formats_at d
+  formats ← formats_at forms d
   Some (record {
     base = base;
     name = name;
@@ -97,11 +120,12 @@ settings_from base d = do
     lists = lists;
     items = items;
     formats = formats;
+    forms = forms;
   })
 
 -- the object with exactly these members
-unfoldable pub settings_of : List ℕ → Data → Option Settings
-settings_of base d = tested (has_members repository_members) d >>= settings_from base
+unfoldable pub settings_of : Forms → List ℕ → Data → Option Settings
+settings_of forms base d = tested (has_members repository_members) d >>= settings_from forms base
 
 -- ---- the host
 
@@ -110,27 +134,27 @@ unfoldable pub base_at : Data → Option (List ℕ)
 base_at d = text_at (codes "base") d >>= tested is_short_text
 
 -- the repositories below the base
-unfoldable pub repositories_at : List ℕ → Data → Option (List Settings)
-repositories_at base d = elements_at (codes "repositories") d >>= each_of (settings_of base)
+unfoldable pub repositories_at : Forms → List ℕ → Data → Option (List Settings)
+repositories_at forms base d = elements_at (codes "repositories") d >>= each_of (settings_of forms base)
 
 -- the members of a configuration
 abbrev pub host_members : List (List ℕ)
 host_members = codes "base" ∷ codes "cache" ∷ codes "repositories" ∷ []
 
 -- the settings of a host, from these members
-abbrev pub told_from : Data → Option HostSettings
-told_from d = do
+abbrev pub told_from : Forms → Data → Option HostSettings
+told_from forms d = do
   base ← base_at d
   cache ← number_at (codes "cache") d
-  repositories ← repositories_at base d
+  repositories ← repositories_at forms base d
   Some (record { cache = cache; repositories = repositories })
 
 -- {"base":TEXT,"cache":NUMBER,"repositories":[REPOSITORY,..]}, and no other member
-unfoldable pub told_of : Data → Option HostSettings
-told_of d = tested (has_members host_members) d >>= told_from
+unfoldable pub told_of : Forms → Data → Option HostSettings
+told_of forms d = tested (has_members host_members) d >>= told_from forms
 
 -- ---- the text
 
--- the settings in the text, if it is JSON with the shape
-unfoldable pub told_in : List ℕ → Option HostSettings
-told_in text = json_in text >>= told_of
+-- the settings in the text, where records have these forms, if it is JSON with the shape
+unfoldable pub told_in : Forms → List ℕ → Option HostSettings
+told_in forms text = json_in text >>= told_of forms

@@ -1,9 +1,11 @@
 -- The JSON object that is written for a configuration. RFC 8259, sections 4 to 7.
-use Rattle.std.specs.Prelude.{◌≡◌, ◌↔◌, ℕ, true, List, map, codes, Option, Some}
+use Rattle.std.specs.Prelude.{◌≡◌, ◌↔◌, ℕ, true, List, [], ◌∷◌, map, codes, Option, Some}
 use Rattle.std.specs.List.{AllZip}
 use Rattle.serde_json.specs.Data.{Data, Num, string, number}
 use Rattle.serde_json.specs.Find.{get, as_u64}
 use Rattle.oai_item.specs.ShortTexts.{is_short_text}
+use Rattle.oai_item.specs.declared.forms.Forms.{Forms}
+use Rattle.oai_item.specs.declared.forms.Forms.TheVariants.{Fields, Elements}
 use Rattle.oai_answers.specs.Documents.{deleted_text}
 use Rattle.oai_json.specs.Json.{size, array_of}
 use Rattle.oai_settings.specs.declared.settings.FormatSettings.{FormatSettings}
@@ -31,15 +33,22 @@ HasList name IsWritten xs d = (ds : List Data) × (get name d ≡ Some (array_of
 
 -- ---- the objects, their members in any order
 
-pub record IsFormat (format : FormatSettings) (d : Data) : Type 0 where
+-- the fields of a format, and no other member beside those that each format has; where records may be elements, a format without fields has no
+-- such member
+abbrev pub HasFields : Forms → List (List ℕ) → Data → Type 0
+HasFields Fields fields d = HasTexts (codes "fields") fields d × (size d ≡ 5)
+HasFields Elements [] d = size d ≡ 4
+HasFields Elements (field ∷ fields) d = HasTexts (codes "fields") (field ∷ fields) d × (size d ≡ 5)
+
+pub record IsFormat (forms : Forms) (format : FormatSettings) (d : Data) : Type 0 where
   pub prefix : HasText (codes "prefix") format.prefix d
   pub schema : HasText (codes "schema") format.schema d
   pub namespace : HasText (codes "namespace") format.namespace d
   pub root : HasText (codes "root") format.root d
-  pub fields : HasTexts (codes "fields") format.fields d
-  pub no_other : size d ≡ 5
+  pub fields : HasFields forms format.fields d
 
-pub record IsRepository (base : List ℕ) (s : Settings) (d : Data) : Type 0 where
+pub record IsRepository (forms : Forms) (base : List ℕ) (s : Settings) (d : Data) : Type 0 where
+  pub formed : s.forms ≡ forms
   pub below : s.base ≡ base
   pub name : HasText (codes "name") s.name d
   pub repository_name : HasText (codes "repositoryName") s.repository_name d
@@ -51,17 +60,17 @@ pub record IsRepository (base : List ℕ) (s : Settings) (d : Data) : Type 0 whe
   pub lifetime : HasNumber (codes "lifetime") s.lifetime d
   pub lists : HasNumber (codes "lists") s.lists d
   pub items : HasNumber (codes "items") s.items d
-  pub formats : HasList (codes "formats") IsFormat s.formats d
+  pub formats : HasList (codes "formats") (IsFormat forms) s.formats d
   pub no_other : size d ≡ 11
 
 -- the base of all base URLs has 1 to 512 bytes, of characters that a document may hold (XML 1.0, section 2.2)
-pub record IsHost (base : List ℕ) (told : HostSettings) (d : Data) : Type 0 where
+pub record IsHost (forms : Forms) (base : List ℕ) (told : HostSettings) (d : Data) : Type 0 where
   pub based : HasText (codes "base") base d
   pub short : is_short_text base ≡ true
   pub cache : HasNumber (codes "cache") told.cache d
-  pub repositories : HasList (codes "repositories") (IsRepository base) told.repositories d
+  pub repositories : HasList (codes "repositories") (IsRepository forms base) told.repositories d
   pub no_other : size d ≡ 3
 
 -- the law of the shape: a value has these settings exactly if it is the object that is written for them, on some base
 abbrev pub ConfigShapeLaw : Type 0
-ConfigShapeLaw = (d : Data) (told : HostSettings) → (told_of d ≡ Some told) ↔ ((base : List ℕ) × IsHost base told d)
+ConfigShapeLaw = (forms : Forms) (d : Data) (told : HostSettings) → (told_of forms d ≡ Some told) ↔ ((base : List ℕ) × IsHost forms base told d)

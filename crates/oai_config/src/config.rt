@@ -6,6 +6,7 @@ ghost use Rattle.oai_config.specs.ReadingWork.{IsMade};
 use crate::causes::{check_together, each_named};
 use crate::faults::ReadFault;
 use crate::host_settings::{HostSettings, told_in};
+use oai_item::Forms;
 use oai_names::{Sequence, Text};
 use oai_settings::RepoConfig;
 use std::alloc::Global;
@@ -49,14 +50,15 @@ impl Model for Config {
 }
 
 impl Config {
-    /// Parses the configuration, a JSON object (RFC 8259) with exactly its members. The error is the lowest of the
+    /// Parses the configuration, a JSON object (RFC 8259) with exactly its members, of repositories whose records have
+    /// these forms: with `Elements` a format may have no member `fields`. The error is the lowest of the
     /// faults 1 to 8 that apply anywhere in the text; or it is `NoMemory`, which may come in place of any other, but
     /// not for a text that is empty or not in UTF-8. Of two members with one name the last counts.
     #[tactic(auto, unfolding(crate::specs::Shapes::told_in))]
-    pub fn read(alloc: Global, text: &[u8]) -> Result<Config, ReadFault>
-        ensures { IsRead text.now result }
+    pub fn read(alloc: Global, forms: Forms, text: &[u8]) -> Result<Config, ReadFault>
+        ensures { IsRead forms text.now result }
     {
-        let told = told_in(alloc, text)?;
+        let told = told_in(alloc, forms, text)?;
         Config::of(alloc, told)
     }
 

@@ -6,7 +6,7 @@ ghost use Rattle.oai_config.specs.Written.{ConfigShapeLaw};
 use crate::faults::ReadFault;
 use crate::members::read_number;
 use crate::repositories::repositories_at;
-use oai_item::is_short_text;
+use oai_item::{Forms, is_short_text};
 use oai_json::{has_members, read_json, text_at};
 use oai_names::Sequence;
 use oai_settings::Settings;
@@ -23,27 +23,27 @@ pub(crate) struct HostSettings {
     pub repositories: Sequence<Settings>,
 }
 
-/// The law of the shape: the settings of a host are parsed from exactly the JSON objects that are written for them, on
-/// some base. A theorem, proved by an empty function.
+/// The law of the shape: the settings of a host, with records of each of the forms, are parsed from exactly the JSON
+/// objects that are written for them, on some base. A theorem, proved by an empty function.
 pub fn shape_law()
     ensures { ConfigShapeLaw }
 {}
 
 /// The settings in the text. The errors: `BadJson` if it is no JSON text, `BadShape` if that does not have the shape of
 /// a configuration.
-pub(crate) fn told_in(alloc: Global, text: &[u8]) -> Result<HostSettings, ReadFault>
-    ensures { IsJsonText text.now result }
+pub(crate) fn told_in(alloc: Global, forms: Forms, text: &[u8]) -> Result<HostSettings, ReadFault>
+    ensures { IsJsonText forms text.now result }
 {
     match read_json(alloc, text)? {
-        Some(value) => told_of(alloc, &value),
+        Some(value) => told_of(alloc, forms, &value),
         None => Err(ReadFault::BadJson),
     }
 }
 
 /// The settings of an object with exactly the members of a configuration; `BadShape` for any other value.
 #[tactic(auto, unfolding(crate::specs::Shapes::told_of))]
-fn told_of(alloc: Global, value: &Value) -> Result<HostSettings, ReadFault>
-    ensures { GivesRead result (shape.told_of (view value.now)) }
+fn told_of(alloc: Global, forms: Forms, value: &Value) -> Result<HostSettings, ReadFault>
+    ensures { GivesRead result (shape.told_of forms (view value.now)) }
 {
     if !has_members(value, &["base", "cache", "repositories"]) {
         return Err(ReadFault::BadShape);
@@ -51,7 +51,7 @@ fn told_of(alloc: Global, value: &Value) -> Result<HostSettings, ReadFault>
     let base = base_at(value)?;
     Ok(HostSettings {
         cache: read_number(value, "cache")?,
-        repositories: repositories_at(alloc, base, value)?,
+        repositories: repositories_at(alloc, forms, base, value)?,
     })
 }
 

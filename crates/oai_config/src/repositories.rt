@@ -8,7 +8,7 @@ ghost use Rattle.oai_config.specs.ReadingWork.{GivesView, GivesRead, rules_from,
 use crate::faults::ReadFault;
 use crate::formats::each_format;
 use crate::members::{read_number, read_text, read_texts};
-use oai_item::DeletedRecord;
+use oai_item::{DeletedRecord, Forms};
 use oai_json::{elements_at, has_members, text_at};
 use oai_names::{Sequence, Text};
 use oai_settings::{FormatSettings, Settings};
@@ -20,13 +20,14 @@ use std::alloc::Global;
 #[tactic(auto, unfolding(crate::specs::Shapes::repositories_at))]
 pub(crate) fn repositories_at(
     alloc: Global,
+    forms: Forms,
     base: &str,
     value: &Value,
 ) -> Result<Sequence<Settings>, ReadFault>
-    ensures { GivesRead result (shape.repositories_at base.now (view value.now)) }
+    ensures { GivesRead result (shape.repositories_at forms base.now (view value.now)) }
 {
     match elements_at(value, "repositories") {
-        Some(values) => each_repository(alloc, base, values),
+        Some(values) => each_repository(alloc, forms, base, values),
         None => Err(ReadFault::BadShape),
     }
 }
@@ -35,29 +36,35 @@ pub(crate) fn repositories_at(
 #[tactic(auto, using(oai_json::proofs::ReadingLemmas::starts))]
 fn each_repository(
     alloc: Global,
+    forms: Forms,
     base: &str,
     values: &[Value],
 ) -> Result<Sequence<Settings>, ReadFault>
-    ensures { GivesRead result (each_of (shape.settings_of base.now) (map view values.now)) }
+    ensures { GivesRead result (each_of (shape.settings_of forms base.now) (map view values.now)) }
 {
     let mut repositories = Vec::new(alloc);
     for value in values {
-        repositories.push(settings_of(alloc, base, value)?)?;
+        repositories.push(settings_of(alloc, forms, base, value)?)?;
     }
     Ok(Sequence::new(repositories))
 }
 
 /// The settings of an object with exactly the members of a repository; `BadShape` for any other value.
 #[tactic(auto, unfolding(crate::specs::Shapes::settings_of))]
-fn settings_of(alloc: Global, base: &str, value: &Value) -> Result<Settings, ReadFault>
-    ensures { GivesRead result (shape.settings_of base.now (view value.now)) }
+fn settings_of(
+    alloc: Global,
+    forms: Forms,
+    base: &str,
+    value: &Value,
+) -> Result<Settings, ReadFault>
+    ensures { GivesRead result (shape.settings_of forms base.now (view value.now)) }
 {
     if !is_repository(value) {
         return Err(ReadFault::BadShape);
     }
     let rules = rules_of(value)?;
     let texts = texts_of(alloc, value)?;
-    let formats = formats_at(alloc, value)?;
+    let formats = formats_at(alloc, forms, value)?;
     Ok(Settings {
         base: Text::new(alloc, base)?,
         name: texts.name,
@@ -71,6 +78,7 @@ fn settings_of(alloc: Global, base: &str, value: &Value) -> Result<Settings, Rea
         lists: rules.lists,
         items: rules.items,
         formats,
+        forms,
     })
 }
 
@@ -191,11 +199,15 @@ fn granularity_of(text: &str) -> Result<Granularity, ReadFault>
 
 /// The formats, from the member `formats`.
 #[tactic(auto, unfolding(crate::specs::Shapes::formats_at))]
-fn formats_at(alloc: Global, value: &Value) -> Result<Sequence<FormatSettings>, ReadFault>
-    ensures { GivesRead result (shape.formats_at (view value.now)) }
+fn formats_at(
+    alloc: Global,
+    forms: Forms,
+    value: &Value,
+) -> Result<Sequence<FormatSettings>, ReadFault>
+    ensures { GivesRead result (shape.formats_at forms (view value.now)) }
 {
     match elements_at(value, "formats") {
-        Some(values) => each_format(alloc, values),
+        Some(values) => each_format(alloc, forms, values),
         None => Err(ReadFault::BadShape),
     }
 }

@@ -1,3 +1,4 @@
 mod FileLemmas
 mod LifeLemmas
+mod RenewalLemmas
 mod StartLemmas

@@ -1,19 +1,28 @@
 -- A life, made of a start and the service behind it.
-use Rattle.std.proofs.Common.{◌≡◌, ◌∙◌, ℕ, Bool, IfOk, IsTrue, List, [], ◌∷◌, Option, Some, Result, Ok, Err, arith, length, map, refl, subst, sym}
+use Rattle.std.proofs.Common.{◌≡◌, ◌∙◌, inl, inr, ℕ, ℤ, Bool, IfOk, IsTrue, List, [], ◌∷◌, Option, Some, Result, Ok, Err, ap, arith, length, map, refl, subst, sym}
 use Rattle.oai_host.specs.Hosts.{HostState, begun}
-use Rattle.oai_serving.specs.Accepted.{Known, PassesNone}
-use Rattle.oai_serving.specs.Rounds.{World}
+use Rattle.oai_serving.specs.Accepted.{Known, PassesNone, known_of}
+use Rattle.oai_serving.specs.Rounds.{IsService, Settles, World}
+use Rattle.oai_serving.specs.Wrappers.{Wraps, behind}
 use Rattle.oai_serving.specs.declared.faults.ServeFault.{ServeFault}
 use Rattle.oai_journal.specs.declared.file.FileJournal.{FileJournal}
 use Rattle.oai_journal.specs.declared.journals.Journal as journal
 use Rattle.oai_journal.specs.declared.recovery.Recovery.{Recovery}
 use Rattle.oai_journal.specs.Records.{Entry}
 use Rattle.oai_journal.specs.Recovered.{disk_of}
+use Rattle.oai_front.specs.Performing.{Steps}
+use Rattle.oai_keys.specs.Guards.{Guard, Guards, IsGuardSettled, IsGuarded, unguarded}
+use Rattle.oai_keys.specs.declared.rings.Ring.{Ring}
+use Rattle.oai_keys.proofs.GuardLemmas.{HasRings, guard_wraps}
+use Rattle.oai_serving.proofs.WrapperLemmas as wrapper
 use Rattle.oai_durable.specs.Journaled.{IsExchange, IsHeld, IsSettled, Parts, Replaying}
 use Rattle.oai_durable.specs.Recovered.{HasRedone}
 use Rattle.oai_daemon.specs.Archives.{archived}
 use Rattle.oai_daemon.specs.Lives.{BeginsWithAll, HasLived}
 use Rattle.oai_daemon.specs.Starts.{HasResumed, HasServed, HasStarted}
+use Rattle.oai_daemon.specs.Watches.{Watches}
+use Rattle.oai_http.specs.Exchanges.{Asked}
+use Rattle.oai_http.specs.declared.exchanges.Answer.{Answer}
 use Rattle.oai_daemon.specs.declared.origins.Origin.{Origin}
 
 -- a list of no length has nothing
@@ -22,15 +31,16 @@ nothing_in [] none = refl
 nothing_in (x ∷ xs) none = absurd (omega (arith, none))
 
 pub lived : {S D : Type 0} (j : journal.Ghosts (FileJournal D)) (seen : D → List ℕ) (may_leave : D → List ℕ → Type 0) (is_clean : D → Bool) (contents remaining : S → Option (List ℕ))
-    (held : Option (List ℕ)) (text : List ℕ) (origin : Origin) (count : ℕ) (host : HostState) (recovery : Recovery D)
+    (held : Option (List ℕ)) (text : List ℕ) (rings : List Ring) (origin : Origin) (count : ℕ) (host : HostState) (recovery : Recovery D)
     (known later : Known S) (result : Result (Unit {0}) ServeFault) (new : World S (Parts HostState (FileJournal D)))
     → PassesNone known → HasStarted seen may_leave is_clean held text origin count host recovery
-    → HasResumed archived j seen may_leave contents remaining host recovery known later result new
-    → HasLived j seen is_clean contents remaining held text origin later result new
-lived {S} {D} j seen may_leave is_clean contents remaining held text origin count host recovery known later result new none started resumed =
+    → HasResumed archived j seen may_leave contents remaining host recovery rings known later result new
+    → HasLived j seen is_clean contents remaining held text rings origin later result new
+lived {S} {D} j seen may_leave is_clean contents remaining held text rings origin count host recovery known later result new none started resumed =
     let served = resumed.served in
     let replayed = started.replayed in
     record {
+      forms = started.forms;
       config = started.config;
       read = started.read;
       rules = started.rules;
@@ -58,48 +68,93 @@ lived {S} {D} j seen may_leave is_clean contents remaining held text origin coun
 
 -- where the service came to be, it is a life
 pub lived_over : {S D A E : Type 0} (j : journal.Ghosts (FileJournal D)) (seen : D → List ℕ) (may_leave : D → List ℕ → Type 0) (is_clean : D → Bool)
-    (contents remaining : S → Option (List ℕ)) (held : Option (List ℕ)) (text : List ℕ) (origin : Origin) (count : ℕ) (host : HostState) (recovery : Recovery D) (known : Known S)
+    (contents remaining : S → Option (List ℕ)) (held : Option (List ℕ)) (text : List ℕ) (rings : List Ring) (origin : Origin) (count : ℕ) (host : HostState) (recovery : Recovery D) (known : Known S)
     (came : A → Origin) (later : A → Known S) (ended : A → Result (Unit {0}) ServeFault) (new : A → World S (Parts HostState (FileJournal D))) (result : Result A E)
     → PassesNone known → HasStarted seen may_leave is_clean held text origin count host recovery
-    → IfOk result (λ (a : A). HasResumed archived j seen may_leave contents remaining host recovery known (later a) (ended a) (new a))
+    → IfOk result (λ (a : A). HasResumed archived j seen may_leave contents remaining host recovery rings known (later a) (ended a) (new a))
     → IfOk result (λ (a : A). came a ≡ origin)
-    → IfOk result (λ (a : A). HasLived j seen is_clean contents remaining held text (came a) (later a) (ended a) (new a))
-lived_over j seen may_leave is_clean contents remaining held text origin count host recovery known came later ended new (Ok a) none started resumed same =
-    subst (λ (o : Origin). HasLived j seen is_clean contents remaining held text o (later a) (ended a) (new a)) (sym same)
-    (lived j seen may_leave is_clean contents remaining held text origin count host recovery known (later a) (ended a) (new a) none started resumed)
-lived_over j seen may_leave is_clean contents remaining held text origin count host recovery known came later ended new (Err e) none started nothing same = nothing
+    → IfOk result (λ (a : A). HasLived j seen is_clean contents remaining held text rings (came a) (later a) (ended a) (new a))
+lived_over j seen may_leave is_clean contents remaining held text rings origin count host recovery known came later ended new (Ok a) none started resumed same =
+    subst (λ (o : Origin). HasLived j seen is_clean contents remaining held text rings o (later a) (ended a) (new a)) (sym same)
+    (lived j seen may_leave is_clean contents remaining held text rings origin count host recovery known (later a) (ended a) (new a) none started resumed)
+lived_over j seen may_leave is_clean contents remaining held text rings origin count host recovery known came later ended new (Err e) none started nothing same = nothing
 
 -- where the bytes of the file are known, they are those that were read
-pub begins_with_file : {S D : Type 0} (j : journal.Ghosts (FileJournal D)) (seen : D → List ℕ) (is_clean : D → Bool) (contents remaining : S → Option (List ℕ)) (file text : List ℕ) (origin : Origin)
+pub begins_with_file : {S D : Type 0} (j : journal.Ghosts (FileJournal D)) (seen : D → List ℕ) (is_clean : D → Bool) (contents remaining : S → Option (List ℕ)) (file text : List ℕ) (rings : List Ring) (origin : Origin)
     (later : Known S) (result : Result (Unit {0}) ServeFault) (new : World S (Parts HostState (FileJournal D)))
-    (life : HasLived j seen is_clean contents remaining (Some file) text origin later result new)
-    → IsTrue (is_clean (disk_of life.recovery)) → BeginsWithAll j file text origin life.config life.old.handler
-begins_with_file j seen is_clean contents remaining file text origin later result new life clean =
-    subst (λ (bytes : List ℕ). BeginsWithAll j bytes text origin life.config life.old.handler) life.file (life.begins clean)
+    (life : HasLived j seen is_clean contents remaining (Some file) text rings origin later result new)
+    → IsTrue (is_clean (disk_of life.recovery)) → BeginsWithAll j file life.forms text origin life.config life.old.handler
+begins_with_file j seen is_clean contents remaining file text rings origin later result new life clean =
+    subst (λ (bytes : List ℕ). BeginsWithAll j bytes life.forms text origin life.config life.old.handler) life.file (life.begins clean)
 
--- the handler with its journal served
+-- a server with no connection served over a port in another, which it was when it began and when it ended
+pub served_inside : {S H K : Type 0} (step : Steps H) (settled : Settles H) (contents remaining : S → Option (List ℕ)) (accepted : K → Option (List S)) (gone : K → Option (List (ℕ × S)))
+    (handler : H) (port inner last outer : K) (old : World S H) (result : Result (Unit {0}) ServeFault) (new : World S H) → old.handler ≡ handler → old.links.slots ≡ [] → old.last ≡ 0
+    → inner ≡ port → outer ≡ last → IsService step settled contents remaining (known_of (accepted inner) (gone inner)) (known_of (accepted last) (gone last)) old result new
+    → HasServed step settled contents remaining handler (known_of (accepted port) (gone port)) (known_of (accepted outer) (gone outer)) result new
+served_inside {S} {H} {K} step settled contents remaining accepted gone handler port inner last outer old result new handles unlinked none begins ends serves =
+    let known : K → Known S = λ k. known_of (accepted k) (gone k) in
+    record {
+      old = old;
+      handles = handles;
+      unlinked = unlinked;
+      none = none;
+      serves = subst (λ (k : K). IsService step settled contents remaining (known k) (known outer) old result new) begins
+          (subst (λ (k : K). IsService step settled contents remaining (known inner) (known k) old result new) (sym ends) serves);
+    }
+
+-- what is seen inside a wrapper is seen there too where figures are answered before the wrapper
+module _ {W H : Type 0} (stays : W → Type 0) (inner : W → H) (outer_step : Steps W) (outer_settled : Settles W) (step : Steps H) (settled : Settles H)
+    (wraps : Wraps stays inner outer_step outer_settled step settled) where
+  watched_step : (before : W) (moment : ℤ) (asked : Asked) (answer : Answer) (after : W) → stays before → Watches outer_step before moment asked answer after
+      → stays after × Watches step (inner before) moment asked answer (inner after)
+  watched_step before moment asked answer after stay (inl told) = (subst stays (sym told.2) stay, inl (told.0, told.1, ap inner told.2))
+  watched_step before moment asked answer after stay (inr performed) =
+      let one = wraps.steps before moment asked answer after stay performed.1 in
+      (one.0, inr (performed.0, one.1))
+
+  watched_wraps : Wraps stays inner (Watches outer_step) outer_settled (Watches step) settled
+  watched_wraps = record { steps = watched_step; settles = wraps.settles }
+
+-- a server whose figures are answered, behind keys, served as one without them whose messages they keep out
+served_behind : {S H : Type 0} (rings : List Ring) (step : Steps H) (settled : Settles H) (contents remaining : S → Option (List ℕ)) (handler : H) (guard : Guard H)
+    (known later : Known S) (result : Result (Unit {0}) ServeFault) (new : World S (Guard H)) → guard.handler ≡ handler → guard.rings ≡ rings
+    → HasServed (Watches (IsGuarded step)) (IsGuardSettled settled) contents remaining guard known later result new
+    → HasServed (Watches (Guards rings step)) settled contents remaining handler known later result (behind unguarded new)
+served_behind {S} {H} rings step settled contents remaining handler guard known later result new same keys life = record {
+  old = behind unguarded life.old;
+  handles = ap (λ (g : Guard H). g.handler) life.handles ∙ same;
+  unlinked = life.unlinked;
+  none = life.none;
+  serves = (wrapper.service_behind (HasRings {H = H} rings) (unguarded {H = H}) (Watches (IsGuarded step)) (IsGuardSettled settled) (Watches (Guards rings step)) settled
+      (watched_wraps (HasRings {H = H} rings) (unguarded {H = H}) (IsGuarded step) (IsGuardSettled settled) (Guards rings step) settled (guard_wraps rings step settled))
+      contents remaining known later life.old result new (ap (λ (g : Guard H). g.rings) life.handles ∙ keys) life.serves).1;
+}
+
+-- the handler with its journal served behind keys
 pub resumed : {S H D : Type 0} (h : Replaying H) (j : journal.Ghosts (FileJournal D)) (seen : D → List ℕ) (may_leave : D → List ℕ → Type 0) (contents remaining : S → Option (List ℕ))
-    (handler : H) (recovery : Recovery D) (known later : Known S) (result : Result (Unit {0}) ServeFault) (new : World S (Parts H (FileJournal D)))
-    (parts served : Parts H (FileJournal D)) → served ≡ parts
+    (handler : H) (recovery : Recovery D) (rings : List Ring) (known later : Known S) (result : Result (Unit {0}) ServeFault) (new : World S (Guard (Parts H (FileJournal D))))
+    (parts : Parts H (FileJournal D)) (guard served : Guard (Parts H (FileJournal D))) → guard.handler ≡ parts → guard.rings ≡ rings → served ≡ guard
     → ((begun : h.Kept) (first : Entry) (entries : List Entry) → HasRedone h.kept h.is_honest h.leaving seen may_leave begun handler recovery first entries
     → IsHeld h j begun parts entries (length entries))
-    → HasServed (IsExchange h j) (IsSettled j) contents remaining served known later result new
-    → HasResumed h j seen may_leave contents remaining handler recovery known later result new
-resumed {S} {H} {D} h j seen may_leave contents remaining handler recovery known later result new parts served same begins life = record {
+    → HasServed (Watches (IsGuarded (IsExchange h j))) (IsGuardSettled (IsSettled j)) contents remaining served known later result new
+    → HasResumed h j seen may_leave contents remaining handler recovery rings known later result (behind unguarded new)
+resumed {S} {H} {D} h j seen may_leave contents remaining handler recovery rings known later result new parts guard served same keys watched begins life = record {
   parts = parts;
   begins = begins;
-  served = subst (λ (p : Parts H (FileJournal D)). HasServed (IsExchange h j) (IsSettled j) contents remaining p known later result new) same life;
+  served = served_behind rings (IsExchange h j) (IsSettled j) contents remaining parts served known later result new
+      (ap (λ (g : Guard (Parts H (FileJournal D))). g.handler) watched ∙ same) (ap (λ (g : Guard (Parts H (FileJournal D))). g.rings) watched ∙ keys) life;
 }
 
 -- where it served
 pub resumed_over : {S H D A E : Type 0} (h : Replaying H) (j : journal.Ghosts (FileJournal D)) (seen : D → List ℕ) (may_leave : D → List ℕ → Type 0) (contents remaining : S → Option (List ℕ))
-    (handler : H) (recovery : Recovery D) (known : Known S)
-    (later : A → Known S) (ended : A → Result (Unit {0}) ServeFault) (new : A → World S (Parts H (FileJournal D)))
-    (parts served : Parts H (FileJournal D)) (result : Result A E) → served ≡ parts
+    (handler : H) (recovery : Recovery D) (rings : List Ring) (known : Known S)
+    (later : A → Known S) (ended : A → Result (Unit {0}) ServeFault) (new : A → World S (Guard (Parts H (FileJournal D))))
+    (parts : Parts H (FileJournal D)) (guard served : Guard (Parts H (FileJournal D))) (result : Result A E) → guard.handler ≡ parts → guard.rings ≡ rings → served ≡ guard
     → ((begun : h.Kept) (first : Entry) (entries : List Entry) → HasRedone h.kept h.is_honest h.leaving seen may_leave begun handler recovery first entries
     → IsHeld h j begun parts entries (length entries))
-    → IfOk result (λ (a : A). HasServed (IsExchange h j) (IsSettled j) contents remaining served known (later a) (ended a) (new a))
-    → IfOk result (λ (a : A). HasResumed h j seen may_leave contents remaining handler recovery known (later a) (ended a) (new a))
-resumed_over h j seen may_leave contents remaining handler recovery known later ended new parts served (Ok a) same begins life =
-    resumed h j seen may_leave contents remaining handler recovery known (later a) (ended a) (new a) parts served same begins life
-resumed_over h j seen may_leave contents remaining handler recovery known later ended new parts served (Err e) same begins none = none
+    → IfOk result (λ (a : A). HasServed (Watches (IsGuarded (IsExchange h j))) (IsGuardSettled (IsSettled j)) contents remaining served known (later a) (ended a) (new a))
+    → IfOk result (λ (a : A). HasResumed h j seen may_leave contents remaining handler recovery rings known (later a) (ended a) (behind unguarded (new a)))
+resumed_over h j seen may_leave contents remaining handler recovery rings known later ended new parts guard served (Ok a) same keys watched begins life =
+    resumed h j seen may_leave contents remaining handler recovery rings known (later a) (ended a) (new a) parts guard served same keys watched begins life
+resumed_over h j seen may_leave contents remaining handler recovery rings known later ended new parts guard served (Err e) same keys watched begins none = none

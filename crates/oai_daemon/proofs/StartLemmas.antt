@@ -1,5 +1,6 @@
 -- A start, of a host and a journal.
 use Rattle.std.proofs.Common.{◌≡◌, ℕ, Bool, IfOk, IfSome, List, Option, Result, Ok, Err, map, subst, sym}
+use Rattle.oai_item.specs.declared.forms.Forms.{Forms}
 use Rattle.oai_config.specs.Configs.{HostConfig}
 use Rattle.oai_config.specs.Reading.{IsRead}
 use Rattle.oai_startup.specs.Rules.{HaveRules}
@@ -14,15 +15,16 @@ pub same_file : (held : Option (List ℕ)) (a b : List ℕ) → a ≡ b → IfSo
 same_file held a b same is = subst (λ (bytes : List ℕ). IfSome held (λ (file : List ℕ). bytes ≡ file)) (sym same) is
 
 -- the host of the configuration replayed all records
-pub started_over : {D A E : Type 0} (seen : D → List ℕ) (may_leave : D → List ℕ → Type 0) (is_clean : D → Bool) (held : Option (List ℕ)) (text : List ℕ) (config : HostConfig) (host : HostState)
+pub started_over : {D A E : Type 0} (seen : D → List ℕ) (may_leave : D → List ℕ → Type 0) (is_clean : D → Bool) (held : Option (List ℕ)) (forms : Forms) (text : List ℕ) (config : HostConfig) (host : HostState)
     (origin : A → Origin) (count : A → ℕ) (after : A → HostState) (recovery : A → Recovery D) (result : Result A E)
-    → IsRead text (Ok config) → HaveRules config → host.repositories ≡ map begun config.repositories
-    → IfOk result (λ (a : A). HasReplayed archived.kept archived.is_honest archived.leaving seen may_leave is_clean held text host.repositories (origin a) (count a) (after a) (recovery a))
+    → IsRead forms text (Ok config) → HaveRules config → host.repositories ≡ map begun config.repositories
+    → IfOk result (λ (a : A). HasReplayed archived.kept archived.is_honest archived.leaving seen may_leave is_clean held forms text host.repositories (origin a) (count a) (after a) (recovery a))
     → IfOk result (λ (a : A). HasStarted seen may_leave is_clean held text (origin a) (count a) (after a) (recovery a))
-started_over seen may_leave is_clean held text config host origin count after recovery (Ok a) read rules same replayed = record {
+started_over seen may_leave is_clean held forms text config host origin count after recovery (Ok a) read rules same replayed = record {
+  forms = forms;
   config = config;
   read = read;
   rules = rules;
-  replayed = subst (λ (k : List Repository). HasReplayed archived.kept archived.is_honest archived.leaving seen may_leave is_clean held text k (origin a) (count a) (after a) (recovery a)) same replayed;
+  replayed = subst (λ (k : List Repository). HasReplayed archived.kept archived.is_honest archived.leaving seen may_leave is_clean held forms text k (origin a) (count a) (after a) (recovery a)) same replayed;
 }
-started_over seen may_leave is_clean held text config host origin count after recovery (Err e) read rules same nothing = nothing
+started_over seen may_leave is_clean held forms text config host origin count after recovery (Err e) read rules same nothing = nothing

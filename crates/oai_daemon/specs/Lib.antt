@@ -1,5 +1,7 @@
 pub mod Notes
 pub mod Archives
+pub mod Watches
 pub mod Ends
 pub mod Starts
 pub mod Lives
+pub mod Renewals

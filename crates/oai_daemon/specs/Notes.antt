@@ -1,7 +1,7 @@
 -- The messages of a server while it runs. This repository's own.
 use Rattle.std.specs.Prelude.{ℕ, List, ◌++◌, codes, decimal}
 use Rattle.oai_daemon.specs.declared.notes.Note.{Note}
-use Rattle.oai_daemon.specs.declared.notes.Note.TheVariants.{Clock, Failed, OtherConfig, Recovered, Recovering}
+use Rattle.oai_daemon.specs.declared.notes.Note.TheVariants.{Clock, Failed, OldVersion, OtherConfig, Recovered, Recovering}
 use Rattle.oai_archive.specs.Stops.{jump_text, store_fault_text}
 
 unfoldable pub last_record : List ℕ
@@ -14,4 +14,5 @@ note_text (Recovered records bytes seconds) =
     codes "recovered: " ++ decimal records ++ codes " records, " ++ decimal bytes ++ codes " bytes, " ++ decimal seconds ++ codes " s"
 note_text (Clock now last) = codes "clock: at " ++ jump_text now ++ last_record ++ jump_text last
 note_text OtherConfig = codes "config: another one: the open lists have ended"
+note_text OldVersion = codes "journal: of version 1: no elements until a checkpoint"
 note_text (Failed count fault) = codes "answered 500: " ++ decimal count ++ codes " times: " ++ store_fault_text fault

@@ -1,5 +1,6 @@
 -- How far a startup has come, with which a life begins. This repository's own.
 use Rattle.std.specs.Prelude.{◌≡◌, ℕ, Bool, IfSome, IsTrue, List, [], length, map, Option, Result, Ok}
+use Rattle.oai_item.specs.declared.forms.Forms.{Forms}
 use Rattle.oai_config.specs.Configs.{HostConfig}
 use Rattle.oai_config.specs.Reading.{IsRead}
 use Rattle.oai_startup.specs.Rules.{HaveRules}
@@ -14,30 +15,34 @@ use Rattle.oai_front.specs.Performing.{Steps}
 use Rattle.oai_serving.specs.Accepted.{Known}
 use Rattle.oai_serving.specs.Rounds.{IsService, Settles, World}
 use Rattle.oai_serving.specs.declared.faults.ServeFault.{ServeFault}
+use Rattle.oai_keys.specs.Guards.{Guards}
+use Rattle.oai_keys.specs.declared.rings.Ring.{Ring}
 use Rattle.oai_durable.specs.Journaled.{IsExchange, IsHeld, IsSettled, Parts, Replaying}
 use Rattle.oai_durable.specs.Records.{Leaving}
 use Rattle.oai_durable.specs.Recovered.{HasRedone, IsRecovered}
 use Rattle.oai_daemon.specs.Archives.{archived}
+use Rattle.oai_daemon.specs.Watches.{Watches}
 use Rattle.oai_daemon.specs.declared.origins.Origin.{Origin}
 use Rattle.oai_daemon.specs.declared.origins.Origin.TheVariants.{Begun}
 
 -- all records of the journal after its first one, that many, were read and replayed, from that beginning, and it is of
--- the configuration in the text; one that was begun has none; and if the bytes of the file are known, it is their
+-- the configuration in the text, with records of these forms; one that was begun has none; and if the bytes of the file are known, it is their
 -- journal
 pub record HasReplayed {H K D : Type 0} (kept : H → K) (is_honest : H → Bool) (leaving : Leaving K) (seen : D → List ℕ) (may_leave : D → List ℕ → Type 0) (is_clean : D → Bool)
-    (held : Option (List ℕ)) (text : List ℕ) (begun : K) (origin : Origin) (count : ℕ) (handler : H) (recovery : Recovery D) : Type 0 where
+    (held : Option (List ℕ)) (forms : Forms) (text : List ℕ) (begun : K) (origin : Origin) (count : ℕ) (handler : H) (recovery : Recovery D) : Type 0 where
   pub file : IfSome held (λ file. seen (disk_of recovery) ≡ file)
   pub fresh : origin ≡ Begun → count ≡ 0
-  pub redone : IsTrue (is_clean (disk_of recovery)) → (first : Entry) × IsOf first.name first.body text
+  pub redone : IsTrue (is_clean (disk_of recovery)) → (first : Entry) × IsOf forms first.name first.body text
       × IsRecovered kept is_honest leaving seen may_leave begun handler recovery first count
 
--- the host of the configuration in the text has done so, from its initial state
+-- the host of the configuration in the text, with records of the forms of the journal's version, has done so, from its initial state
 pub record HasStarted {D : Type 0} (seen : D → List ℕ) (may_leave : D → List ℕ → Type 0) (is_clean : D → Bool)
     (held : Option (List ℕ)) (text : List ℕ) (origin : Origin) (count : ℕ) (host : HostState) (recovery : Recovery D) : Type 0 where
+  pub forms : Forms
   pub config : HostConfig
-  pub read : IsRead text (Ok config)
+  pub read : IsRead forms text (Ok config)
   pub rules : HaveRules config
-  pub replayed : HasReplayed archived.kept archived.is_honest archived.leaving seen may_leave is_clean held text (map begun config.repositories) origin count host recovery
+  pub replayed : HasReplayed archived.kept archived.is_honest archived.leaving seen may_leave is_clean held forms text (map begun config.repositories) origin count host recovery
 
 -- a server with that handler and no connection served, from when those streams were accepted, until it ended so, in
 -- that world
@@ -49,11 +54,11 @@ pub record HasServed {S H : Type 0} (step : Steps H) (settled : Settles H) (cont
   pub none : old.last ≡ 0
   pub serves : IsService step settled contents remaining known later old result new
 
--- the handler served with the journal whose records it replayed, until it ended so
+-- the handler served with the journal whose records it replayed, under those keys, until it ended so
 pub record HasResumed {S H D : Type 0} (h : Replaying H) (j : journal.Ghosts (FileJournal D)) (seen : D → List ℕ) (may_leave : D → List ℕ → Type 0)
-    (contents remaining : S → Option (List ℕ)) (handler : H) (recovery : Recovery D)
+    (contents remaining : S → Option (List ℕ)) (handler : H) (recovery : Recovery D) (rings : List Ring)
     (known later : Known S) (result : Result (Unit {0}) ServeFault) (new : World S (Parts H (FileJournal D))) : Type 0 where
   pub parts : Parts H (FileJournal D)
   pub begins : (begun : h.Kept) (first : Entry) (entries : List Entry) → HasRedone h.kept h.is_honest h.leaving seen may_leave begun handler recovery first entries
       → IsHeld h j begun parts entries (length entries)
-  pub served : HasServed (IsExchange h j) (IsSettled j) contents remaining parts known later result new
+  pub served : HasServed (Watches (Guards rings (IsExchange h j))) (IsSettled j) contents remaining parts known later result new

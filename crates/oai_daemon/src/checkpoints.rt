@@ -1,8 +1,13 @@
 //! Replaces a journal by a checkpoint: a command.
+ghost use Rattle.oai_daemon.specs.Renewals.{IsJournalReplaced};
+ghost use Rattle.std.specs.Prelude.{OnOk};
+
 use crate::places::Place;
 use crate::renewals::{Renewal, renew};
 use crate::starts::keep_checkpoint;
 use oai_archive::{ServerStop, begin_reading, verify_journal};
+use oai_item::Forms;
+use oai_journal::{FileJournal, Journal};
 use oai_startup::config_in;
 use std::alloc::Global;
 use std::io::Write;
@@ -15,15 +20,19 @@ const RAISE: u32 = 1_000_000;
 /// Replaces the journal of the place by a checkpoint with the configuration in the text, and writes `ok`, the number of
 /// records in it after the first one, and its length in bytes, as a line. Nothing is served meanwhile. All open lists
 /// have ended then, and the number of each next list is raised by 1,000,000. The errors are those of `serve`;
-/// `CannotOpen` if there is no journal. After an error the journal is unchanged.
+/// `CannotOpen` if there is no journal. After an error the journal is unchanged, or it is the checkpoint already: where
+/// the folder could not be synced, or the line not be written.
 pub fn checkpoint_folder<P: Place, C: Clock, W: Write>(
     alloc: Global,
     place: &mut P,
     clock: &C,
     text: &[u8],
     writer: &mut W,
-) -> Result<(), ServerStop> {
-    let config = config_in(alloc, text)?;
+) -> Result<(), ServerStop>
+    ensures { OnOk result (IsJournalReplaced P.OldDisk.Disk.seen P.OldDisk.Disk.is_clean ⟦<FileJournal<P::NewDisk> as Journal>⟧ P.is_honest 1_000_000
+        P.Disk.Disk.seen P.Disk.Disk.may_leave P.Disk.Disk.is_clean P.held text.now) }
+{
+    let config = config_in(alloc, Forms::Elements, text)?;
     place.lock()?;
     if !place.find_journal()? {
         return Err(ServerStop::CannotOpen);
@@ -34,8 +43,9 @@ pub fn checkpoint_folder<P: Place, C: Clock, W: Write>(
         raise: RAISE,
     };
     let mut old = begin_reading(alloc, place.read_journal()?)?;
-    renew(alloc, place, clock, &renewal, &mut old)?;
+    drop(renew(alloc, place, clock, &renewal, &mut old)?);
     drop(old);
     keep_checkpoint(alloc, place, clock, text, config)?;
-    verify_journal(alloc, place.read_journal()?, writer)
+    verify_journal(alloc, place.read_journal()?, writer)?;
+    Ok(())
 }

@@ -2,10 +2,12 @@
 ghost use Rattle.oai_daemon.specs.Ends.{moment_at};
 ghost use Rattle.std.specs.Prelude.{◌≡◌};
 
+use crate::tallies::Tally;
 use oai_archive::ServerStop;
 use oai_startup::Stop;
 use std::cell::Cell;
 use std::io;
+use std::rc::Rc;
 use std::rt::Clock;
 use std::time::Duration;
 
@@ -17,6 +19,8 @@ const MAX_GAIN: u64 = 86_400;
 #[derive(Drop)]
 pub(crate) struct GuardedClock<'a, C> {
     clock: &'a C,
+    /// Where the second of the monotonic clock is noted.
+    tally: Rc<Tally>,
     /// What both clocks showed at the last reading, in seconds; both are 0 before the first.
     last: Cell<(u64, u64)>,
     /// The second to which it jumped.
@@ -25,9 +29,10 @@ pub(crate) struct GuardedClock<'a, C> {
 
 impl<'a, C: Clock> GuardedClock<'a, C> {
     /// Over the system's clock, which has not been read.
-    pub(crate) fn new(clock: &'a C) -> GuardedClock<'a, C> {
+    pub(crate) fn new(clock: &'a C, tally: Rc<Tally>) -> GuardedClock<'a, C> {
         GuardedClock {
             clock,
+            tally,
             last: Cell::new((0, 0)),
             jumped: Cell::new(None),
         }
@@ -41,7 +46,9 @@ impl<'a, C: Clock> GuardedClock<'a, C> {
 
 impl<C: Clock> Clock for GuardedClock<'_, C> {
     fn monotonic(&self) -> io::Result<Duration> {
-        self.clock.monotonic()
+        let time = self.clock.monotonic()?;
+        self.tally.note(time.as_secs());
+        Ok(time)
     }
 
     fn since_1970(&self) -> io::Result<Duration> {

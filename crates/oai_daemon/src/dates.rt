@@ -11,6 +11,8 @@ pub(crate) struct Dates {
     pub(crate) listed: Option<i64>,
     /// The length in bytes of the parts of a checkpoint.
     pub(crate) saved: usize,
+    /// The position in bytes behind the last part; 0 if there is none.
+    pub(crate) saved_to: usize,
     /// The position in bytes behind the last record.
     pub(crate) position: usize,
 }
@@ -22,6 +24,7 @@ impl Dates {
             last: None,
             listed: None,
             saved: 0,
+            saved_to: 0,
             position: 0,
         }
     }
@@ -37,6 +40,7 @@ impl Dates {
     /// Takes note of a part of a checkpoint with that many bytes.
     fn save(&mut self, bytes: usize) {
         self.saved = self.saved.saturating_add(bytes);
+        self.saved_to = self.position;
     }
 }
 

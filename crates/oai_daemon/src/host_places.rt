@@ -275,4 +275,10 @@ impl<S: Start> Place for HostPlace<'_, S> {
             let _ = eprintln!(self.rt; "{note}");
         }
     }
+
+    fn tell_figures(&mut self, line: &str) {
+        if !self.is_quiet {
+            let _ = eprintln!(self.rt; "figures: {line}");
+        }
+    }
 }

@@ -1,8 +1,9 @@
 //! The journal of a folder, found or begun.
-ghost use Rattle.oai_archive.specs.Readings.{IsReadBack};
+ghost use Rattle.oai_archive.specs.Readings.{HasBegun, IsReadBack};
+ghost use Rattle.oai_daemon.specs.Renewals.{HasRenewed, is_checkpoint};
 ghost use Rattle.oai_daemon.specs.declared.origins.Origin.TheVariants.{Begun};
 ghost use Rattle.oai_journal.specs.Recovered.{disk_of};
-ghost use Rattle.std.specs.Prelude.{◌≡◌, IsTrue, OnOk};
+ghost use Rattle.std.specs.Prelude.{◌≡◌, IfOk, IsTrue, OnOk};
 
 use crate::clocks::moment_of;
 use crate::dates::Dates;
@@ -12,7 +13,8 @@ use crate::places::Place;
 use crate::renewals::{Renewal, renew};
 use oai_archive::{ServerStop, begin_reading, create_journal, has_config, read_over};
 use oai_host::Config;
-use oai_journal::Recovery;
+use oai_item::Forms;
+use oai_journal::{FileJournal, Journal, Recovery};
 use sqlite_disk::Disk;
 use std::alloc::Global;
 use std::rt::Clock;
@@ -20,6 +22,15 @@ use std::rt::Clock;
 /// A startup replaces a journal by a checkpoint if it is longer than twice its last checkpoint and this many bytes: 64
 /// MiB.
 const MAX_TAIL: usize = 67_108_864;
+
+/// A journal with which a server starts.
+#[derive(Clone, Copy)]
+pub(crate) struct Found {
+    /// Where it comes from.
+    pub(crate) origin: Origin,
+    /// Which forms its records may have.
+    pub(crate) forms: Forms,
+}
 
 /// Sees to it that there is a journal of the configuration, which was read from the text; returns where it comes from.
 /// One that was found is the folder's. Any other stands beside it: it was begun, if there was none; or a checkpoint was
@@ -31,11 +42,14 @@ pub(crate) fn prepare<P: Place, C: Clock>(
     clock: &C,
     text: &[u8],
     config: &Config,
-) -> Result<Origin, ServerStop> {
+) -> Result<Found, ServerStop>
+    ensures { IfOk result (λ found. IsTrue (is_checkpoint found.origin)
+        → HasRenewed P.OldDisk.Disk.seen P.OldDisk.Disk.is_clean ⟦<FileJournal<P::NewDisk> as Journal>⟧ P.is_honest 0) }
+{
     if !place.find_journal()? {
         let disk = place.begin_journal()?;
         drop(create_journal(alloc, disk, moment_of(clock)?, text)?);
-        return Ok(Origin::Begun);
+        return Ok(written(Origin::Begun));
     }
     let mut old = begin_reading(alloc, place.read_journal()?)?;
     let renewal = Renewal {
@@ -43,28 +57,47 @@ pub(crate) fn prepare<P: Place, C: Clock>(
         config,
         raise: 0,
     };
-    let origin = origin_of(alloc, clock, &renewal, &mut old)?;
-    if origin != Origin::Found {
-        renew(alloc, place, clock, &renewal, &mut old)?;
+    let found = found_of(alloc, clock, &renewal, &mut old)?;
+    match found.origin {
+        Origin::Found => Ok(found),
+        _ => {
+            drop(renew(alloc, place, clock, &renewal, &mut old)?);
+            Ok(found)
+        }
     }
-    Ok(origin)
 }
 
-/// Whether the journal, whose first record is read, can go on, or why it is replaced by a checkpoint. Its first record
-/// is read then too.
-fn origin_of<D: Disk + Drop, C: Clock>(
+/// A journal that this program wrote for the startup: its records may be elements.
+fn written(origin: Origin) -> Found
+    ensures { result.origin ≡ origin }
+{
+    Found {
+        origin,
+        forms: Forms::Elements,
+    }
+}
+
+/// Whether the journal, whose first record is read, can go on, with the forms of its records, or why it is replaced by a
+/// checkpoint. Its first record is read then too.
+fn found_of<D: Disk + Drop, C: Clock>(
     alloc: Global,
     clock: &C,
     renewal: &Renewal<'_>,
     journal: &mut Recovery<D>,
-) -> Result<Origin, ServerStop> {
-    if !has_config(alloc, journal, renewal.text)? {
-        return Ok(Origin::Reconfigured);
-    }
+) -> Result<Found, ServerStop>
+    ensures { OnOk result ((IsTrue (D.Disk.is_clean (disk_of journal.old)) → HasBegun D.Disk.seen D.Disk.may_leave journal.old)
+        → IsTrue (D.Disk.is_clean (disk_of journal.new)) → HasBegun D.Disk.seen D.Disk.may_leave journal.new) }
+{
+    let Some(forms) = has_config(alloc, journal, renewal.text)? else {
+        return Ok(written(Origin::Reconfigured));
+    };
     if is_due(clock, renewal.config, journal)? {
-        return Ok(Origin::Shortened);
+        return Ok(written(Origin::Shortened));
     }
-    Ok(Origin::Found)
+    Ok(Found {
+        origin: Origin::Found,
+        forms,
+    })
 }
 
 /// Whether the journal is long, and no list of the configuration can still be open. The journal is only read if its
@@ -73,7 +106,10 @@ fn is_due<D: Disk + Drop, C: Clock>(
     clock: &C,
     config: &Config,
     journal: &mut Recovery<D>,
-) -> Result<bool, ServerStop> {
+) -> Result<bool, ServerStop>
+    ensures { OnOk result ((IsTrue (D.Disk.is_clean (disk_of journal.old)) → HasBegun D.Disk.seen D.Disk.may_leave journal.old)
+        → IsTrue (D.Disk.is_clean (disk_of journal.new)) → HasBegun D.Disk.seen D.Disk.may_leave journal.new) }
+{
     if journal.file_len() <= MAX_TAIL {
         return Ok(false);
     }

@@ -2,14 +2,17 @@
 //! the file of its journal: theorems, by empty functions.
 ghost use Rattle.oai_daemon.specs.Archives.{archive};
 ghost use Rattle.oai_daemon.specs.Lives.{BeginsWithAll, HasLived};
+ghost use Rattle.oai_daemon.specs.Renewals.{IsRenewed, state_before};
 ghost use Rattle.oai_daemon.specs.declared.origins.Origin.{Origin as From};
-ghost use Rattle.oai_durable.specs.Checkpoints.{AreStages, IsHistory, JournalStage};
+ghost use Rattle.oai_durable.specs.Checkpoints.{AreStages, IsCheckpoint, IsHistory, JournalStage};
 ghost use Rattle.oai_durable.specs.Journaled.{Parts};
 ghost use Rattle.oai_host.specs.Hosts.{HostState, Repository};
 ghost use Rattle.oai_host.specs.Saved.{emptied_in};
+ghost use Rattle.oai_journal.specs.Files.{IsJournalFile};
 ghost use Rattle.oai_journal.specs.Records.{Entry};
 ghost use Rattle.oai_journal.specs.Recovered.{disk_of};
 ghost use Rattle.oai_journal.specs.declared.file.FileJournal.{FileJournal as Filed};
+ghost use Rattle.oai_keys.specs.declared.rings.Ring.{Ring as Held};
 ghost use Rattle.oai_serving.specs.Accepted.{Known};
 ghost use Rattle.oai_serving.specs.Rounds.{World};
 ghost use Rattle.oai_serving.specs.declared.faults.ServeFault.{ServeFault as Fault};
@@ -36,9 +39,19 @@ pub fn archive_law()
 /// written to it as the journal was read, the life began with all log records in it. A theorem, proved by an empty
 /// function.
 pub fn whole_file_law<L: Stream, S: Start>()
-    ensures { (text : List ℕ) (origin : From) (later : Known L) (result : Result Unit Fault) (new : World L (Parts HostState (Filed _)))
+    ensures { (text : List ℕ) (rings : List Held) (origin : From) (later : Known L) (result : Result Unit Fault) (new : World L (Parts HostState (Filed _)))
         (lived : HasLived ⟦<FileJournal<FileFrom<S>> as Journal>⟧ ⟦<FileFrom<S> as Disk>⟧.seen ⟦<FileFrom<S> as Disk>⟧.is_clean L.contents L.remaining
-        (Some S.Start.db) text origin later result new)
+        (Some S.Start.db) text rings origin later result new)
         → IsTrue (⟦<FileFrom<S> as Disk>⟧.is_clean (disk_of lived.recovery))
-        → BeginsWithAll ⟦<FileJournal<FileFrom<S>> as Journal>⟧ S.Start.db text origin lived.config lived.old.handler }
+        → BeginsWithAll ⟦<FileJournal<FileFrom<S>> as Journal>⟧ S.Start.db lived.forms text origin lived.config lived.old.handler }
+{}
+
+/// What `serve` and `checkpoint_folder` promise of a checkpoint that they wrote, of the file in which it is read back:
+/// provided that this is one that the disk may leave on which it was written, its records are a checkpoint of the state
+/// that all records of the old file leave. A theorem, proved by an empty function.
+pub fn checkpoint_law<D: Disk + Drop>()
+    ensures { (old : List ℕ) (raise : ℕ) (written : Filed D) (renewed : IsRenewed ⟦<FileJournal<D> as Journal>⟧ old raise written)
+        (file : List ℕ) (first : Entry) (found : List Entry)
+        → D.Disk.may_leave written.disk file → IsJournalFile file first found
+        → IsCheckpoint archive (state_before renewed) raise found }
 {}

@@ -4,6 +4,7 @@
 
 mod checkpoints;
 mod clocks;
+mod counts;
 mod dates;
 mod host_places;
 mod journals;
@@ -15,13 +16,15 @@ mod recoveries;
 mod renewals;
 mod service;
 mod starts;
+mod startups;
+mod tallies;
 mod watched;
 
 pub use checkpoints::checkpoint_folder;
 pub use host_places::HostPlace;
-pub use laws::{archive_law, whole_file_law};
+pub use laws::{archive_law, checkpoint_law, whole_file_law};
 pub use notes::Note;
 pub use origins::Origin;
 pub use places::Place;
-pub use service::{Ended, Hosting, serve};
+pub use service::{Ended, Hosting, outcome_of, serve};
 pub use watched::Watched;

@@ -18,6 +18,8 @@ pub enum Note {
     Clock(i64, i64),
     /// The archive continues with another configuration, and its open lists have ended.
     OtherConfig,
+    /// The journal is of version 1, whose records are lists of fields, until a checkpoint replaces it.
+    OldVersion,
     /// That many exchanges were answered 500 (Internal Server Error) for that fault.
     Failed(u64, Fault),
 }
@@ -44,6 +46,7 @@ impl fmt::Display for Note {
                 write!(f, "clock: at {}{behind}{}", Second(*now), Second(*last))
             }
             Note::OtherConfig => write!(f, "config: another one: the open lists have ended"),
+            Note::OldVersion => write!(f, "journal: of version 1: no elements until a checkpoint"),
             Note::Failed(count, fault) => {
                 let cause = fault_word(*fault);
                 write!(f, "answered 500: {count} times: {cause}")

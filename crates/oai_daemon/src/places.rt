@@ -2,7 +2,7 @@
 ghost use Rattle.oai_archive.specs.Readings.{IsReadBack};
 ghost use Rattle.oai_journal.specs.Recovered.{disk_of};
 ghost use Rattle.oai_serving.specs.Accepted.{PassesNone, known_of};
-ghost use Rattle.std.specs.Prelude.{◌≡◌, ℕ, IfOk, IfSome, IsTrue, List, None, Option};
+ghost use Rattle.std.specs.Prelude.{◌≡◌, ℕ, Bool, false, IfOk, IfSome, IsTrue, List, None, Option};
 
 use crate::notes::Note;
 use oai_archive::ServerStop;
@@ -33,6 +33,9 @@ pub trait Place {
     /// The bytes of the file of the journal that is served, as it is opened for that, if they are known.
     ghost held: { Option (List ℕ) } = { None };
 
+    /// Whether the device of the pages returns what was written to it.
+    ghost is_honest: { Bool } = { false };
+
     /// Opens the folder, or creates it, and locks it until the end. The errors are `CannotOpen` and `InUse`.
     fn lock(&mut self) -> Result<(), ServerStop>;
 
@@ -51,7 +54,8 @@ pub trait Place {
     fn begin_journal(&mut self) -> Result<Self::NewDisk, ServerStop>;
 
     /// The device of the pages, empty.
-    fn empty_pages(&mut self) -> Result<Self::Pages, ServerStop>;
+    fn empty_pages(&mut self) -> Result<Self::Pages, ServerStop>
+        ensures { IfOk result (λ pages. IsTrue is_honest → IsTrue (Self.Pages.PageDevice.honest pages)) };
 
     /// The disk of the folder's journal, to be served.
     fn open_journal(&mut self) -> Result<Self::Disk, ServerStop>
@@ -73,4 +77,7 @@ pub trait Place {
 
     /// Reports to the operator what the server does. A report that cannot be written ends nothing.
     fn tell(&mut self, note: Note);
+
+    /// Reports the figures of the server to the operator, each hour, as a line. One that cannot be written ends nothing.
+    fn tell_figures(&mut self, line: &str);
 }

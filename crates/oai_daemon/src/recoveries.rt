@@ -9,6 +9,7 @@ use crate::dates::Dates;
 use crate::notes::Note;
 use crate::origins::Origin;
 use crate::places::Place;
+use crate::startups::RecoveryFigures;
 use oai_archive::{ServerStop, stop_of_checkpoint, stop_of_recovery};
 use oai_durable::{Progress, RecoverFault, recover};
 use oai_journal::{LogRecord, Recovery};
@@ -62,7 +63,9 @@ impl<'a, P: Place, C: Clock> Meter<'a, P, C> {
 
     /// Reports the totals of the recovery, and whether the clock is far from the last record. The error is
     /// `InputFault` if the clock cannot be read.
-    fn end(&mut self, records: u64, position: usize) -> Result<(), ServerStop> {
+    fn end(&mut self, records: u64, position: usize) -> Result<RecoveryFigures, ServerStop>
+        ensures { IfOk result (λ replay. replay.records ≡ records) }
+    {
         let seconds = second_of(self.clock).saturating_sub(self.begun);
         self.place.tell(Note::Recovered(records, position, seconds));
         let moment = moment_of(self.clock)?;
@@ -70,11 +73,16 @@ impl<'a, P: Place, C: Clock> Meter<'a, P, C> {
             Some(last) if is_far(moment, last) => self.place.tell(Note::Clock(moment, last)),
             _ => {}
         }
-        Ok(())
+        Ok(RecoveryFigures {
+            records,
+            seconds,
+            moment,
+            saved_to: self.dates.saved_to,
+        })
     }
 }
 
-/// Replays the records of the journal after its first one; returns how many there are. It reports its progress each
+/// Replays the records of the journal after its first one; returns how many there are, with figures. It reports its progress each
 /// second, at its end the totals, and whether the clock is far from the last record. The handler then has its state
 /// again. The errors are `Damaged`, `NotOurs`, `Performing`, `InputFault` and `NoMemory`; and `OtherConfig` if a part of
 /// a checkpoint that was just written does not fit the handler.
@@ -85,20 +93,18 @@ pub(crate) fn recover_all<D: Disk + Drop, P: Place, H: Replayed, C: Clock>(
     origin: Origin,
     handler: &mut H,
     recovery: &mut Recovery<D>,
-) -> Result<u64, ServerStop>
-    ensures recovered { IfOk result (λ count. IsTrue (D.Disk.is_clean (disk_of recovery.new)) → (first : Entry)
+) -> Result<RecoveryFigures, ServerStop>
+    ensures recovered { IfOk result (λ replay. IsTrue (D.Disk.is_clean (disk_of recovery.new)) → (first : Entry)
         → HasRecovered D.Disk.seen D.Disk.may_leave recovery.old first []
         → IsRecovered H.kept H.is_honest (record { redone = H.redone; restored = H.restored })
-        D.Disk.seen D.Disk.may_leave (H.kept handler.old) handler.new recovery.new first count) }
+        D.Disk.seen D.Disk.may_leave (H.kept handler.old) handler.new recovery.new first replay.records) }
+    ensures honesty { H.is_honest handler.new ≡ H.is_honest handler.old }
     ensures seen { D.Disk.seen (disk_of recovery.new) ≡ D.Disk.seen (disk_of recovery.old) }
     ensures clean { IsTrue (D.Disk.is_clean (disk_of recovery.new)) → IsTrue (D.Disk.is_clean (disk_of recovery.old)) }
 {
     let mut meter = Meter::new(place, clock);
     match recover(handler, recovery, &mut meter) {
-        Ok(records) => match meter.end(records, recovery.position()) {
-            Ok(()) => Ok(records),
-            Err(stop) => Err(stop),
-        },
+        Ok(records) => meter.end(records, recovery.position()),
         Err(fault) => Err(stop_of(alloc, origin, fault, recovery)),
     }
 }

@@ -1,4 +1,11 @@
 //! Replaces a journal by a checkpoint.
+ghost use Rattle.oai_archive.specs.Readings.{HasBegun};
+ghost use Rattle.oai_daemon.specs.Renewals.{IsRenewed, IsSaved};
+ghost use Rattle.oai_durable.specs.Checkpoints.{HoldsCheckpoint};
+ghost use Rattle.oai_journal.specs.Records.{Entry};
+ghost use Rattle.oai_journal.specs.Recovered.{HasRecovered, disk_of};
+ghost use Rattle.std.specs.Prelude.{[], IfOk, IsTrue};
+
 use crate::clocks::moment_of;
 use crate::origins::Origin;
 use crate::places::Place;
@@ -6,7 +13,7 @@ use crate::recoveries::recover_all;
 use crate::starts::host_in;
 use oai_archive::{ServerStop, check_differences, config_text, write_checkpoint};
 use oai_host::Config;
-use oai_journal::Recovery;
+use oai_journal::{FileJournal, Journal, Recovery};
 use oai_replay::Replayed;
 use oai_startup::config_in;
 use std::alloc::Global;
@@ -23,21 +30,29 @@ pub(crate) struct Renewal<'a> {
     pub(crate) raise: u32,
 }
 
-/// Writes a checkpoint beside the journal of the place, which it replaces once it was read back. The first record of the
-/// old journal is read. The configuration may be another one with which the archive can continue; all open lists have
-/// ended in the checkpoint. If the configuration does not match, or after a fault, the old journal stays.
+/// Writes a checkpoint beside the journal of the place, which it replaces once it was read back: of the state that all
+/// records of the old journal leave, whose first record is read. The configuration may be another one with which the
+/// archive can continue; all open lists have ended in the checkpoint. If the configuration does not match, or after a
+/// fault, the old journal stays.
 pub(crate) fn renew<P: Place, C: Clock>(
     alloc: Global,
     place: &mut P,
     clock: &C,
     renewal: &Renewal<'_>,
     old: &mut Recovery<P::OldDisk>,
-) -> Result<(), ServerStop> {
-    let text = config_text(alloc, old)?;
-    let config = config_in(alloc, &text)?;
+) -> Result<FileJournal<P::NewDisk>, ServerStop>
+    ensures { IfOk result (λ written. IsTrue P.is_honest → IsTrue (P.OldDisk.Disk.is_clean (disk_of old.new))
+        → (IsTrue (P.OldDisk.Disk.is_clean (disk_of old.old)) → HasBegun P.OldDisk.Disk.seen P.OldDisk.Disk.may_leave old.old)
+        → IsRenewed ⟦<FileJournal<P::NewDisk> as Journal>⟧ (P.OldDisk.Disk.seen (disk_of old.new)) renewal.now.raise written) }
+{
+    let (forms, text) = config_text(alloc, old)?;
+    let config = config_in(alloc, forms, &text)?;
     check_differences(alloc, &config, renewal.config)?;
     let host = host_in(alloc, place, config)?;
-    renew_by(alloc, place, clock, renewal, host, old)
+    match renew_by(alloc, place, clock, renewal, host, old) {
+        Ok(written) => Ok(written),
+        Err(stop) => Err(stop),
+    }
 }
 
 /// Writes the checkpoint of the handler, once it has replayed the old journal.
@@ -48,9 +63,23 @@ fn renew_by<P: Place, H: Replayed + Drop, C: Clock>(
     renewal: &Renewal<'_>,
     mut handler: H,
     old: &mut Recovery<P::OldDisk>,
-) -> Result<(), ServerStop> {
+) -> Result<FileJournal<P::NewDisk>, ServerStop>
+    ensures saved { IfOk result (λ written. IsTrue (H.is_honest handler) → IsTrue (P.OldDisk.Disk.is_clean (disk_of old.new)) → (first : Entry)
+        → HasRecovered P.OldDisk.Disk.seen P.OldDisk.Disk.may_leave old.old first []
+        → IsSaved (record {
+          leaving = record { redone = H.redone; restored = H.restored };
+          reply = H.reply;
+          parts = H.parts;
+          ended = H.ended;
+          emptied = H.emptied;
+        }) ⟦<FileJournal<P::NewDisk> as Journal>⟧ (P.OldDisk.Disk.seen (disk_of old.new)) (H.kept handler) first renewal.now.raise written) }
+    ensures clean { IsTrue (P.OldDisk.Disk.is_clean (disk_of old.new)) → IsTrue (P.OldDisk.Disk.is_clean (disk_of old.old)) }
+{
     recover_all(alloc, place, clock, Origin::Found, &mut handler, old)?;
-    save(alloc, place, clock, renewal, &mut handler)
+    match save(alloc, place, clock, renewal, &mut handler) {
+        Ok(written) => Ok(written),
+        Err(stop) => Err(stop),
+    }
 }
 
 /// Writes the handler's state as a checkpoint beside the journal of the place.
@@ -60,9 +89,17 @@ fn save<P: Place, H: Replayed, C: Clock>(
     clock: &C,
     renewal: &Renewal<'_>,
     handler: &mut H,
-) -> Result<(), ServerStop> {
+) -> Result<FileJournal<P::NewDisk>, ServerStop>
+    ensures { IfOk result (λ written. IsTrue (H.is_honest handler.old)
+        → HoldsCheckpoint (record {
+          leaving = record { redone = H.redone; restored = H.restored };
+          reply = H.reply;
+          parts = H.parts;
+          ended = H.ended;
+          emptied = H.emptied;
+        }) ⟦<FileJournal<P::NewDisk> as Journal>⟧ (H.kept handler.old) renewal.now.raise written) }
+{
     let disk = place.begin_journal()?;
     let moment = moment_of(clock)?;
-    drop(write_checkpoint(alloc, disk, moment, renewal.text, handler, renewal.raise)?);
-    Ok(())
+    write_checkpoint(alloc, disk, moment, renewal.text, handler, renewal.raise)
 }

@@ -1,25 +1,35 @@
 //! A startup, and the service after it.
 ghost use Rattle.oai_daemon.specs.Ends.{serve_outcome, stop_of};
 ghost use Rattle.oai_daemon.specs.Lives.{HasLived};
+ghost use Rattle.oai_daemon.specs.Renewals.{HasRenewed, is_checkpoint};
 ghost use Rattle.oai_daemon.specs.Starts.{HasResumed, HasServed};
+ghost use Rattle.oai_keys.specs.Guards.{unguarded};
 ghost use Rattle.oai_serving.specs.Accepted.{PassesNone, known_of};
-ghost use Rattle.std.specs.Prelude.{◌≡◌, IfOk};
+ghost use Rattle.oai_serving.specs.Wrappers.{behind};
+ghost use Rattle.std.specs.Prelude.{◌≡◌, IfOk, IsTrue, MatchResult};
 
-use crate::clocks::{GuardedClock, to_moment};
+use crate::clocks::{GuardedClock, second_of, to_moment};
+use crate::counts::Counts;
 use crate::origins::Origin;
 use crate::places::Place;
 use crate::starts::{Started, start};
+use crate::tallies::{CountedPort, Tally};
 use crate::watched::Watched;
 use oai_archive::ServerStop;
 use oai_durable::{Journaled, resume};
+use oai_figures::Figures;
 use oai_host::Host;
 use oai_http::Settled;
+use oai_item::Forms;
 use oai_journal::{FileJournal, Journal};
+use oai_keys::{Guarded, Ring};
+use oai_names::Sequence;
 use oai_paged::PagedVersions;
 use oai_replay::Replayed;
 use oai_serving::{ServeFault, Server, Sockets, Stream};
 use oai_startup::{Stop, config_in};
 use std::alloc::Global;
+use std::rc::Rc;
 use std::rt::Clock;
 
 /// A service that has ended.
@@ -50,17 +60,30 @@ impl<S, K, H> Ended<S, K, H> {
     }
 }
 
-/// The handler of a place's server: a host over the pages of the place, whose exchanges are logged in its journal, and
-/// whose faults are reported to it.
+/// Why the program stops, where its service ended, or did not begin.
+pub fn outcome_of<S: Drop, K: Drop, H: Drop>(
+    ended: Result<Ended<S, K, H>, ServerStop>,
+) -> Result<(), ServerStop>
+    ensures { MatchResult ended (λ ended. result ≡ serve_outcome ended.result ended.jumped) (λ stop. result ≡ Err stop) }
+{
+    match ended {
+        Ok(ended) => ended.outcome(),
+        Err(stop) => Err(stop),
+    }
+}
+
+/// The handler of a place's server: a host over the pages of the place, whose exchanges are logged in its journal,
+/// behind the keys of depositors; its faults are reported to the place.
 pub type Hosting<'a, P> = Watched<
     'a,
-    Journaled<Host<PagedVersions<<P as Place>::Pages>>, FileJournal<<P as Place>::Disk>>,
+    Guarded<Journaled<Host<PagedVersions<<P as Place>::Pages>>, FileJournal<<P as Place>::Disk>>>,
     P,
 >;
 
 /// Serves the repositories of the configuration in the text, in the state that the journal of the place gives, until it
-/// is killed or cannot continue. What is performed is logged in the journal, and synced, before it is answered. The
-/// error is why it stopped before it served; the value is what its service ended with.
+/// is killed or cannot continue. Deposits into those that `rings` names need one of their keys. What is performed is
+/// logged in the journal, and synced, before it is answered. The error is why it stopped before it served; the value is
+/// what its service ended with.
 ///
 /// A startup goes in this order, and stops at the first fault: the configuration, the folder, the port, the journal that
 /// is found and its first record, the pages, all other records, and the report of where the server listens. A journal
@@ -70,15 +93,19 @@ pub fn serve<'a, P: Place, C: Clock>(
     place: &'a mut P,
     clock: &C,
     text: &[u8],
+    rings: Sequence<Ring>,
 ) -> Result<Ended<P::Link, P::Port, Hosting<'a, P>>, ServerStop>
-    ensures { IfOk result (λ ended. HasLived ⟦<FileJournal<P::Disk> as Journal>⟧ P.Disk.Disk.seen P.Disk.Disk.is_clean
-        P.Link.Stream.contents P.Link.Stream.remaining P.held text.now ended.origin
-        (known_of (P.Port.Sockets.accepted ended.port) (P.Port.Sockets.gone ended.port)) ended.result ended.server) }
+    ensures lived { IfOk result (λ ended. HasLived ⟦<FileJournal<P::Disk> as Journal>⟧ P.Disk.Disk.seen P.Disk.Disk.is_clean
+        P.Link.Stream.contents P.Link.Stream.remaining P.held text.now rings ended.origin
+        (known_of (P.Port.Sockets.accepted ended.port) (P.Port.Sockets.gone ended.port)) ended.result (behind unguarded ended.server)) }
+    ensures renewed { IfOk result (λ ended. IsTrue (is_checkpoint ended.origin)
+        → HasRenewed P.OldDisk.Disk.seen P.OldDisk.Disk.is_clean ⟦<FileJournal<P::NewDisk> as Journal>⟧ P.is_honest 0) }
 {
-    let config = config_in(alloc, text)?;
+    let config = config_in(alloc, Forms::Elements, text)?;
+    let counts = Counts::new(alloc, &config, second_of(clock))?;
     let port = open(place)?;
     let started = start(alloc, place, clock, text, config)?;
-    serve_over(alloc, place, clock, started, port)
+    serve_over(alloc, place, clock, started, rings, port, counts)
 }
 
 /// Opens the folder, and listens.
@@ -89,14 +116,19 @@ fn open<P: Place>(place: &mut P) -> Result<P::Port, ServerStop>
     place.listen()
 }
 
-/// Serves the handler, which has replayed the whole journal.
-fn serve_over<'a, P: Place, H: Replayed + Drop, C: Clock>(
+/// Serves the handler, which has replayed the whole journal, behind the keys.
+fn serve_over<'a, P: Place, H: Replayed + Figures + Drop, C: Clock>(
     alloc: Global,
     place: &'a mut P,
     clock: &C,
     started: Started<P::Disk, H>,
+    rings: Sequence<Ring>,
     port: P::Port,
-) -> Result<Ended<P::Link, P::Port, Watched<'a, Journaled<H, FileJournal<P::Disk>>, P>>, ServerStop>
+    counts: Counts,
+) -> Result<
+    Ended<P::Link, P::Port, Watched<'a, Guarded<Journaled<H, FileJournal<P::Disk>>>, P>>,
+    ServerStop,
+>
     ensures resumed { IfOk result (λ ended. HasResumed (record {
       step = H.step;
       Kept = H.Kept;
@@ -105,32 +137,36 @@ fn serve_over<'a, P: Place, H: Replayed + Drop, C: Clock>(
       leaving = record { redone = H.redone; restored = H.restored };
       reply = H.reply;
     }) ⟦<FileJournal<P::Disk> as Journal>⟧ P.Disk.Disk.seen P.Disk.Disk.may_leave
-        P.Link.Stream.contents P.Link.Stream.remaining started.handler started.recovery
+        P.Link.Stream.contents P.Link.Stream.remaining started.handler started.recovery rings
         (known_of (P.Port.Sockets.accepted port) (P.Port.Sockets.gone port))
-        (known_of (P.Port.Sockets.accepted ended.port) (P.Port.Sockets.gone ended.port)) ended.result ended.server) }
+        (known_of (P.Port.Sockets.accepted ended.port) (P.Port.Sockets.gone ended.port)) ended.result (behind unguarded ended.server)) }
     ensures origin { IfOk result (λ ended. ended.origin ≡ started.origin) }
 {
     let Started {
         handler,
         recovery,
+        records,
+        startup,
         origin,
-        ..
     } = started;
-    let Some(journaled) = resume(alloc, handler, recovery) else {
+    let Some(journaled) = resume(alloc, handler, recovery, records) else {
         return Err(ServerStop::Common(Stop::InputFault));
     };
     place.announce(&port)?;
-    let watched = Watched::new(journaled, place);
-    serve_at(alloc, &GuardedClock::new(clock), origin, watched, port)
+    let guarded = Guarded::new(alloc, journaled, rings);
+    let tally = counts.tally()?;
+    let watched = Watched::new(alloc, guarded, place, counts.after(startup));
+    serve_at(alloc, clock, origin, watched, port, tally)
 }
 
 /// Serves the handler until it is killed or cannot continue. The error is out of memory, before it served.
 fn serve_at<S: Stream + Drop, K: Sockets<S> + Drop, H: Settled + Drop, C: Clock>(
     alloc: Global,
-    clock: &GuardedClock<'_, C>,
+    clock: &C,
     origin: Origin,
     handler: H,
-    mut port: K,
+    port: K,
+    tally: Rc<Tally>,
 ) -> Result<Ended<S, K, H>, ServerStop>
     ensures served { IfOk result (λ ended. HasServed H.step H.settled S.contents S.remaining handler
         (known_of (K.accepted port) (K.gone port)) (known_of (K.accepted ended.port) (K.gone ended.port)) ended.result ended.server) }
@@ -139,10 +175,12 @@ fn serve_at<S: Stream + Drop, K: Sockets<S> + Drop, H: Settled + Drop, C: Clock>
     let Ok(mut server) = Server::new(alloc, handler) else {
         return Err(ServerStop::Common(Stop::NoMemory));
     };
-    let result = server.serve(&mut port, clock);
+    let clock = GuardedClock::new(clock, tally.clone()?);
+    let mut counted = CountedPort::new(port, tally);
+    let result = server.serve(&mut counted, &clock);
     Ok(Ended {
         server,
-        port,
+        port: counted.into_port(),
         result,
         jumped: clock.jumped(),
         origin,

@@ -1,20 +1,25 @@
 //! A host that has replayed a journal.
 ghost use Rattle.oai_config.specs.Reading.{IsRead};
 ghost use Rattle.oai_startup.specs.Rules.{HaveRules};
+ghost use Rattle.oai_daemon.specs.Renewals.{HasReadBack, HasRenewed, is_checkpoint};
 ghost use Rattle.oai_daemon.specs.Starts.{HasReplayed, HasStarted};
 ghost use Rattle.oai_host.specs.Hosts.{begun};
-ghost use Rattle.std.specs.Prelude.{◌≡◌, IfOk, IfSome, Ok, map};
+ghost use Rattle.oai_item.specs.declared.forms.Forms.TheVariants.{Elements};
+ghost use Rattle.std.specs.Prelude.{◌≡◌, IfOk, IfSome, IsTrue, Ok, OnOk, map};
 
-use crate::journals::{keep, prepare};
+use crate::journals::{Found, keep, prepare};
+use crate::notes::Note;
 use crate::origins::Origin;
 use crate::places::Place;
 use crate::recoveries::recover_all;
+use crate::startups::Startup;
 use oai_archive::{ServerStop, begin_for};
 use oai_host::{Config, Host};
-use oai_journal::Recovery;
+use oai_item::Forms;
+use oai_journal::{FileJournal, Journal, Recovery};
 use oai_paged::PagedVersions;
 use oai_replay::Replayed;
-use oai_startup::host_on;
+use oai_startup::{config_in, host_on};
 use sqlite_disk::Disk;
 use std::alloc::Global;
 use std::rt::Clock;
@@ -28,13 +33,16 @@ pub(crate) struct Started<D: Disk, H> {
     pub(crate) recovery: Recovery<D>,
     /// How many there are after the first one.
     pub(crate) records: u64,
+    /// What its figures say.
+    pub(crate) startup: Startup,
     /// Where the journal comes from.
     pub(crate) origin: Origin,
 }
 
 /// The host of the configuration, which was read from the text, in the state that the journal of the place gives. If
 /// there is none, it is begun; one with another configuration, and one that is long while no list is open, is replaced
-/// by a checkpoint, and the host is the one that read that back.
+/// by a checkpoint, and the host is the one that read that back. The records have the forms of the journal's version, by
+/// which the configuration is read once more if they are lists of fields alone.
 pub(crate) fn start<P: Place, C: Clock>(
     alloc: Global,
     place: &mut P,
@@ -42,40 +50,78 @@ pub(crate) fn start<P: Place, C: Clock>(
     text: &[u8],
     config: Config,
 ) -> Result<Started<P::Disk, Host<PagedVersions<P::Pages>>>, ServerStop>
-    requires read { IsRead text.now (Ok config) }
+    requires read { IsRead Elements text.now (Ok config) }
     requires rules { HaveRules config }
-    ensures { IfOk result (λ started. HasStarted P.Disk.Disk.seen P.Disk.Disk.may_leave P.Disk.Disk.is_clean P.held
+    ensures started { IfOk result (λ started. HasStarted P.Disk.Disk.seen P.Disk.Disk.may_leave P.Disk.Disk.is_clean P.held
         text.now started.origin started.records started.handler started.recovery) }
+    ensures renewed { IfOk result (λ started. IsTrue (is_checkpoint started.origin)
+        → HasRenewed P.OldDisk.Disk.seen P.OldDisk.Disk.is_clean ⟦<FileJournal<P::NewDisk> as Journal>⟧ P.is_honest 0) }
 {
-    let origin = prepare(alloc, place, clock, text, &config)?;
+    let found = prepare(alloc, place, clock, text, &config)?;
+    let config = config_for(alloc, place, found.forms, text, config)?;
     let host = host_in(alloc, place, config)?;
-    start_by(alloc, place, clock, text, origin, host)
+    start_by(alloc, place, clock, text, found, host)
 }
 
-/// The handler, after it replayed all records of the journal of the place, which has that origin and the configuration
-/// in the text. One that was not found replaces the folder's then.
+/// The configuration with these forms of records: as it is, if they may be elements, and otherwise read from the text; that
+/// is reported.
+fn config_for<P: Place>(
+    alloc: Global,
+    place: &mut P,
+    forms: Forms,
+    text: &[u8],
+    config: Config,
+) -> Result<Config, ServerStop>
+    requires read { IsRead Elements text.now (Ok config) }
+    requires rules { HaveRules config }
+    ensures read { IfOk result (λ config. IsRead forms text.now (Ok config)) }
+    ensures rules { IfOk result HaveRules }
+{
+    match forms {
+        Forms::Elements => Ok(config),
+        Forms::Fields => {
+            place.tell(Note::OldVersion);
+            Ok(config_in(alloc, Forms::Fields, text)?)
+        }
+    }
+}
+
+/// The handler, after it replayed all records of the journal of the place, which has that origin, these forms of records,
+/// and the configuration in the text. One that was not found replaces the folder's then.
 fn start_by<P: Place, H: Replayed + Drop, C: Clock>(
     alloc: Global,
     place: &mut P,
     clock: &C,
     text: &[u8],
-    origin: Origin,
+    found: Found,
     mut handler: H,
 ) -> Result<Started<P::Disk, H>, ServerStop>
-    ensures { IfOk result (λ started. HasReplayed H.kept H.is_honest (record { redone = H.redone; restored = H.restored })
-        P.Disk.Disk.seen P.Disk.Disk.may_leave P.Disk.Disk.is_clean P.held text.now (H.kept handler)
+    ensures replayed { IfOk result (λ started. HasReplayed H.kept H.is_honest (record { redone = H.redone; restored = H.restored })
+        P.Disk.Disk.seen P.Disk.Disk.may_leave P.Disk.Disk.is_clean P.held found.forms text.now (H.kept handler)
         started.origin started.records started.handler started.recovery) }
+    ensures origin { IfOk result (λ started. started.origin ≡ found.origin) }
 {
+    let origin = found.origin;
     let disk = open_for(place, origin)?;
-    let mut recovery = begin_for(alloc, disk, text)?;
-    let records = recover_all(alloc, place, clock, origin, &mut handler, &mut recovery)?;
-    keep(place, origin, records, &recovery)?;
+    let mut recovery = begin_for(alloc, disk, found.forms, text)?;
+    let checkpoint = moment_in(&recovery);
+    let replay = recover_all(alloc, place, clock, origin, &mut handler, &mut recovery)?;
+    keep(place, origin, replay.records, &recovery)?;
     Ok(Started {
         handler,
         recovery,
-        records,
+        records: replay.records,
+        startup: Startup { replay, checkpoint },
         origin,
     })
+}
+
+/// The moment of the record that was read last; 0 if there is none.
+fn moment_in<D: Disk + Drop>(recovery: &Recovery<D>) -> i64 {
+    match recovery.record() {
+        Some(record) => record.moment,
+        None => 0,
+    }
 }
 
 /// The disk of the journal with that origin, to be served.
@@ -90,23 +136,24 @@ fn open_for<P: Place>(place: &mut P, origin: Origin) -> Result<P::Disk, ServerSt
     }
 }
 
-/// Replaces the journal of the place by the checkpoint beside it, which has the configuration, read from the text.
+/// Replaces the journal of the place by the checkpoint beside it, which has the configuration, read from the text, once
+/// it was read back.
 pub(crate) fn keep_checkpoint<P: Place, C: Clock>(
     alloc: Global,
     place: &mut P,
     clock: &C,
     text: &[u8],
     config: Config,
-) -> Result<(), ServerStop> {
+) -> Result<(), ServerStop>
+    ensures { OnOk result (HasReadBack P.Disk.Disk.seen P.Disk.Disk.may_leave P.Disk.Disk.is_clean P.held text.now
+        (map begun config.repositories)) }
+{
     let host = host_in(alloc, place, config)?;
-    dropped(start_by(alloc, place, clock, text, Origin::Shortened, host))
-}
-
-/// Whether it started.
-fn dropped<D: Disk + Drop, H: Drop>(
-    started: Result<Started<D, H>, ServerStop>,
-) -> Result<(), ServerStop> {
-    match started {
+    let found = Found {
+        origin: Origin::Shortened,
+        forms: Forms::Elements,
+    };
+    match start_by(alloc, place, clock, text, found, host) {
         Ok(_) => Ok(()),
         Err(stop) => Err(stop),
     }
@@ -118,7 +165,8 @@ pub(crate) fn host_in<P: Place>(
     place: &mut P,
     config: Config,
 ) -> Result<Host<PagedVersions<P::Pages>>, ServerStop>
-    ensures { IfOk result (λ host. host.repositories ≡ map begun config.repositories) }
+    ensures begun { IfOk result (λ host. host.repositories ≡ map begun config.repositories) }
+    ensures honesty { IfOk result (λ host. IsTrue P.is_honest → IsTrue host.honest) }
 {
     let pages = place.empty_pages()?;
     Ok(host_on(alloc, config, pages)?)

@@ -1,4 +1,7 @@
+pub mod CountLemmas
 pub mod DumpLemmas
+pub mod ElementLemmas
+pub mod FormsLemmas
 pub mod LineLemmas
 pub mod ReaderLemmas
 pub mod ReadingLemmas

@@ -1,75 +1,154 @@
 -- The shape of a value is the one that it is written as; and a value that is of none has none.
-use Rattle.std.proofs.Common.{◌≡◌, ℕ, Bool, ◌&&◌, eqb, true, false, cond, Option, Some, None, List, length, codes, refl, sym, ap, subst, is_some, ◌∙◌, arith}
+use Rattle.std.proofs.Common.{◌≡◌, ℕ, Bool, ◌&&◌, eqb, true, false, cond, Option, Some, None, IsSome, List, [], ◌∷◌, length, codes, refl, sym, ap, subst, is_some, ◌∙◌, arith}
 use Rattle.std.proofs.lemmas.Bool.{eqb-true}
 use Rattle.std.specs.Ordering.{is_eq, match_ordering, nat_cmp}
 use Rattle.std.specs.Cmp.Lexicographic.{slice_cmp}
+use Rattle.std.specs.List.{IsDistinct}
+use Rattle.std.specs.Str.{bytes_eq}
 use Rattle.std.specs.declared.cmp.Ordering.{Ordering}
 use Rattle.std.specs.declared.cmp.Ordering.TheVariants.{Less, Equal, Greater}
 use Rattle.std.proofs.lemmas.Map.Text.{is_eq-slice_cmp}
 use Rattle.std.proofs.lemmas.Slice.Eq.{bytes_eq-Decides}
 use Rattle.serde_json.specs.Data.{Data, array, boolean, member, no_members, null, number, object, string}
 use Rattle.serde_json.specs.Find.{get}
-use Rattle.oai_item.specs.Item.{Metadata}
+use Rattle.oai_item.specs.Givens.{GivenRecord}
+use Rattle.oai_item.specs.declared.forms.Forms.{Forms}
+use Rattle.oai_item.specs.declared.forms.Forms.TheVariants.{Elements, Fields}
 use Rattle.oai_names.specs.Optional.{◌>>=◌}
 use Rattle.oai_json.specs.Json.{has_each, has_members, size, text_at, texts_at}
-use Rattle.oai_deposit.specs.Lines.{Shape, deposits, deletes, purges, purge_shape, purge_members, adds_set, records_at, records_of, deposit_shape, deposit_members, deletion_shape, deletion_members, set_shape, set_members, shape_of}
-use Rattle.oai_deposit.specs.Shapes.{written_records, IsDeposit, IsDeletion, IsPurge, IsNewSet, IsShape, ShapeLaw}
-use Rattle.oai_json.proofs.MemberLemmas.{member_again, member_takes, of_another_size, of_size, text_again, text_takes, texts_are, texts_take}
+use Rattle.oai_deposit.specs.Lines.{Shape, are_of_forms, deposits, puts, put_shape, put_members, has_put_members, deletes, purges, purge_shape, purge_members, adds_set, records_at, records_of, deposit_shape, deposit_members, deletion_shape, deletion_members, set_shape, set_members, shape_of}
+use Rattle.oai_deposit.specs.Shapes.{written_records, IsDeposit, IsPut, IsDeletion, IsPurge, IsNewSet, IsShape, ShapeLaw}
+use Rattle.oai_json.proofs.MemberLemmas.{of_another_size, of_size, text_again, text_takes, texts_are, texts_take}
+use Rattle.oai_deposit.proofs.CountLemmas.{as_many}
 use Rattle.oai_deposit.proofs.ReaderLemmas.{records}
 use Rattle.oai_json.proofs.ReadingLemmas.{Some-injective, bind-Some}
 
 -- ---- members
 
-records_take : (d : Data) (rs : List Metadata) → records_at d ≡ Some rs → get (codes "records") d ≡ Some (written_records rs)
+records_take : (forms : Forms) (d : Data) (rs : List GivenRecord) → records_at forms d ≡ Some rs
+    → (get (codes "records") d ≡ Some (written_records rs)) × (are_of_forms forms rs ≡ true)
 unfolding records_at
-records_take d rs is = member_takes (codes "records") d records_of written_records rs records is
+records_take forms d rs is =
+    let p = bind-Some (get (codes "records") d) (records_of forms) rs is in
+    (p.1 ∙ ap (λ e. Some e) ((records forms).takes p.0 rs p.2), (records forms).is_good p.0 rs p.2)
 
-records_again : (d : Data) (rs : List Metadata) → get (codes "records") d ≡ Some (written_records rs) → records_at d ≡ Some rs
+records_again : (forms : Forms) (d : Data) (rs : List GivenRecord) → get (codes "records") d ≡ Some (written_records rs) → are_of_forms forms rs ≡ true
+    → records_at forms d ≡ Some rs
 unfolding records_at
-records_again d rs is = member_again (codes "records") d records_of written_records rs records is
+records_again forms d rs is formed = ap (λ r. r >>= records_of forms) is ∙ (records forms).again rs formed
 
 -- ---- a deposit
 
-deposit_takes : (d : Data) (shape : Shape) → size d ≡ 3 → deposit_shape d ≡ Some shape → IsShape shape d
+deposit_takes : (forms : Forms) (d : Data) (shape : Shape) → size d ≡ 3 → deposit_shape forms d ≡ Some shape → IsShape forms shape d
 unfolding deposit_shape
-deposit_takes d shape three is =
-    let p = bind-Some (text_at (codes "deposit") d) (λ i. texts_at (codes "sets") d >>= λ s. records_at d >>= λ r. Some (deposits i s r)) shape is in
-    let q = bind-Some (texts_at (codes "sets") d) (λ s. records_at d >>= λ r. Some (deposits p.0 s r)) shape p.2 in
-    let r = bind-Some (records_at d) (λ r. Some (deposits p.0 q.0 r)) shape q.2 in
-    let made : IsDeposit p.0 q.0 r.0 d = record {
+deposit_takes forms d shape three is =
+    let p = bind-Some (text_at (codes "deposit") d) (λ i. texts_at (codes "sets") d >>= λ s. records_at forms d >>= λ r. Some (deposits i s r)) shape is in
+    let q = bind-Some (texts_at (codes "sets") d) (λ s. records_at forms d >>= λ r. Some (deposits p.0 s r)) shape p.2 in
+    let r = bind-Some (records_at forms d) (λ r. Some (deposits p.0 q.0 r)) shape q.2 in
+    let taken = records_take forms d r.0 r.1 in
+    let made : IsDeposit forms p.0 q.0 r.0 d = record {
       deposit = text_takes (codes "deposit") d p.0 p.1;
       sets = texts_take (codes "sets") d q.0 q.1;
-      records = records_take d r.0 r.1;
+      records = taken.0;
+      formed = taken.1;
       no_other = three;
     } in
-    subst (λ (c : Shape). IsShape c d) {x = deposits p.0 q.0 r.0} (Some-injective (deposits p.0 q.0 r.0) shape r.2) made
+    subst (λ (c : Shape). IsShape forms c d) {x = deposits p.0 q.0 r.0} (Some-injective (deposits p.0 q.0 r.0) shape r.2) made
 
-deposit_again : (d : Data) (i : List ℕ) (s : List (List ℕ)) (r : List Metadata) → IsDeposit i s r d → deposit_shape d ≡ Some (deposits i s r)
+deposit_again : (forms : Forms) (d : Data) (i : List ℕ) (s : List (List ℕ)) (r : List GivenRecord) → IsDeposit forms i s r d → deposit_shape forms d ≡ Some (deposits i s r)
 unfolding deposit_shape
-deposit_again d i s r is =
-    ap (λ x. x >>= λ i. texts_at (codes "sets") d >>= λ s. records_at d >>= λ r. Some (deposits i s r))
+deposit_again forms d i s r is =
+    ap (λ x. x >>= λ i. texts_at (codes "sets") d >>= λ s. records_at forms d >>= λ r. Some (deposits i s r))
     (text_again (codes "deposit") d i is.deposit)
-    ∙ ap (λ x. x >>= λ s. records_at d >>= λ r. Some (deposits i s r))
+    ∙ ap (λ x. x >>= λ s. records_at forms d >>= λ r. Some (deposits i s r))
     (texts_are (codes "sets") d s is.sets)
-    ∙ ap (λ x. x >>= λ r. Some (deposits i s r)) (records_again d r is.records)
+    ∙ ap (λ x. x >>= λ r. Some (deposits i s r)) (records_again forms d r is.records is.formed)
 
 three_there : (n : ℕ) (a b c : Option Data) (x y z : Data) → n ≡ 3 → a ≡ Some x → b ≡ Some y → c ≡ Some z
     → (eqb n 3 && (is_some a && (is_some b && (is_some c && true)))) ≡ true
 three_there n a b c x y z three first second third = rw (three, first, second, third) refl
 
-are_deposit : (d : Data) (i : List ℕ) (s : List (List ℕ)) (r : List Metadata) → IsDeposit i s r d → has_members deposit_members d ≡ true
+are_deposit : (forms : Forms) (d : Data) (i : List ℕ) (s : List (List ℕ)) (r : List GivenRecord) → IsDeposit forms i s r d → has_members deposit_members d ≡ true
 unfolding has_members
-are_deposit d i s r is =
+are_deposit forms d i s r is =
     three_there (size d) (get (codes "deposit") d) (get (codes "sets") d) (get (codes "records") d) _ _ _ is.no_other is.deposit is.sets is.records
+
+-- ---- a put
+
+-- its members make it one only where a record may be an element
+allowed : (forms : Forms) (d : Data) → has_put_members forms d ≡ true → (forms ≡ Elements) × (has_members put_members d ≡ true)
+allowed Fields d is = absurd cc
+allowed Elements d is = (refl, is)
+
+any_forms : (rs : List GivenRecord) → are_of_forms Elements rs ≡ true
+any_forms [] = refl
+any_forms (r ∷ rs) = any_forms rs
+
+put_takes : (forms : Forms) (d : Data) (shape : Shape) → forms ≡ Elements → size d ≡ 3 → put_shape forms d ≡ Some shape → IsShape forms shape d
+unfolding put_shape
+put_takes forms d shape elements three is =
+    let p = bind-Some (text_at (codes "put") d) (λ i. texts_at (codes "sets") d >>= λ s. records_at forms d >>= λ r. Some (puts i s r)) shape is in
+    let q = bind-Some (texts_at (codes "sets") d) (λ s. records_at forms d >>= λ r. Some (puts p.0 s r)) shape p.2 in
+    let r = bind-Some (records_at forms d) (λ r. Some (puts p.0 q.0 r)) shape q.2 in
+    let made : IsPut forms p.0 q.0 r.0 d = record {
+      put = text_takes (codes "put") d p.0 p.1;
+      sets = texts_take (codes "sets") d q.0 q.1;
+      records = (records_take forms d r.0 r.1).0;
+      allowed = elements;
+      no_other = three;
+    } in
+    subst (λ (c : Shape). IsShape forms c d) {x = puts p.0 q.0 r.0} (Some-injective (puts p.0 q.0 r.0) shape r.2) made
+
+put_again : (forms : Forms) (d : Data) (i : List ℕ) (s : List (List ℕ)) (r : List GivenRecord) → IsPut forms i s r d → put_shape forms d ≡ Some (puts i s r)
+unfolding put_shape
+put_again forms d i s r is =
+    let formed : are_of_forms forms r ≡ true = subst (λ (f : Forms). are_of_forms f r ≡ true) (sym is.allowed) (any_forms r) in
+    ap (λ x. x >>= λ i. texts_at (codes "sets") d >>= λ s. records_at forms d >>= λ r. Some (puts i s r))
+    (text_again (codes "put") d i is.put)
+    ∙ ap (λ x. x >>= λ s. records_at forms d >>= λ r. Some (puts i s r))
+    (texts_are (codes "sets") d s is.sets)
+    ∙ ap (λ x. x >>= λ r. Some (puts i s r)) (records_again forms d r is.records formed)
+
+are_put : (forms : Forms) (d : Data) (i : List ℕ) (s : List (List ℕ)) (r : List GivenRecord) → IsPut forms i s r d → has_put_members forms d ≡ true
+unfolding has_members
+are_put forms d i s r is =
+    subst (λ (f : Forms). has_put_members f d ≡ true) (sym is.allowed)
+    (three_there (size d) (get (codes "put") d) (get (codes "sets") d) (get (codes "records") d) _ _ _ is.no_other is.put is.sets is.records)
+
+four_names : IsDistinct bytes_eq (codes "put" ∷ codes "sets" ∷ codes "records" ∷ codes "deposit" ∷ [])
+unfolding IsDistinct
+four_names = ((refl, (refl, (refl, tt))), ((refl, (refl, tt)), ((refl, tt), (tt, tt))))
+
+-- an object of three members has no fourth
+three_of_four : (d : Data) (o : Option Data) (x y z : Data) → size d ≡ 3 → get (codes "put") d ≡ Some x → get (codes "sets") d ≡ Some y → get (codes "records") d ≡ Some z
+    → get (codes "deposit") d ≡ o → is_some o ≡ false
+three_of_four d None x y z three put sets all is = refl
+three_of_four d (Some w) x y z three put sets all is =
+    let four = as_many (codes "put" ∷ codes "sets" ∷ codes "records" ∷ codes "deposit" ∷ []) d four_names (some put, (some sets, (some all, (some is, tt)))) in
+    absurd (omega (arith, four, three))
+  where
+    some : {o : Option Data} {x : Data} → o ≡ Some x → IsSome o
+    some {x = x} is = subst (λ (o : Option Data). IsSome o) (sym is) refl
+
+no_deposit : (forms : Forms) (d : Data) (i : List ℕ) (s : List (List ℕ)) (r : List GivenRecord) → IsPut forms i s r d → has_members deposit_members d ≡ false
+unfolding has_members
+no_deposit forms d i s r is =
+    ap (λ (b : Bool). eqb (size d) 3 && (b && (is_some (get (codes "sets") d) && (is_some (get (codes "records") d) && true))))
+    (three_of_four d (get (codes "deposit") d) _ _ _ is.no_other is.put is.sets is.records refl)
+    ∙ none (eqb (size d) 3)
+  where
+    none : (b : Bool) → (b && false) ≡ false
+    none true = refl
+    none false = refl
 
 -- ---- a deletion
 
-deletion_takes : (d : Data) (shape : Shape) → size d ≡ 1 → deletion_shape d ≡ Some shape → IsShape shape d
+deletion_takes : (forms : Forms) (d : Data) (shape : Shape) → size d ≡ 1 → deletion_shape d ≡ Some shape → IsShape forms shape d
 unfolding deletion_shape
-deletion_takes d shape one is =
+deletion_takes forms d shape one is =
     let p = bind-Some (text_at (codes "delete") d) (λ i. Some (deletes i)) shape is in
     let made : IsDeletion p.0 d = record { delete = text_takes (codes "delete") d p.0 p.1; no_other = one } in
-    subst (λ (c : Shape). IsShape c d) {x = deletes p.0} (Some-injective (deletes p.0) shape p.2) made
+    subst (λ (c : Shape). IsShape forms c d) {x = deletes p.0} (Some-injective (deletes p.0) shape p.2) made
 
 deletion_again : (d : Data) (i : List ℕ) → IsDeletion i d → deletion_shape d ≡ Some (deletes i)
 unfolding deletion_shape
@@ -84,12 +163,12 @@ are_deletion d i is = one_there (size d) (get (codes "delete") d) _ is.no_other 
 
 -- ---- a purge
 
-purge_takes : (d : Data) (shape : Shape) → size d ≡ 1 → purge_shape d ≡ Some shape → IsShape shape d
+purge_takes : (forms : Forms) (d : Data) (shape : Shape) → size d ≡ 1 → purge_shape d ≡ Some shape → IsShape forms shape d
 unfolding purge_shape
-purge_takes d shape one is =
+purge_takes forms d shape one is =
     let p = bind-Some (text_at (codes "purge") d) (λ b. Some (purges b)) shape is in
     let made : IsPurge p.0 d = record { purge = text_takes (codes "purge") d p.0 p.1; no_other = one } in
-    subst (λ (c : Shape). IsShape c d) {x = purges p.0} (Some-injective (purges p.0) shape p.2) made
+    subst (λ (c : Shape). IsShape forms c d) {x = purges p.0} (Some-injective (purges p.0) shape p.2) made
 
 purge_again : (d : Data) (b : List ℕ) → IsPurge b d → purge_shape d ≡ Some (purges b)
 unfolding purge_shape
@@ -131,9 +210,9 @@ no_deletion d b is =
 
 -- ---- a new set
 
-set_takes : (d : Data) (shape : Shape) → size d ≡ 2 → set_shape d ≡ Some shape → IsShape shape d
+set_takes : (forms : Forms) (d : Data) (shape : Shape) → size d ≡ 2 → set_shape d ≡ Some shape → IsShape forms shape d
 unfolding set_shape
-set_takes d shape two is =
+set_takes forms d shape two is =
     let p = bind-Some (text_at (codes "set") d) (λ s. (text_at (codes "name") d) >>= λ n. Some (adds_set s n)) shape is in
     let q = bind-Some (text_at (codes "name") d) (λ n. Some (adds_set p.0 n)) shape p.2 in
     let made : IsNewSet p.0 q.0 d = record {
@@ -141,7 +220,7 @@ set_takes d shape two is =
       name = text_takes (codes "name") d q.0 q.1;
       no_other = two;
     } in
-    subst (λ (c : Shape). IsShape c d) {x = adds_set p.0 q.0} (Some-injective (adds_set p.0 q.0) shape q.2) made
+    subst (λ (c : Shape). IsShape forms c d) {x = adds_set p.0 q.0} (Some-injective (adds_set p.0 q.0) shape q.2) made
 
 set_again : (d : Data) (s n : List ℕ) → IsNewSet s n d → set_shape d ≡ Some (adds_set s n)
 unfolding set_shape
@@ -161,15 +240,18 @@ are_new_set d s n is =
 
 -- ---- which shape
 
--- the shapes are tried one after another: those after a deposit, those after a deletion, and those after a purge
-abbrev after_purge : Data → Option Shape
-after_purge d = cond (has_members set_members d) (set_shape d) None
+-- the shapes are tried one after another: those after a deposit, after a deletion, after a purge, and after a new set
+abbrev after_set : Forms → Data → Option Shape
+after_set forms d = cond (has_put_members forms d) (put_shape forms d) None
 
-abbrev after_deletion : Data → Option Shape
-after_deletion d = cond (has_members purge_members d) (purge_shape d) (after_purge d)
+abbrev after_purge : Forms → Data → Option Shape
+after_purge forms d = cond (has_members set_members d) (set_shape d) (after_set forms d)
 
-abbrev after_deposit : Data → Option Shape
-after_deposit d = cond (has_members deletion_members d) (deletion_shape d) (after_deletion d)
+abbrev after_deletion : Forms → Data → Option Shape
+after_deletion forms d = cond (has_members purge_members d) (purge_shape d) (after_purge forms d)
+
+abbrev after_deposit : Forms → Data → Option Shape
+after_deposit forms d = cond (has_members deletion_members d) (deletion_shape d) (after_deletion forms d)
 
 -- the members of one shape are there, or the shapes after it are tried
 if_taken : (b : Bool) (q others : Option Shape) (shape : Shape) (P : Type 0)
@@ -186,58 +268,68 @@ not_there b q others is = ap (λ b. cond b q others) is
 None≢Some : (shape : Shape) → None ≡ Some shape → ⊥
 None≢Some shape is = absurd cc
 
-shape_takes : (d : Data) (shape : Shape) → shape_of d ≡ Some shape → IsShape shape d
+shape_takes : (forms : Forms) (d : Data) (shape : Shape) → shape_of forms d ≡ Some shape → IsShape forms shape d
 unfolding shape_of
-shape_takes d shape =
-    if_taken (has_members deposit_members d) (deposit_shape d) (after_deposit d) shape (IsShape shape d)
-    (λ is. deposit_takes d shape (of_size deposit_members d is))
-    (if_taken (has_members deletion_members d) (deletion_shape d) (after_deletion d) shape (IsShape shape d)
-    (λ is. deletion_takes d shape (of_size deletion_members d is))
-    (if_taken (has_members purge_members d) (purge_shape d) (after_purge d) shape (IsShape shape d)
-    (λ is. purge_takes d shape (of_size purge_members d is))
-    (if_taken (has_members set_members d) (set_shape d) None shape (IsShape shape d)
-    (λ is. set_takes d shape (of_size set_members d is))
-    (λ none. absurd (None≢Some shape none)))))
+shape_takes forms d shape =
+    if_taken (has_members deposit_members d) (deposit_shape forms d) (after_deposit forms d) shape (IsShape forms shape d)
+    (λ is. deposit_takes forms d shape (of_size deposit_members d is))
+    (if_taken (has_members deletion_members d) (deletion_shape d) (after_deletion forms d) shape (IsShape forms shape d)
+    (λ is. deletion_takes forms d shape (of_size deletion_members d is))
+    (if_taken (has_members purge_members d) (purge_shape d) (after_purge forms d) shape (IsShape forms shape d)
+    (λ is. purge_takes forms d shape (of_size purge_members d is))
+    (if_taken (has_members set_members d) (set_shape d) (after_set forms d) shape (IsShape forms shape d)
+    (λ is. set_takes forms d shape (of_size set_members d is))
+    (if_taken (has_put_members forms d) (put_shape forms d) None shape (IsShape forms shape d)
+    (λ is. let so = allowed forms d is in put_takes forms d shape so.0 (of_size put_members d so.1))
+    (λ none. absurd (None≢Some shape none))))))
 
--- it is no deposit, and it is no deletion, as it is of another number of members
-past_deposit : (d : Data) (n : ℕ) → size d ≡ n → eqb n 3 ≡ false → shape_of d ≡ after_deposit d
+-- it is of another number of members
+past_deposit : (forms : Forms) (d : Data) (n : ℕ) → size d ≡ n → eqb n 3 ≡ false → shape_of forms d ≡ after_deposit forms d
 unfolding shape_of
-past_deposit d n is other =
-    not_there (has_members deposit_members d) (deposit_shape d) (after_deposit d) (of_another_size deposit_members d n is other)
+past_deposit forms d n is other =
+    not_there (has_members deposit_members d) (deposit_shape forms d) (after_deposit forms d) (of_another_size deposit_members d n is other)
 
-past_deletion : (d : Data) (n : ℕ) → size d ≡ n → eqb n 1 ≡ false → after_deposit d ≡ after_deletion d
-past_deletion d n is other =
-    not_there (has_members deletion_members d) (deletion_shape d) (after_deletion d) (of_another_size deletion_members d n is other)
+past_deletion : (forms : Forms) (d : Data) (n : ℕ) → size d ≡ n → eqb n 1 ≡ false → after_deposit forms d ≡ after_deletion forms d
+past_deletion forms d n is other =
+    not_there (has_members deletion_members d) (deletion_shape d) (after_deletion forms d) (of_another_size deletion_members d n is other)
 
-past_purge : (d : Data) (n : ℕ) → size d ≡ n → eqb n 1 ≡ false → after_deletion d ≡ after_purge d
-past_purge d n is other = not_there (has_members purge_members d) (purge_shape d) (after_purge d) (of_another_size purge_members d n is other)
+past_purge : (forms : Forms) (d : Data) (n : ℕ) → size d ≡ n → eqb n 1 ≡ false → after_deletion forms d ≡ after_purge forms d
+past_purge forms d n is other =
+    not_there (has_members purge_members d) (purge_shape d) (after_purge forms d) (of_another_size purge_members d n is other)
 
-shape_again : (d : Data) (shape : Shape) → IsShape shape d → shape_of d ≡ Some shape
+past_set : (forms : Forms) (d : Data) (n : ℕ) → size d ≡ n → eqb n 2 ≡ false → after_purge forms d ≡ after_set forms d
+past_set forms d n is other = not_there (has_members set_members d) (set_shape d) (after_set forms d) (of_another_size set_members d n is other)
+
+shape_again : (forms : Forms) (d : Data) (shape : Shape) → IsShape forms shape d → shape_of forms d ≡ Some shape
 unfolding shape_of
-shape_again d (deposits i s r) is =
-    there (has_members deposit_members d) (deposit_shape d) (after_deposit d) (are_deposit d i s r is) ∙ deposit_again d i s r is
-shape_again d (deletes i) is =
-    past_deposit d 1 is.no_other refl
-    ∙ there (has_members deletion_members d) (deletion_shape d) (after_deletion d) (are_deletion d i is) ∙ deletion_again d i is
-shape_again d (purges b) is =
-    past_deposit d 1 is.no_other refl
-    ∙ not_there (has_members deletion_members d) (deletion_shape d) (after_deletion d) (no_deletion d b is)
-    ∙ there (has_members purge_members d) (purge_shape d) (after_purge d) (are_purge d b is) ∙ purge_again d b is
-shape_again d (adds_set s n) is =
-    past_deposit d 2 is.no_other refl ∙ past_deletion d 2 is.no_other refl ∙ past_purge d 2 is.no_other refl
-    ∙ there (has_members set_members d) (set_shape d) None (are_new_set d s n is) ∙ set_again d s n is
+shape_again forms d (deposits i s r) is =
+    there (has_members deposit_members d) (deposit_shape forms d) (after_deposit forms d) (are_deposit forms d i s r is) ∙ deposit_again forms d i s r is
+shape_again forms d (puts i s r) is =
+    not_there (has_members deposit_members d) (deposit_shape forms d) (after_deposit forms d) (no_deposit forms d i s r is)
+    ∙ past_deletion forms d 3 is.no_other refl ∙ past_purge forms d 3 is.no_other refl ∙ past_set forms d 3 is.no_other refl
+    ∙ there (has_put_members forms d) (put_shape forms d) None (are_put forms d i s r is) ∙ put_again forms d i s r is
+shape_again forms d (deletes i) is =
+    past_deposit forms d 1 is.no_other refl
+    ∙ there (has_members deletion_members d) (deletion_shape d) (after_deletion forms d) (are_deletion d i is) ∙ deletion_again d i is
+shape_again forms d (purges b) is =
+    past_deposit forms d 1 is.no_other refl
+    ∙ not_there (has_members deletion_members d) (deletion_shape d) (after_deletion forms d) (no_deletion d b is)
+    ∙ there (has_members purge_members d) (purge_shape d) (after_purge forms d) (are_purge d b is) ∙ purge_again d b is
+shape_again forms d (adds_set s n) is =
+    past_deposit forms d 2 is.no_other refl ∙ past_deletion forms d 2 is.no_other refl ∙ past_purge forms d 2 is.no_other refl
+    ∙ there (has_members set_members d) (set_shape d) (after_set forms d) (are_new_set d s n is) ∙ set_again d s n is
 
 -- ---- the law
 
-none_where_no : (d : Data) (o : Option Shape) → shape_of d ≡ o → ((shape : Shape) → IsShape shape d → ⊥) → shape_of d ≡ None
-none_where_no d (Some shape) is none = absurd (none shape (shape_takes d shape is))
-none_where_no d None is none = is
+none_where_no : (forms : Forms) (d : Data) (o : Option Shape) → shape_of forms d ≡ o → ((shape : Shape) → IsShape forms shape d → ⊥) → shape_of forms d ≡ None
+none_where_no forms d (Some shape) is none = absurd (none shape (shape_takes forms d shape is))
+none_where_no forms d None is none = is
 
-no_where_none : (d : Data) → shape_of d ≡ None → (shape : Shape) → IsShape shape d → ⊥
-no_where_none d none shape is = absurd (None≢Some shape (sym none ∙ shape_again d shape is))
+no_where_none : (forms : Forms) (d : Data) → shape_of forms d ≡ None → (shape : Shape) → IsShape forms shape d → ⊥
+no_where_none forms d none shape is = absurd (None≢Some shape (sym none ∙ shape_again forms d shape is))
 
 pub shape_law_holds : ShapeLaw
-shape_law_holds d = record {
-  fits = λ shape. (shape_takes d shape, shape_again d shape);
-  fits_none = (no_where_none d, none_where_no d (shape_of d) refl);
+shape_law_holds forms d = record {
+  fits = λ shape. (shape_takes forms d shape, shape_again forms d shape);
+  fits_none = (no_where_none forms d, none_where_no forms d (shape_of forms d) refl);
 }

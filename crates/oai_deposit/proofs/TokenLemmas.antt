@@ -12,15 +12,19 @@ use Rattle.json.proofs.Printed.Trees.{value-json_tokens}
 use Rattle.serde_json.specs.Data.{Data, string, object, put}
 use Rattle.serde_json.specs.Read.{of_json, of_members, read}
 use Rattle.oai_item.specs.declared.fields.Field.{Field}
-use Rattle.oai_item.specs.Item.{Metadata, is_before, are_rising}
+use Rattle.oai_item.specs.Givens.{GivenRecord}
+use Rattle.oai_item.specs.Item.{is_before, are_rising}
+use Rattle.oai_item.specs.declared.forms.Forms.{Forms}
+use Rattle.oai_item.specs.declared.givens.Given.{Given}
+use Rattle.oai_item.specs.declared.givens.Given.TheVariants.{Listed, Whole}
 use Rattle.oai_json.specs.Json.{array_of, members_of}
 use Rattle.oai_json.specs.Tokens.{array_tokens, text_tokens}
 use Rattle.oai_json.proofs.JsonLemmas.{json_in-Some}
 use Rattle.oai_json.proofs.TokenLemmas.{Spell, SpellMembers, array_spelled, text_spelled}
 use Rattle.oai_deposit.specs.Dumps.{deposit_value}
-use Rattle.oai_deposit.specs.Lines.{deposits, shape_of}
-use Rattle.oai_deposit.specs.Shapes.{IsDeposit, written_field, written_record, written_records, written_texts}
-use Rattle.oai_deposit.specs.Tokens.{field_tokens, record_tokens, records_tokens, deposit_tokens, is_none_or_before, may_follow, IsDepositLine}
+use Rattle.oai_deposit.specs.Lines.{are_of_forms, deposits, is_of_forms, shape_of}
+use Rattle.oai_deposit.specs.Shapes.{IsDeposit, written_field, written_given, written_record, written_records, written_texts}
+use Rattle.oai_deposit.specs.Tokens.{field_tokens, given_tokens, record_tokens, records_tokens, deposit_tokens, is_none_or_before, may_follow, IsDepositLine}
 use Rattle.oai_deposit.proofs.ShapeLemmas.{shape_law_holds}
 use Rattle.oai_deposit.proofs.ValueLemmas.{put_above}
 
@@ -42,20 +46,24 @@ right_true : (a b : Bool) → (a && b) ≡ true → b ≡ true
 right_true true b h = h
 right_true false b h = absurd cc
 
-rising_rest : (a : Metadata) (rs : List Metadata) → are_rising (a ∷ rs) ≡ true → are_rising rs ≡ true
+given_spelled : (given : Given) → Spell 2 (given_tokens given) (written_given given)
+given_spelled (Listed fields) = fields_spelled fields
+given_spelled (Whole text) = let one = text_spelled text in (one.0, one.1, one.2, omega (arith, one.3))
+
+rising_rest : (a : GivenRecord) (rs : List GivenRecord) → are_rising (a ∷ rs) ≡ true → are_rising rs ≡ true
 rising_rest a [] h = refl
 rising_rest a (b ∷ rs) h = right_true (is_before a.0 b.0) (are_rising (b ∷ rs)) h
 
-members_spelled : (done rs : List Metadata) → are_rising (done ++ rs) ≡ true
+members_spelled : (done rs : List GivenRecord) → are_rising (done ++ rs) ≡ true
     → SpellMembers 2 (flat_map record_tokens rs ++ Token.end_object ∷ []) (members_of (map written_record done)) (members_of (map written_record (done ++ rs)))
 members_spelled done [] rise = (json.no_members, refl, ap (λ rs. Some (members_of (map written_record rs))) (sym (append-nil done)), omega arith)
 members_spelled done (r ∷ rs) rise =
     let regroup : (done ++ r ∷ []) ++ rs ≡ done ++ r ∷ rs = append_assoc done (r ∷ []) rs in
-    let one = fields_spelled r.1 in
+    let one = given_spelled r.1 in
     let others = members_spelled (done ++ r ∷ []) rs (ap are_rising regroup ∙ rise) in (
       json.member r.0 one.0 others.0,
       ap (λ ts. Token.key r.0 ∷ (ts ++ tree.members_tokens others.0)) one.1
-          ∙ ap (λ ts. Token.key r.0 ∷ (array_tokens field_tokens r.1 ++ ts)) others.1
+          ∙ ap (λ ts. Token.key r.0 ∷ (given_tokens r.1 ++ ts)) others.1
           ∙ sym (append_assoc (record_tokens r) (flat_map record_tokens rs) (Token.end_object ∷ [])),
       ap (option_and_then (λ d. of_members others.0 (put r.0 d (members_of (map written_record done))))) one.2
           ∙ ap (of_members others.0) (put_above done r rs (written_record r).1 refl rise)
@@ -64,14 +72,14 @@ members_spelled done (r ∷ rs) rise =
       omega (arith, one.3, others.3),
     )
 
-records_spelled : (rs : List Metadata) → are_rising rs ≡ true → Spell 3 (records_tokens rs) (written_records rs)
+records_spelled : (rs : List GivenRecord) → are_rising rs ≡ true → Spell 3 (records_tokens rs) (written_records rs)
 records_spelled rs rise =
     let inside = members_spelled [] rs rise in
     (json.object inside.0, ap (λ ts. Token.begin_object ∷ ts) inside.1, ap (option_map object) inside.2, omega (arith, inside.3))
 
 -- ---- the deposit
 
-deposit_spelled : (i : List ℕ) (s : List (List ℕ)) (r : List Metadata) → are_rising r ≡ true → Spell 4 (deposit_tokens i s r) (deposit_value i s r)
+deposit_spelled : (i : List ℕ) (s : List (List ℕ)) (r : List GivenRecord) → are_rising r ≡ true → Spell 4 (deposit_tokens i s r) (deposit_value i s r)
 deposit_spelled i s r rise =
     let sets = array_spelled 0 text_tokens string text_spelled s in
     let records = records_spelled r rise in (
@@ -82,10 +90,11 @@ deposit_spelled i s r rise =
       omega (arith, sets.3, records.3),
     )
 
-deposit_shape_is : (i : List ℕ) (s : List (List ℕ)) (r : List Metadata) → shape_of (deposit_value i s r) ≡ Some (deposits i s r)
-deposit_shape_is i s r =
-    let is : IsDeposit i s r (deposit_value i s r) = record { deposit = refl; sets = refl; records = refl; no_other = refl } in
-    ((shape_law_holds (deposit_value i s r)).fits (deposits i s r)).1 is
+deposit_shape_is : (forms : Forms) (i : List ℕ) (s : List (List ℕ)) (r : List GivenRecord) → are_of_forms forms r ≡ true
+    → shape_of forms (deposit_value i s r) ≡ Some (deposits i s r)
+deposit_shape_is forms i s r formed =
+    let is : IsDeposit forms i s r (deposit_value i s r) = record { deposit = refl; sets = refl; records = refl; formed = formed; no_other = refl } in
+    ((shape_law_holds forms (deposit_value i s r)).fits (deposits i s r)).1 is
 
 -- the value of a text whose tokens were read
 abbrev whole : Option (json.Json × List Token) → Option Data
@@ -96,19 +105,26 @@ spelled_reads text ts d same spelled =
     ap whole (ap (json.value 127) (same ∙ sym spelled.1 ∙ sym (append-nil (tree.json_tokens spelled.0))) ∙ value-json_tokens spelled.0 127 [] (omega (arith, spelled.3)))
     ∙ spelled.2
 
-pub is_deposit_line : (line text : List ℕ) (i : List ℕ) (s : List (List ℕ)) (r : List Metadata) → text ≡ line → IsUtf8 line → are_rising r ≡ true
-    → tokens text ≡ deposit_tokens i s r → IsDepositLine line i s r
-is_deposit_line line text i s r same utf8 rise are =
+pub is_deposit_line : (forms : Forms) (line text : List ℕ) (i : List ℕ) (s : List (List ℕ)) (r : List GivenRecord) → text ≡ line → IsUtf8 line → are_rising r ≡ true
+    → are_of_forms forms r ≡ true → tokens text ≡ deposit_tokens i s r → IsDepositLine forms line i s r
+is_deposit_line forms line text i s r same utf8 rise formed are =
     let reads = spelled_reads text (deposit_tokens i s r) (deposit_value i s r) are (deposit_spelled i s r rise) in
-    (deposit_value i s r, json_in-Some line (deposit_value i s r) utf8 (ap read (sym same) ∙ reads), deposit_shape_is i s r)
+    (deposit_value i s r, json_in-Some line (deposit_value i s r) utf8 (ap read (sym same) ∙ reads), deposit_shape_is forms i s r formed)
 
 -- ---- loops
 
 -- the prefix behind the last one
-pub rising_more : (rs : List Metadata) (r : Metadata) → are_rising rs ≡ true → may_follow rs r.0 ≡ true → are_rising (rs ++ r ∷ []) ≡ true
+pub rising_more : (rs : List GivenRecord) (r : GivenRecord) → are_rising rs ≡ true → may_follow rs r.0 ≡ true → are_rising (rs ++ r ∷ []) ≡ true
 rising_more [] r rise follows = refl
 rising_more (a ∷ []) r rise follows = rw follows refl
 rising_more (a ∷ b ∷ rs) r rise follows =
     let place : suc (suc (length rs) - 1) ≡ suc (suc (length rs)) - 1 = omega arith in
     let follows : may_follow (b ∷ rs) r.0 ≡ true = ap (λ n. is_none_or_before (slice_get (a ∷ b ∷ rs) n) r.0) place ∙ follows in
     rw (left_true (is_before a.0 b.0) (are_rising (b ∷ rs)) rise) (rising_more (b ∷ rs) r (rising_rest a (b ∷ rs) rise) follows)
+
+-- and of the forms
+pub formed_more : (forms : Forms) (rs : List GivenRecord) (r : GivenRecord) → are_of_forms forms rs ≡ true → is_of_forms forms r.1 ≡ true
+    → are_of_forms forms (rs ++ r ∷ []) ≡ true
+formed_more forms [] r formed is = rw is refl
+formed_more forms (a ∷ rs) r formed is =
+    rw (left_true (is_of_forms forms a.1) (are_of_forms forms rs) formed) (formed_more forms rs r (right_true (is_of_forms forms a.1) (are_of_forms forms rs) formed) is)

@@ -5,13 +5,16 @@ use Rattle.serde_json.specs.Data.{Data, Members, depth, items_depth, members_dep
 use Rattle.serde_json.specs.Read.{max_depth, read}
 use Rattle.serde_json.specs.Written.{compact_text, has_float}
 use Rattle.serde_json.proofs.OnLiterals.{serde_json_on_literals}
-use Rattle.oai_item.specs.Item.{Metadata}
-use Rattle.oai_item.specs.declared.changes.Change.{Change}
+use Rattle.oai_item.specs.Givens.{GivenRecord}
+use Rattle.oai_deposit.specs.declared.changes.Change.{Change}
 use Rattle.oai_item.specs.declared.fields.Field.{Field}
+use Rattle.oai_item.specs.declared.forms.Forms.{Forms}
+use Rattle.oai_item.specs.declared.givens.Given.{Given}
+use Rattle.oai_item.specs.declared.givens.Given.TheVariants.{Listed, Whole}
 use Rattle.oai_item.specs.declared.refusals.LineRefusal.{LineRefusal}
 use Rattle.oai_json.specs.Json.{items_of, json_in, members_of}
 use Rattle.oai_deposit.specs.Lines.{change_asked, line_of, shape_of}
-use Rattle.oai_deposit.specs.Shapes.{written_field, written_record, written_records, written_texts}
+use Rattle.oai_deposit.specs.Shapes.{written_field, written_given, written_record, written_records, written_texts}
 use Rattle.oai_json.proofs.JsonLemmas.{json_in-Some}
 use Rattle.oai_deposit.specs.Dumps.{IsLineOf, deletion_value, deposit_value, set_value}
 use Rattle.oai_deposit.proofs.DumpLemmas.{read_line}
@@ -43,10 +46,17 @@ line_made (Ok s) made d same shallow whole texts reads = record {
 line_made (Err error) made d same shallow whole texts reads = tt
 
 -- what it requests
-pub line_asks : {E : Type 0} (written : Result (String Global) E) (d : Data) (asks : Result Change LineRefusal) → change_asked (shape_of d) ≡ asks
-    → IfOk written (λ line. IsLineOf d (string_bytes line)) → IfOk written (λ line. line_of (string_bytes line) ≡ asks)
-line_asks (Ok s) d asks is line = read_line (string_bytes s) d line.reads ∙ is
-line_asks (Err error) d asks is line = tt
+pub line_asks : {E : Type 0} (written : Result (String Global) E) (d : Data) (P : Forms → Type 0) (asks : Result Change LineRefusal)
+    → ((forms : Forms) → P forms → change_asked (shape_of forms d) ≡ asks)
+    → IfOk written (λ line. IsLineOf d (string_bytes line)) → IfOk written (λ line. (forms : Forms) → P forms → line_of forms (string_bytes line) ≡ asks)
+line_asks (Ok s) d P asks is line = λ forms formed. read_line forms (string_bytes s) d line.reads ∙ is forms formed
+line_asks (Err error) d P asks is line = tt
+
+pub line_asks_any : {E : Type 0} (written : Result (String Global) E) (d : Data) (asks : Result Change LineRefusal)
+    → ((forms : Forms) → change_asked (shape_of forms d) ≡ asks)
+    → IfOk written (λ line. IsLineOf d (string_bytes line)) → IfOk written (λ line. (forms : Forms) → line_of forms (string_bytes line) ≡ asks)
+line_asks_any (Ok s) d asks is line = λ forms. read_line forms (string_bytes s) d line.reads ∙ is forms
+line_asks_any (Err error) d asks is line = tt
 
 -- ---- how deep they are
 
@@ -58,13 +68,17 @@ fields_depth : (fs : List Field) → items_depth (items_of (map written_field fs
 fields_depth [] = omega arith
 fields_depth (f ∷ fs) = let h = fields_depth fs in grind (arith, rules)
 
-records_depth : (ms : List Metadata) → members_depth (members_of (map written_record ms)) ≤ 2
+given_depth : (given : Given) → depth (written_given given) ≤ 2
+given_depth (Listed fields) = let f = fields_depth fields in grind (arith, rules)
+given_depth (Whole text) = omega arith
+
+records_depth : (ms : List GivenRecord) → members_depth (members_of (map written_record ms)) ≤ 2
 records_depth [] = omega arith
-records_depth (m ∷ ms) = let f = fields_depth m.1 in let h = records_depth ms in grind (arith, rules)
+records_depth (m ∷ ms) = let f = given_depth m.1 in let h = records_depth ms in grind (arith, rules)
 
 -- ---- the members, put in one after the other
 
-pub deposit_made : (one two three : Members) (d s r : Data) (identifier : List ℕ) (sets : List (List ℕ)) (records : List Metadata)
+pub deposit_made : (one two three : Members) (d s r : Data) (identifier : List ℕ) (sets : List (List ℕ)) (records : List GivenRecord)
     → one ≡ put (codes "deposit") d no_members → two ≡ put (codes "sets") s one → three ≡ put (codes "records") r two
     → d ≡ string identifier → s ≡ written_texts sets → r ≡ written_records records → object three ≡ deposit_value identifier sets records
 unfolding serde_json_on_literals
@@ -82,7 +96,7 @@ set_made one two s n spec name first second is_s is_n = ap object (second ∙ ap
 
 -- ---- none of them is deeper than may be
 
-pub shallow_deposit : (identifier : List ℕ) (sets : List (List ℕ)) (records : List Metadata) → depth (deposit_value identifier sets records) ≤ max_depth
+pub shallow_deposit : (identifier : List ℕ) (sets : List (List ℕ)) (records : List GivenRecord) → depth (deposit_value identifier sets records) ≤ max_depth
 shallow_deposit identifier sets records =
     let s = texts_depth sets in let r = records_depth records in grind (arith, rules)
 

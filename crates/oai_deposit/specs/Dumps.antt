@@ -1,16 +1,19 @@
 -- What a dump prints of a repository: lines that deposit what it holds again. JSON texts of RFC 8259, sections 4, 5 and
 -- 7; the lines are this repository's own.
 use Rattle.std.specs.Prelude.{◌≡◌, ℕ, List, [], ◌∷◌, ◌++◌, map, codes, if◌then◌else◌, Some, true}
-use Rattle.std.specs.List.{All, AllZip, flat_map}
+use Rattle.std.specs.List.{All, AllZip, flat_map, list_all}
 use Rattle.serde_json.specs.Data.{Data, string}
 use Rattle.serde_json.specs.Written.{compact_text}
-use Rattle.oai_item.specs.Item.{IsItem, ItemState, Metadata}
+use Rattle.oai_item.specs.Elements.{element_in}
+use Rattle.oai_item.specs.Givens.{GivenRecord, given_back, is_none_or_canonical}
+use Rattle.oai_item.specs.Item.{IsItem, ItemState}
+use Rattle.oai_item.specs.declared.forms.Forms.{Forms}
 use Rattle.oai_item.specs.ShortTexts.{is_short_text}
-use Rattle.oai_item.specs.declared.changes.Change.{Change}
-use Rattle.oai_item.specs.declared.changes.Change.TheVariants as change
+use Rattle.oai_deposit.specs.declared.changes.Change.{Change}
+use Rattle.oai_deposit.specs.declared.changes.Change.TheVariants as change
 use Rattle.oai_names.specs.Sets.{may_be_set_spec}
 use Rattle.oai_json.specs.Json.{json_in, object_of}
-use Rattle.oai_deposit.specs.Lines.{have_xml_texts}
+use Rattle.oai_deposit.specs.Lines.{are_of_forms, have_xml_texts}
 use Rattle.oai_deposit.specs.Shapes.{written_records, written_texts}
 
 -- ---- a line
@@ -21,8 +24,8 @@ pub record IsLineOf (value : Data) (line : List ℕ) : Type 0 where
   pub text : line ≡ compact_text value
   pub reads : json_in line ≡ Some value
 
--- {"deposit":ID,"records":{PREFIX:[[NAME,TEXT],..],..},"sets":[SPEC,..]}
-abbrev pub deposit_value : List ℕ → List (List ℕ) → List Metadata → Data
+-- {"deposit":ID,"records":{PREFIX:[[NAME,TEXT],..],PREFIX:TEXT,..},"sets":[SPEC,..]}
+abbrev pub deposit_value : List ℕ → List (List ℕ) → List GivenRecord → Data
 deposit_value identifier sets records =
     object_of ((codes "deposit", string identifier) ∷ (codes "records", written_records records) ∷ (codes "sets", written_texts sets) ∷ [])
 
@@ -36,26 +39,28 @@ set_value spec name = object_of ((codes "name", string name) ∷ (codes "set", s
 
 -- ---- an item
 
--- what is printed of it: its deposit, and if it is deleted its deletion
+-- what is printed of it: its deposit, an element as its text, and if it is deleted its deletion
 abbrev pub item_values : ItemState → List Data
 item_values item =
-    deposit_value item.identifier item.sets item.formats ∷ (if item.live then [] else deletion_value item.identifier ∷ [])
+    deposit_value item.identifier item.sets (map given_back item.formats) ∷ (if item.live then [] else deletion_value item.identifier ∷ [])
 
 -- the changes that are requested so
 abbrev pub item_changes : ItemState → List Change
 item_changes item =
-    change.Deposit item.identifier item.sets item.formats ∷ (if item.live then [] else change.Delete item.identifier ∷ [])
+    change.Deposit item.identifier item.sets (map given_back item.formats) ∷ (if item.live then [] else change.Delete item.identifier ∷ [])
 
 -- ---- a repository
 
--- a set, its setSpec and its setName, and an item, as a repository may hold them
+-- a set, its setSpec and its setName, and an item, as a repository may hold them whose records have these forms
 pub record IsHeldSet (set : List ℕ × List ℕ) : Type 0 where
   pub spec : may_be_set_spec set.0 ≡ true
   pub name : is_short_text set.1 ≡ true
 
-pub record IsHeldItem (item : ItemState) : Type 0 where
+pub record IsHeldItem (forms : Forms) (item : ItemState) : Type 0 where
   pub valid : IsItem item
   pub texts : have_xml_texts item.formats ≡ true
+  pub formed : are_of_forms forms (map given_back item.formats) ≡ true
+  pub canonical : list_all (λ metadata. is_none_or_canonical (element_in metadata.1)) item.formats ≡ true
 
 -- its sets, in the order in which they were added, and then its items
 abbrev pub dump_values : List (List ℕ × List ℕ) → List ItemState → List Data

@@ -1,6 +1,6 @@
 -- One line of a deposit: the change that it requests, or the first cause to refuse it. The lines are this repository's
 -- own.
-use Rattle.std.specs.Prelude.{ℕ, Bool, not, if◌then◌else◌, List, [], ◌∷◌, codes, Option, Some, None, option_map, Result, Ok, Err}
+use Rattle.std.specs.Prelude.{ℕ, Bool, true, false, not, if◌then◌else◌, List, [], ◌∷◌, map, codes, Option, Some, None, option_map, Result, Ok, Err}
 use Rattle.std.specs.List.{list_all}
 use Rattle.serde_json.specs.Data.{Data}
 use Rattle.serde_json.specs.Find.{get, as_str, as_object}
@@ -8,21 +8,37 @@ use Rattle.oai_names.specs.Names.{may_be_identifier}
 use Rattle.oai_names.specs.Optional.{◌>>=◌, each_of}
 use Rattle.oai_names.specs.Sets.{may_be_set_spec}
 use Rattle.oai_names.specs.Characters.{is_xml_text}
-use Rattle.oai_item.specs.declared.changes.Change.{Change}
-use Rattle.oai_item.specs.declared.changes.Change.TheVariants as change
+use Rattle.oai_xml.specs.Documents.{canonical}
+use Rattle.oai_item.specs.Givens.{GivenRecord, kept}
 use Rattle.oai_item.specs.declared.fields.Field.{Field}
+use Rattle.oai_item.specs.declared.forms.Forms.{Forms}
+use Rattle.oai_item.specs.declared.forms.Forms.TheVariants as form
+use Rattle.oai_item.specs.declared.givens.Given.{Given}
+use Rattle.oai_item.specs.declared.givens.Given.TheVariants.{Listed, Whole}
 use Rattle.oai_item.specs.declared.refusals.LineRefusal.{LineRefusal}
-use Rattle.oai_item.specs.declared.refusals.LineRefusal.TheVariants.{BadJson, BadCommand, BadIdentifier, BadSetSpec, BadText}
+use Rattle.oai_item.specs.declared.refusals.LineRefusal.TheVariants.{BadJson, BadCommand, BadXml, BadIdentifier, BadSetSpec, BadText}
 use Rattle.oai_item.specs.Item.{Metadata}
 use Rattle.oai_item.specs.ShortTexts.{is_short_text}
+use Rattle.oai_deposit.specs.declared.changes.Change.{Change}
+use Rattle.oai_deposit.specs.declared.changes.Change.TheVariants as change
 use Rattle.oai_json.specs.Json.{json_in, members_in, has_members, elements_of, text_at, texts_at}
 
 -- ---- the shapes. `ShapeLaw` (Shapes.antt) says which objects they are
 
--- the texts of a command: of a deposit, the identifier, the setSpecs and the records; of a deletion, the identifier; of
--- a purge, the bound; of a new set, the setSpec and the setName
+-- whether a record may be given so
+abbrev pub is_of_forms : Forms → Given → Bool
+is_of_forms form.Fields (Listed fields) = true
+is_of_forms form.Fields (Whole text) = false
+is_of_forms form.Elements given = true
+
+abbrev pub are_of_forms : Forms → List GivenRecord → Bool
+are_of_forms forms records = list_all (λ r. is_of_forms forms r.1) records
+
+-- the texts of a command: of a deposit or a put, the identifier, the setSpecs and the records, of which an element is any text; of a deletion, the
+-- identifier; of a purge, the bound; of a new set, the setSpec and the setName
 pub data Shape : Type 0 where
-  deposits : List ℕ → List (List ℕ) → List Metadata → Shape
+  deposits : List ℕ → List (List ℕ) → List GivenRecord → Shape
+  puts : List ℕ → List (List ℕ) → List GivenRecord → Shape
   deletes : List ℕ → Shape
   purges : List ℕ → Shape
   adds_set : List ℕ → List ℕ → Shape
@@ -45,31 +61,62 @@ field_of d = elements_of d >>= pair_of
 unfoldable pub field_list_of : Data → Option (List Field)
 field_list_of d = elements_of d >>= each_of field_of
 
--- PREFIX:[[NAME,TEXT],..]
-unfoldable pub record_of : List ℕ × Data → Option Metadata
-record_of m = do
-  fields ← field_list_of m.1
-  Some (m.0, fields)
+-- TEXT, where a record may be an element
+abbrev pub element_text : Forms → Data → Option (List ℕ)
+element_text form.Fields d = None
+element_text form.Elements d = as_str d
 
--- {PREFIX:[[NAME,TEXT],..],..}
-unfoldable pub records_of : Data → Option (List Metadata)
-records_of d = option_map members_in (as_object d) >>= each_of record_of
+-- a text is that of an element, and otherwise fields are given
+abbrev pub given_as : Option (List ℕ) → Option (List Field) → Option Given
+given_as (Some text) fields = Some (Whole text)
+given_as None (Some fields) = Some (Listed fields)
+given_as None None = None
+
+-- [[NAME,TEXT],..], or TEXT
+unfoldable pub given_read : Forms → Data → Option Given
+given_read forms d = given_as (element_text forms d) (field_list_of d)
+
+-- PREFIX:[[NAME,TEXT],..], or PREFIX:TEXT
+unfoldable pub record_of : Forms → List ℕ × Data → Option GivenRecord
+record_of forms m = do
+  given ← given_read forms m.1
+  Some (m.0, given)
+
+-- {PREFIX:[[NAME,TEXT],..],PREFIX:TEXT,..}
+unfoldable pub records_of : Forms → Data → Option (List GivenRecord)
+records_of forms d = option_map members_in (as_object d) >>= each_of (record_of forms)
 
 -- .. as the member of them
-unfoldable pub records_at : Data → Option (List Metadata)
-records_at d = get (codes "records") d >>= records_of
+unfoldable pub records_at : Forms → Data → Option (List GivenRecord)
+records_at forms d = get (codes "records") d >>= records_of forms
 
--- {"deposit":ID,"sets":[SPEC,..],"records":{PREFIX:[[NAME,TEXT],..],..}}
-unfoldable pub deposit_shape : Data → Option Shape
-deposit_shape d = do
+-- {"deposit":ID,"sets":[SPEC,..],"records":{PREFIX:[[NAME,TEXT],..],PREFIX:TEXT,..}}
+unfoldable pub deposit_shape : Forms → Data → Option Shape
+deposit_shape forms d = do
   identifier ← text_at (codes "deposit") d
   sets ← texts_at (codes "sets") d
-  records ← records_at d
+  records ← records_at forms d
   Some (deposits identifier sets records)
 
 -- the names of the members of a deposit
 abbrev pub deposit_members : List (List ℕ)
 deposit_members = codes "deposit" ∷ codes "sets" ∷ codes "records" ∷ []
+
+-- {"put":ID,"sets":[SPEC,..],"records":{PREFIX:[[NAME,TEXT],..],PREFIX:TEXT,..}}
+unfoldable pub put_shape : Forms → Data → Option Shape
+put_shape forms d = do
+  identifier ← text_at (codes "put") d
+  sets ← texts_at (codes "sets") d
+  records ← records_at forms d
+  Some (puts identifier sets records)
+
+-- the names of the members of a put, which is a command where a record may be an element
+abbrev pub put_members : List (List ℕ)
+put_members = codes "put" ∷ codes "sets" ∷ codes "records" ∷ []
+
+abbrev pub has_put_members : Forms → Data → Bool
+has_put_members form.Fields d = false
+has_put_members form.Elements d = has_members put_members d
 
 -- {"delete":ID}
 unfoldable pub deletion_shape : Data → Option Shape
@@ -103,13 +150,45 @@ abbrev pub set_members : List (List ℕ)
 set_members = codes "set" ∷ codes "name" ∷ []
 
 -- a command is an object with exactly the members of one shape, of these forms
-unfoldable pub shape_of : Data → Option Shape
-shape_of d =
-    if has_members deposit_members d then deposit_shape d
+unfoldable pub shape_of : Forms → Data → Option Shape
+shape_of forms d =
+    if has_members deposit_members d then deposit_shape forms d
     else (if has_members deletion_members d then deletion_shape d
     else (if has_members purge_members d then purge_shape d
     else (if has_members set_members d then set_shape d
-    else None)))
+    else (if has_put_members forms d then put_shape forms d
+    else None))))
+
+-- ---- the elements
+
+-- the canonical text of an element, or the byte of its first fault (XML 1.0; Namespaces in XML 1.0)
+abbrev pub read_as_element : Result (List ℕ) ℕ → Result (List ℕ) LineRefusal
+read_as_element (Ok element) = Ok element
+read_as_element (Err at) = Err (BadXml at)
+
+abbrev pub element_read : List ℕ → Result (List ℕ) LineRefusal
+element_read text = read_as_element (canonical text)
+
+-- it, as it is given
+abbrev pub as_given : Result (List ℕ) LineRefusal → Result Given LineRefusal
+as_given (Ok element) = Ok (Whole element)
+as_given (Err refusal) = Err refusal
+
+-- what is given, with the canonical text of an element
+abbrev pub given_element : Given → Result Given LineRefusal
+given_element (Listed fields) = Ok (Listed fields)
+given_element (Whole text) = as_given (element_read text)
+
+-- a record before others: the first refusal is that of all
+abbrev pub before_others : List ℕ → Result Given LineRefusal → Result (List GivenRecord) LineRefusal → Result (List GivenRecord) LineRefusal
+before_others prefix (Ok given) (Ok others) = Ok ((prefix, given) ∷ others)
+before_others prefix (Ok given) (Err refusal) = Err refusal
+before_others prefix (Err refusal) others = Err refusal
+
+-- the records, in the order of their prefixes
+unfoldable pub elements_read : List GivenRecord → Result (List GivenRecord) LineRefusal
+elements_read [] = Ok []
+elements_read (r ∷ records) = before_others r.0 (given_element r.1) (elements_read records)
 
 -- ---- the texts
 
@@ -118,14 +197,33 @@ unfoldable pub have_xml_texts : List Metadata → Bool
 have_xml_texts records =
     list_all (λ metadata. list_all (λ field. is_xml_text field.text) metadata.1) records
 
--- the change that a command requests: its identifier, each of its setSpecs, and the texts of its fields or its setName
--- are tested, in this order. The repository, which knows its granularity, reads the bound of a purge
-unfoldable pub asked_change : Shape → Result Change LineRefusal
-asked_change (deposits identifier sets records) =
+-- the identifier, the setSpecs and the records of a deposit
+abbrev pub Parts : Type 0
+Parts = List ℕ × List (List ℕ) × List GivenRecord
+
+-- these of records whose elements are read
+abbrev pub asked_parts : List ℕ → List (List ℕ) → Result (List GivenRecord) LineRefusal → Result Parts LineRefusal
+asked_parts identifier sets (Err refusal) = Err refusal
+asked_parts identifier sets (Ok records) =
     if not (may_be_identifier identifier) then Err BadIdentifier
     else (if not (list_all may_be_set_spec sets) then Err BadSetSpec
-    else (if not (have_xml_texts records) then Err BadText
-    else Ok (change.Deposit identifier sets records)))
+    else (if not (have_xml_texts (map kept records)) then Err BadText
+    else Ok (identifier, sets, records)))
+
+-- the deposit of these parts, and the put
+abbrev pub as_deposit : Result Parts LineRefusal → Result Change LineRefusal
+as_deposit (Ok parts) = Ok (change.Deposit parts.0 parts.1 parts.2)
+as_deposit (Err refusal) = Err refusal
+
+abbrev pub as_put : Result Parts LineRefusal → Result Change LineRefusal
+as_put (Ok parts) = Ok (change.Put parts.0 parts.1 parts.2)
+as_put (Err refusal) = Err refusal
+
+-- the change that a command requests: its elements, its identifier, each of its setSpecs, and the texts of its fields or its setName
+-- are tested, in this order. The repository, which knows its granularity, reads the bound of a purge
+unfoldable pub asked_change : Shape → Result Change LineRefusal
+asked_change (deposits identifier sets records) = as_deposit (asked_parts identifier sets (elements_read records))
+asked_change (puts identifier sets records) = as_put (asked_parts identifier sets (elements_read records))
 asked_change (deletes identifier) =
     if may_be_identifier identifier then Ok (change.Delete identifier) else Err BadIdentifier
 asked_change (purges before) = Ok (change.Purge before)
@@ -142,10 +240,11 @@ change_asked None = Err BadCommand
 change_asked (Some shape) = asked_change shape
 
 -- a line that is no JSON text requests nothing
-abbrev pub value_asked : Option Data → Result Change LineRefusal
-value_asked None = Err BadJson
-value_asked (Some d) = change_asked (shape_of d)
+abbrev pub value_asked : Forms → Option Data → Result Change LineRefusal
+value_asked forms None = Err BadJson
+value_asked forms (Some d) = change_asked (shape_of forms d)
 
--- the change that a line requests, or the first refusal: of the JSON, of the shape, of the texts
-unfoldable pub line_of : List ℕ → Result Change LineRefusal
-line_of line = value_asked (json_in line)
+-- the change that a line requests, where its records have these forms, or the first refusal: of the JSON, of the shape, of the elements, of the
+-- texts
+unfoldable pub line_of : Forms → List ℕ → Result Change LineRefusal
+line_of forms line = value_asked forms (json_in line)

@@ -1,11 +1,15 @@
 -- The JSON object of a command. RFC 8259, sections 4, 5 and 7.
-use Rattle.std.specs.Prelude.{◌≡◌, ◌↔◌, ℕ, List, [], ◌∷◌, map, codes, Some, None}
+use Rattle.std.specs.Prelude.{◌≡◌, ◌↔◌, ℕ, true, List, [], ◌∷◌, map, codes, Some, None}
 use Rattle.serde_json.specs.Data.{Data, string}
 use Rattle.serde_json.specs.Find.{get}
 use Rattle.oai_item.specs.declared.fields.Field.{Field}
-use Rattle.oai_item.specs.Item.{Metadata}
+use Rattle.oai_item.specs.declared.forms.Forms.{Forms}
+use Rattle.oai_item.specs.declared.forms.Forms.TheVariants.{Elements}
+use Rattle.oai_item.specs.declared.givens.Given.{Given}
+use Rattle.oai_item.specs.declared.givens.Given.TheVariants.{Listed, Whole}
+use Rattle.oai_item.specs.Givens.{GivenRecord}
 use Rattle.oai_json.specs.Json.{size, array_of, object_of}
-use Rattle.oai_deposit.specs.Lines.{Shape, deposits, deletes, purges, adds_set, shape_of}
+use Rattle.oai_deposit.specs.Lines.{Shape, are_of_forms, deposits, puts, deletes, purges, adds_set, shape_of}
 
 -- [TEXT,..]
 abbrev pub written_texts : List (List ℕ) → Data
@@ -15,20 +19,35 @@ written_texts texts = array_of (map string texts)
 abbrev pub written_field : Field → Data
 written_field field = array_of (string field.name ∷ string field.text ∷ [])
 
--- PREFIX:[[NAME,TEXT],..]
-abbrev pub written_record : Metadata → List ℕ × Data
-written_record metadata = (metadata.0, array_of (map written_field metadata.1))
+-- [[NAME,TEXT],..], or the text of an element
+abbrev pub written_given : Given → Data
+written_given (Listed fields) = array_of (map written_field fields)
+written_given (Whole text) = string text
 
--- {PREFIX:[[NAME,TEXT],..],..}
-abbrev pub written_records : List Metadata → Data
+-- PREFIX:[[NAME,TEXT],..], or PREFIX:TEXT
+abbrev pub written_record : GivenRecord → List ℕ × Data
+written_record r = (r.0, written_given r.1)
+
+-- {PREFIX:[[NAME,TEXT],..],PREFIX:TEXT,..}
+abbrev pub written_records : List GivenRecord → Data
 written_records records = object_of (map written_record records)
 
--- {"deposit":ID,"sets":[SPEC,..],"records":{PREFIX:[[NAME,TEXT],..],..}}, its members in any order
-pub record IsDeposit (identifier : List ℕ) (specs : List (List ℕ))
-    (metadata : List Metadata) (d : Data) : Type 0 where
+-- {"deposit":ID,"sets":[SPEC,..],"records":{PREFIX:[[NAME,TEXT],..],PREFIX:TEXT,..}}, its members in any order; with `Fields` no record is a TEXT
+pub record IsDeposit (forms : Forms) (identifier : List ℕ) (specs : List (List ℕ))
+    (given : List GivenRecord) (d : Data) : Type 0 where
   pub deposit : get (codes "deposit") d ≡ Some (string identifier)
   pub sets : get (codes "sets") d ≡ Some (written_texts specs)
-  pub records : get (codes "records") d ≡ Some (written_records metadata)
+  pub records : get (codes "records") d ≡ Some (written_records given)
+  pub formed : are_of_forms forms given ≡ true
+  pub no_other : size d ≡ 3
+
+-- {"put":ID,"sets":[SPEC,..],"records":{PREFIX:[[NAME,TEXT],..],PREFIX:TEXT,..}}, its members in any order; with `Fields` no value is a put
+pub record IsPut (forms : Forms) (identifier : List ℕ) (specs : List (List ℕ))
+    (given : List GivenRecord) (d : Data) : Type 0 where
+  pub put : get (codes "put") d ≡ Some (string identifier)
+  pub sets : get (codes "sets") d ≡ Some (written_texts specs)
+  pub records : get (codes "records") d ≡ Some (written_records given)
+  pub allowed : forms ≡ Elements
   pub no_other : size d ≡ 3
 
 -- {"delete":ID}
@@ -48,17 +67,18 @@ pub record IsNewSet (spec title : List ℕ) (d : Data) : Type 0 where
   pub no_other : size d ≡ 2
 
 -- the value has the shape, with these texts
-abbrev pub IsShape : Shape → Data → Type 0
-IsShape (deposits identifier sets records) d = IsDeposit identifier sets records d
-IsShape (deletes identifier) d = IsDeletion identifier d
-IsShape (purges before) d = IsPurge before d
-IsShape (adds_set spec name) d = IsNewSet spec name d
+abbrev pub IsShape : Forms → Shape → Data → Type 0
+IsShape forms (deposits identifier sets records) d = IsDeposit forms identifier sets records d
+IsShape forms (puts identifier sets records) d = IsPut forms identifier sets records d
+IsShape forms (deletes identifier) d = IsDeletion identifier d
+IsShape forms (purges before) d = IsPurge before d
+IsShape forms (adds_set spec name) d = IsNewSet spec name d
 
 -- the value has a shape exactly if it is the object of that shape, and none exactly if it is no such object
-pub record IsReadAsWritten (d : Data) : Type 0 where
-  pub fits : (shape : Shape) → (shape_of d ≡ Some shape) ↔ IsShape shape d
-  pub fits_none : (shape_of d ≡ None) ↔ ((shape : Shape) → ¬ IsShape shape d)
+pub record IsReadAsWritten (forms : Forms) (d : Data) : Type 0 where
+  pub fits : (shape : Shape) → (shape_of forms d ≡ Some shape) ↔ IsShape forms shape d
+  pub fits_none : (shape_of forms d ≡ None) ↔ ((shape : Shape) → ¬ IsShape forms shape d)
 
--- the law of the shapes, for every value
+-- the law of the shapes, for every value and each of the forms
 abbrev pub ShapeLaw : Type 0
-ShapeLaw = (d : Data) → IsReadAsWritten d
+ShapeLaw = (forms : Forms) (d : Data) → IsReadAsWritten forms d

@@ -3,7 +3,9 @@ ghost use Rattle.std.specs.Prelude.{◌≡◌, true, IfOk};
 ghost use Rattle.serde_json.specs.Data.{string};
 ghost use Rattle.serde_json.specs.View.{view};
 ghost use Rattle.oai_json.specs.Json.{array_of};
-ghost use Rattle.oai_deposit.specs.Shapes.{written_field, written_records, written_texts};
+ghost use Rattle.oai_deposit.specs.Shapes.{written_field, written_given, written_records, written_texts};
+ghost use Rattle.oai_item.specs.Elements.{element_in};
+ghost use Rattle.oai_item.specs.Givens.{given_back, given_of};
 ghost use Rattle.oai_item.specs.Item.{are_rising};
 ghost use Rattle.std.specs.Prelude.{map};
 
@@ -57,16 +59,26 @@ fn fields_value(alloc: Global, fields: Fields<'_>) -> Result<Value, AllocError>
     Ok(Value::Array(values))
 }
 
+/// A record: the text of the element that its fields keep, or its fields. The error is out of memory.
+fn record_value(alloc: Global, fields: Fields<'_>) -> Result<Value, AllocError>
+    ensures { IfOk result (λ value. view value ≡ written_given (given_of fields.entry (element_in fields.entry))) }
+{
+    match fields.element() {
+        Some(text) => text_value(alloc, text),
+        None => fields_value(alloc, fields),
+    }
+}
+
 /// The records, whose prefixes rise, as an object. The error is out of memory.
 pub(crate) fn records_value(alloc: Global, records: ItemRecords<'_>) -> Result<Value, AllocError>
     requires { are_rising records ≡ true }
-    ensures { IfOk result (λ value. view value ≡ written_records records.entry) }
+    ensures { IfOk result (λ value. view value ≡ written_records (map given_back records.entry)) }
 {
     let mut left = records;
     let mut members = Map::new(alloc);
     while let Some(record) = left.next() {
-        let fields = fields_value(alloc, record.fields)?;
-        put(&mut members, alloc, record.prefix, fields)?;
+        let value = record_value(alloc, record.fields)?;
+        put(&mut members, alloc, record.prefix, value)?;
     }
     Ok(Value::Object(members))
 }

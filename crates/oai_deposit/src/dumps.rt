@@ -1,12 +1,14 @@
 //! What a repository holds, as the deposit lines that rebuild it.
-ghost use Rattle.std.specs.Prelude.{◌≡◌, ◌≤◌, ℕ, false, List, map, IfOk, Ok, Some, string_bytes};
+ghost use Rattle.std.specs.Prelude.{◌≡◌, ◌≤◌, ℕ, false, true, List, map, IfOk, Ok, Some, string_bytes};
 ghost use Rattle.std.specs.List.{All};
 ghost use Rattle.serde_json.specs.Data.{depth, object};
 ghost use Rattle.serde_json.specs.Read.{max_depth};
 ghost use Rattle.serde_json.specs.View.{members_view};
 ghost use Rattle.serde_json.specs.Written.{compact_text, has_float};
 ghost use Rattle.oai_json.specs.Json.{json_in};
-ghost use Rattle.oai_deposit.specs.Lines.{adds_set, asked_change, deletes, deposits, line_of};
+ghost use Rattle.oai_deposit.specs.Lines.{adds_set, are_of_forms, asked_change, deletes, deposits, line_of};
+ghost use Rattle.oai_item.specs.Givens.{given_back};
+ghost use Rattle.oai_item.specs.declared.forms.Forms.{Forms};
 ghost use Rattle.oai_deposit.specs.Dumps.{IsDump, IsHeldItem, IsHeldSet, IsLineOf, deletion_value, deposit_value, dump_changes, set_value};
 ghost use Rattle.oai_item.specs.Item.{ItemState};
 
@@ -16,13 +18,14 @@ use oai_names::{Identifier, SetSpec};
 use serde_json::{Map, Value, put};
 use std::alloc::{AllocError, Global};
 
-/// The line, without its end, that deposits the item: its identifier, its sets and its records. Parsed as a deposit
-/// line it requests exactly that. The error is out of memory.
+/// The line, without its end, that deposits the item: its identifier, its sets and its records, an element as its text.
+/// Parsed as a deposit line, of forms that its records have, it requests exactly that. The error is out of memory.
 pub fn deposit_line(alloc: Global, item: &Item) -> Result<String, AllocError>
-    ensures line { IfOk result (λ line. IsLineOf (deposit_value item.now.identifier item.now.sets item.now.formats)
+    ensures line { IfOk result (λ line. IsLineOf (deposit_value item.now.identifier item.now.sets (map given_back item.now.formats))
         (string_bytes line)) }
-    ensures asks { IfOk result (λ line. line_of (string_bytes line)
-        ≡ asked_change (deposits item.now.identifier item.now.sets item.now.formats)) }
+    ensures asks { IfOk result (λ line. (forms : Forms) → are_of_forms forms (map given_back item.now.formats) ≡ true
+        → line_of forms (string_bytes line)
+        ≡ asked_change (deposits item.now.identifier item.now.sets (map given_back item.now.formats))) }
 {
     let mut members = Map::new(alloc);
     put(
@@ -49,7 +52,7 @@ pub fn deposit_line(alloc: Global, item: &Item) -> Result<String, AllocError>
 /// The line, without its end, that deletes the item with that identifier. The error is out of memory.
 pub fn deletion_line(alloc: Global, identifier: &Identifier) -> Result<String, AllocError>
     ensures line { IfOk result (λ line. IsLineOf (deletion_value identifier.now) (string_bytes line)) }
-    ensures asks { IfOk result (λ line. line_of (string_bytes line) ≡ asked_change (deletes identifier.now)) }
+    ensures asks { IfOk result (λ line. (forms : Forms) → line_of forms (string_bytes line) ≡ asked_change (deletes identifier.now)) }
 {
     let mut members = Map::new(alloc);
     put(
@@ -64,7 +67,7 @@ pub fn deletion_line(alloc: Global, identifier: &Identifier) -> Result<String, A
 /// The line, without its end, that adds the set. The error is out of memory.
 pub fn set_line(alloc: Global, spec: &SetSpec, name: &str) -> Result<String, AllocError>
     ensures line { IfOk result (λ line. IsLineOf (set_value spec.now name.now) (string_bytes line)) }
-    ensures asks { IfOk result (λ line. line_of (string_bytes line) ≡ asked_change (adds_set spec.now name.now)) }
+    ensures asks { IfOk result (λ line. (forms : Forms) → line_of forms (string_bytes line) ≡ asked_change (adds_set spec.now name.now)) }
 {
     let mut members = Map::new(alloc);
     put(
@@ -88,10 +91,10 @@ fn line_of_members(alloc: Global, members: Map<String, Value>) -> Result<String,
 }
 
 /// The lines that are printed of a repository's sets and items request, parsed as deposit lines, exactly what it holds:
-/// each set, and each item with its sets and records, and then the deletion of one that is deleted; none is refused. A
-/// theorem, proved by an empty function.
+/// each set, and each item with its sets and records, and then the deletion of one that is deleted; none is refused. Items
+/// with elements need forms with elements. A theorem, proved by an empty function.
 pub fn dump_law()
-    ensures { (sets : List (List ℕ × List ℕ)) (items : List ItemState) (lines : List (List ℕ))
-        → All IsHeldSet sets → All IsHeldItem items → IsDump sets items lines
-        → map line_of lines ≡ map (λ change. Ok change) (dump_changes sets items) }
+    ensures { (forms : Forms) (sets : List (List ℕ × List ℕ)) (items : List ItemState) (lines : List (List ℕ))
+        → All IsHeldSet sets → All (IsHeldItem forms) items → IsDump sets items lines
+        → map (line_of forms) lines ≡ map (λ change. Ok change) (dump_changes sets items) }
 {}

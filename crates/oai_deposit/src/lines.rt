@@ -1,10 +1,13 @@
-ghost use Rattle.std.specs.Prelude.{◌≡◌, true, map, is_some};
+ghost use Rattle.std.specs.Prelude.{◌≡◌, ℕ, List, Ok, true, map, is_some};
 ghost use Rattle.std.specs.List.{list_all};
 ghost use Rattle.serde_json.specs.View.{view};
 ghost use Rattle.oai_names.specs.Names.{may_be_identifier};
 ghost use Rattle.oai_names.specs.Optional.{each_of, tested};
 ghost use Rattle.oai_names.specs.Sets.{may_be_set_spec};
+ghost use Rattle.oai_item.specs.Givens.{GivenRecord};
 ghost use Rattle.oai_item.specs.ShortTexts.{is_short_text};
+ghost use Rattle.oai_deposit.specs.declared.changes.Change.TheVariants as change;
+ghost use Rattle.oai_item.specs.declared.forms.Forms.TheVariants.{Fields};
 ghost use Rattle.oai_item.specs.declared.refusals.LineRefusal.TheVariants.{BadIdentifier, BadSetSpec, BadText};
 ghost use Rattle.oai_deposit.specs.Calls.{Anywhere, has_command_members};
 ghost use Rattle.oai_json.specs.Json as json;
@@ -12,79 +15,104 @@ ghost use Rattle.oai_deposit.specs.Lines as lines;
 ghost use Rattle.oai_deposit.specs.Readings.{FindsBy, ReturnsReading, passed};
 ghost use Rattle.oai_deposit.specs.Shapes.{ShapeLaw};
 
+use crate::changes::Change;
 use crate::deposit_texts::DepositTexts;
 use crate::faults::LineFault;
+use crate::given_elements::{have_xml_texts, read_elements};
 use crate::members::{command_text, texts_at};
-use crate::records::{have_xml_texts, records_at};
+use crate::records::records_at;
 use crate::tokens::read_deposit;
 use json::Scratch;
-use oai_item::{Change, LineRefusal, is_short_text};
+use oai_item::{Forms, LineRefusal, Records, is_short_text};
 use oai_json::{has_members, read_json};
 use oai_names::{Identifier, NameFault, Sequence, SetSpec, Text};
 use serde_json::Value;
 use std::alloc::Global;
 
 /// Reads one line of a deposit, without its line end: a JSON object (RFC 8259) with exactly the members of a command.
-/// The errors, in this order: `BadJson`, `BadCommand`, `BadIdentifier`, `BadSetSpec`, `BadText`, each for the whole
-/// line before the next; and at any point `NoMemory`, but not for a line that is empty or not in UTF-8. Of two members
+/// A record is a list of fields or, if the forms say so, a text that is an XML element, and is then given by its canonical
+/// text. The errors, in this order: `BadJson`, `BadCommand`, `BadXml`, `BadIdentifier`, `BadSetSpec`, `BadText`, each for
+/// the whole line before the next; and at any point `NoMemory`, but not for a line that is empty or not in UTF-8. Of two members
 /// with one name the last counts. A deposit with its members in the order `deposit`, `sets`, `records`, under rising
 /// prefixes, is read without making a JSON value of it; each text of a line is copied from the parser's result at most
 /// once.
 #[tactic(auto, unfolding(crate::specs::Lines::line_of))]
-pub fn read_line(alloc: Global, line: &[u8]) -> Result<Change, LineFault>
-    ensures { ReturnsReading (json.TakesMemory line.now) result (lines.line_of line.now) }
+pub fn read_line(alloc: Global, forms: Forms, line: &[u8]) -> Result<Change, LineFault>
+    ensures { ReturnsReading (json.TakesMemory line.now) result (lines.line_of forms line.now) }
 {
     let mut scratch = Scratch::new(alloc);
-    match read_deposit(alloc, line, &mut scratch) {
+    match read_deposit(alloc, forms, line, &mut scratch) {
         Some(texts) => deposit_from(alloc, texts),
-        None => read_any(alloc, line),
+        None => read_any(alloc, forms, line),
     }
 }
 
 /// Reads a line of any command, with its members in any order, by its JSON value.
 #[tactic(auto, unfolding(crate::specs::Lines::line_of))]
-fn read_any(alloc: Global, line: &[u8]) -> Result<Change, LineFault>
-    ensures { ReturnsReading (json.TakesMemory line.now) result (lines.line_of line.now) }
+fn read_any(alloc: Global, forms: Forms, line: &[u8]) -> Result<Change, LineFault>
+    ensures { ReturnsReading (json.TakesMemory line.now) result (lines.line_of forms line.now) }
 {
     match read_json(alloc, line)? {
-        Some(value) => read_value(alloc, &value),
+        Some(value) => read_value(alloc, forms, &value),
         None => Err(LineFault::Refused(LineRefusal::BadJson)),
     }
 }
 
 /// The law of the shapes: a value has the shape of a command exactly if it is the JSON object of the command, and is
-/// refused as no command exactly if it is none of these objects. A theorem, proved by an empty function.
+/// refused as no command exactly if it is none of these objects, for records of each of the forms. A theorem, proved by an empty function.
 pub fn shape_law()
     ensures { ShapeLaw }
 {}
 
+/// The law of the forms: with `Fields` no line deposits an element, and none is a put. A theorem, proved by an empty
+/// function.
+pub fn forms_law()
+    ensures lists { (line identifier : List ℕ) (specs : List (List ℕ)) (given : List GivenRecord)
+        → lines.line_of Fields line ≡ Ok (change.Deposit identifier specs given)
+        → lines.are_of_forms Fields given ≡ true }
+    ensures no_put { (line identifier : List ℕ) (specs : List (List ℕ)) (given : List GivenRecord)
+        → lines.line_of Fields line ≡ Ok (change.Put identifier specs given) → ⊥ }
+{}
+
 /// The change that the value requests, by the shape that its members have.
 #[tactic(auto, unfolding(crate::specs::Lines::shape_of))]
-fn read_value(alloc: Global, value: &Value) -> Result<Change, LineFault>
-    ensures { ReturnsReading (has_command_members (view value.now) ≡ true) result
-        (lines.change_asked (lines.shape_of (view value.now))) }
+fn read_value(alloc: Global, forms: Forms, value: &Value) -> Result<Change, LineFault>
+    ensures { ReturnsReading (has_command_members forms (view value.now) ≡ true) result
+        (lines.change_asked (lines.shape_of forms (view value.now))) }
 {
     if has_members(value, &["deposit", "sets", "records"]) {
-        deposit_of(alloc, value)
+        deposit_of(alloc, forms, value)
     } else if has_members(value, &["delete"]) {
         deletion_of(alloc, value)
     } else if has_members(value, &["purge"]) {
         purge_of(alloc, value)
     } else if has_members(value, &["set", "name"]) {
         new_set_of(alloc, value)
+    } else if has_put_members(forms, value) {
+        put_of(alloc, forms, value)
     } else {
         Err(LineFault::Refused(LineRefusal::BadCommand))
     }
 }
 
+/// Whether the value is an object with exactly the members of a put, and a record may be an element.
+fn has_put_members(forms: Forms, value: &Value) -> bool
+    ensures { result ≡ lines.has_put_members forms (view value.now) }
+{
+    match forms {
+        Forms::Fields => false,
+        Forms::Elements => has_members(value, &["put", "sets", "records"]),
+    }
+}
+
 /// The deposit of an object with its members. The whole shape is read before its texts are tested.
 #[tactic(auto, unfolding(crate::specs::Lines::deposit_shape))]
-fn deposit_of(alloc: Global, value: &Value) -> Result<Change, LineFault>
-    ensures { ReturnsReading Anywhere result (lines.change_asked (lines.deposit_shape (view value.now))) }
+fn deposit_of(alloc: Global, forms: Forms, value: &Value) -> Result<Change, LineFault>
+    ensures { ReturnsReading Anywhere result (lines.change_asked (lines.deposit_shape forms (view value.now))) }
 {
     let identifier = command_text(value, "deposit")?;
     let sets = texts_at(alloc, value, "sets")?;
-    let records = records_at(alloc, value)?;
+    let records = records_at(alloc, forms, value)?;
     let texts = DepositTexts {
         identifier,
         sets,
@@ -93,28 +121,70 @@ fn deposit_of(alloc: Global, value: &Value) -> Result<Change, LineFault>
     deposit_from(alloc, texts)
 }
 
+/// The put of an object with its members. The whole shape is read before its texts are tested.
+#[tactic(auto, unfolding(crate::specs::Lines::put_shape))]
+fn put_of(alloc: Global, forms: Forms, value: &Value) -> Result<Change, LineFault>
+    ensures { ReturnsReading Anywhere result (lines.change_asked (lines.put_shape forms (view value.now))) }
+{
+    let identifier = command_text(value, "put")?;
+    let sets = texts_at(alloc, value, "sets")?;
+    let records = records_at(alloc, forms, value)?;
+    let texts = DepositTexts {
+        identifier,
+        sets,
+        records,
+    };
+    put_from(alloc, texts)
+}
+
 /// The deposit of these texts.
 #[tactic(auto, unfolding(crate::specs::Lines::asked_change))]
 fn deposit_from(alloc: Global, texts: DepositTexts<'_>) -> Result<Change, LineFault>
-    ensures { ReturnsReading (may_be_identifier texts.entry.identifier.now ≡ true) result
-        (lines.asked_change (lines.deposits texts.entry.identifier.now
+    ensures { ReturnsReading Anywhere result (lines.asked_change (lines.deposits texts.entry.identifier.now
         (map (λ text. text.now) texts.entry.sets.items) texts.entry.records)) }
+{
+    let (identifier, sets, records) = parts_from(alloc, texts)?;
+    Ok(Change::Deposit {
+        identifier,
+        sets,
+        records,
+    })
+}
+
+/// The put of these texts.
+#[tactic(auto, unfolding(crate::specs::Lines::asked_change))]
+fn put_from(alloc: Global, texts: DepositTexts<'_>) -> Result<Change, LineFault>
+    ensures { ReturnsReading Anywhere result (lines.asked_change (lines.puts texts.entry.identifier.now
+        (map (λ text. text.now) texts.entry.sets.items) texts.entry.records)) }
+{
+    let (identifier, sets, records) = parts_from(alloc, texts)?;
+    Ok(Change::Put {
+        identifier,
+        sets,
+        records,
+    })
+}
+
+/// The identifier, the setSpecs and the records of a deposit of these texts.
+fn parts_from(
+    alloc: Global,
+    texts: DepositTexts<'_>,
+) -> Result<(Identifier, Sequence<SetSpec>, Records), LineFault>
+    ensures { ReturnsReading Anywhere result (lines.asked_parts texts.entry.identifier.now
+        (map (λ text. text.now) texts.entry.sets.items) (lines.elements_read texts.entry.records)) }
 {
     let DepositTexts {
         identifier,
         sets,
         records,
     } = texts;
+    let records = read_elements(alloc, records)?;
     let identifier = identifier_of(alloc, identifier)?;
     let sets = set_specs_of(alloc, sets.as_slice())?;
     if !have_xml_texts(records.as_slice()) {
         return Err(LineFault::Refused(LineRefusal::BadText));
     }
-    Ok(Change::Deposit {
-        identifier,
-        sets,
-        records,
-    })
+    Ok((identifier, sets, records))
 }
 
 /// The deletion of an object with its member.

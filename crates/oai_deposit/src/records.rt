@@ -1,58 +1,87 @@
 ghost use Rattle.std.specs.Prelude.{◌≡◌, true, map, is_some, string_bytes, Some};
-ghost use Rattle.std.specs.List.{list_all};
+ghost use Rattle.std.specs.Option.{option_copied};
 ghost use Rattle.serde_json.specs.Find.{as_object};
 ghost use Rattle.serde_json.specs.View.{view};
-ghost use Rattle.oai_names.specs.Characters.{is_xml_text};
 ghost use Rattle.oai_names.specs.Optional.{each_of};
 ghost use Rattle.oai_deposit.specs.Calls.{Anywhere};
 ghost use Rattle.oai_json.specs.Json as json;
 ghost use Rattle.oai_deposit.specs.Lines as lines;
 ghost use Rattle.oai_deposit.specs.Readings.{Finds};
 
+use crate::deposit_texts::RecordTexts;
 use crate::faults::LineFault;
 use crate::members::text_of;
-use oai_item::{Field, LineRefusal, Records};
+use oai_item::{Field, Forms, Given, LineRefusal};
 use oai_json::elements_of;
-use oai_names::{Sequence, Text, is_xml_text};
+use oai_names::{Sequence, Text};
 use serde_json::Value;
 use std::alloc::Global;
 use std::collections::BTreeMap;
 
-/// The records of the member `records`; `BadCommand` if there is no such member.
+/// The records of the member `records`, of these forms; `BadCommand` if there is no such member.
 #[tactic(auto, unfolding(crate::specs::Lines::records_at))]
-pub(crate) fn records_at(alloc: Global, value: &Value) -> Result<Records, LineFault>
-    ensures { Finds Anywhere result (lines.records_at (view value.now)) }
+pub(crate) fn records_at(
+    alloc: Global,
+    forms: Forms,
+    value: &Value,
+) -> Result<RecordTexts, LineFault>
+    ensures { Finds Anywhere result (lines.records_at forms (view value.now)) }
 {
     match value.get("records") {
-        Some(records) => records_of(alloc, records),
+        Some(records) => records_of(alloc, forms, records),
         None => Err(LineFault::Refused(LineRefusal::BadCommand)),
     }
 }
 
 /// The records of the members of an object; `BadCommand` for any other value. Each text is copied once.
 #[tactic(auto, unfolding(crate::specs::Lines::records_of))]
-fn records_of(alloc: Global, value: &Value) -> Result<Records, LineFault>
+fn records_of(alloc: Global, forms: Forms, value: &Value) -> Result<RecordTexts, LineFault>
     ensures { Finds (is_some (as_object (view value.now)) ≡ true) result
-        (lines.records_of (view value.now)) }
+        (lines.records_of forms (view value.now)) }
 {
     match value {
-        Value::Object(members) => records_in(alloc, members),
+        Value::Object(members) => records_in(alloc, forms, members),
         _ => Err(LineFault::Refused(LineRefusal::BadCommand)),
     }
 }
 
 /// The record of each member, in the order of the prefixes.
 #[tactic(auto, using(oai_json::proofs::ReadingLemmas::starts), unfolding(crate::specs::Lines::record_of))]
-fn records_in(alloc: Global, members: &BTreeMap<String, Value>) -> Result<Records, LineFault>
+fn records_in(
+    alloc: Global,
+    forms: Forms,
+    members: &BTreeMap<String, Value>,
+) -> Result<RecordTexts, LineFault>
     ensures { Finds Anywhere result
-        (each_of lines.record_of (map (λ m. (string_bytes m.0, view m.1)) members.now.entries)) }
+        (each_of (lines.record_of forms) (map (λ m. (string_bytes m.0, view m.1)) members.now.entries)) }
 {
     let mut records = Vec::new(alloc);
-    for (prefix, fields) in members.iter() {
+    for (prefix, given) in members.iter() {
         let prefix = Text::new(alloc, prefix.as_str())?;
-        records.push((prefix, field_list_of(alloc, fields)?))?;
+        records.push((prefix, given_of(alloc, forms, given)?))?;
     }
-    Ok(Records::new(Sequence::new(records)))
+    Ok(RecordTexts::new(Sequence::new(records)))
+}
+
+/// The text of a string, if a record may be an element, or the fields of an array; `BadCommand` for any other value.
+#[tactic(auto, unfolding(crate::specs::Lines::given_read))]
+fn given_of(alloc: Global, forms: Forms, value: &Value) -> Result<Given, LineFault>
+    ensures { Finds Anywhere result (lines.given_read forms (view value.now)) }
+{
+    match element_text(forms, value) {
+        Some(text) => Ok(Given::Whole(Text::new(alloc, text)?)),
+        None => Ok(Given::Listed(field_list_of(alloc, value)?)),
+    }
+}
+
+/// The text of a string, if a record may be an element.
+fn element_text(forms: Forms, value: &Value) -> Option<&str>
+    ensures { option_copied result ≡ lines.element_text forms (view value.now) }
+{
+    match forms {
+        Forms::Fields => None,
+        Forms::Elements => value.as_str(),
+    }
 }
 
 /// The fields of an array; `BadCommand` for any other value.
@@ -111,21 +140,4 @@ pub(crate) fn field_from(alloc: Global, name: &str, text: &str) -> Result<Field,
         name: Text::new(alloc, name)?,
         text: Text::new(alloc, text)?,
     })
-}
-
-/// Whether each text of each field may stand in an XML document.
-#[tactic(auto, unfolding(crate::specs::Lines::have_xml_texts))]
-pub(crate) fn have_xml_texts(records: &[(Text, Sequence<Field>)]) -> bool
-    ensures { result ≡ lines.have_xml_texts records.now }
-{
-    records
-        .iter()
-        .all(|record| are_xml_texts(record.1.as_slice()))
-}
-
-/// Whether the text of each field may stand in an XML document.
-fn are_xml_texts(fields: &[Field]) -> bool
-    ensures { result ≡ list_all (λ field. is_xml_text field.text) fields.now }
-{
-    fields.iter().all(|field| is_xml_text(field.text.as_str()))
 }

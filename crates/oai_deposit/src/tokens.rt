@@ -5,13 +5,14 @@ ghost use Rattle.std.specs.Prelude.{◌≡◌, [], ◌∷◌, ◌++◌, map, tru
 ghost use Rattle.std.specs.List.{flat_map};
 ghost use Rattle.json.specs.Token as token;
 ghost use Rattle.oai_item.specs.Item.{are_rising};
-ghost use Rattle.oai_json.specs.Tokens as json;
+ghost use Rattle.oai_item.specs.declared.givens.Given.TheVariants.{Whole};
+ghost use Rattle.oai_deposit.specs.Lines.{are_of_forms, is_of_forms};
 ghost use Rattle.oai_deposit.specs.Tokens as tokens;
 
-use crate::deposit_texts::DepositTexts;
+use crate::deposit_texts::{DepositTexts, RecordTexts};
 use crate::records::field_from;
-use json::{Reader, Scratch};
-use oai_item::{Field, Records};
+use json::{Reader, Scratch, Token};
+use oai_item::{Field, Forms, Given};
 use oai_json::{
     take_begin_array, take_begin_object, take_end_object, take_key, take_text, take_texts,
 };
@@ -21,19 +22,20 @@ use std::alloc::Global;
 /// The initial capacity for the fields of a record, enough for most records.
 const USUAL_FIELDS: usize = 8;
 
-/// The texts of the deposit in the line. `None` says nothing about the line: it may be a deposit in another order, any
-/// other line, or memory ran out.
+/// The texts of the deposit in the line, with records of these forms. `None` says nothing about the line: it may be a
+/// deposit in another order, any other line, or memory ran out.
 pub(crate) fn read_deposit<'a>(
     alloc: Global,
+    forms: Forms,
     line: &'a [u8],
     scratch: &'a mut Scratch,
 ) -> Option<DepositTexts<'a>>
-    ensures { IfSome result (λ texts. tokens.IsDepositLine line.now
+    ensures { IfSome result (λ texts. tokens.IsDepositLine forms line.now
         texts.identifier.now (map (λ set. set.now) texts.sets.items) texts.records) }
 {
     let text = str::from_utf8(line).ok()?;
     let mut reader = Reader::new(text, scratch).ok()?;
-    let texts = take_deposit(alloc, &mut reader)?;
+    let texts = take_deposit(alloc, forms, &mut reader)?;
     if reader.next().is_some() {
         return None;
     }
@@ -41,8 +43,13 @@ pub(crate) fn read_deposit<'a>(
 }
 
 /// Reads the next deposit.
-fn take_deposit<'a>(alloc: Global, reader: &mut Reader<'a>) -> Option<DepositTexts<'a>>
-    ensures { IfSome result (λ texts. reader.old
+fn take_deposit<'a>(
+    alloc: Global,
+    forms: Forms,
+    reader: &mut Reader<'a>,
+) -> Option<DepositTexts<'a>>
+    ensures formed { IfSome result (λ texts. are_of_forms forms texts.records ≡ true) }
+    ensures taken { IfSome result (λ texts. reader.old
         ≡ tokens.deposit_tokens texts.identifier.now (map (λ set. set.now) texts.sets.items) texts.records
         ++ reader.new) }
 {
@@ -52,7 +59,7 @@ fn take_deposit<'a>(alloc: Global, reader: &mut Reader<'a>) -> Option<DepositTex
     take_key(reader, "sets")?;
     let sets = take_texts(alloc, reader)?;
     take_key(reader, "records")?;
-    let records = take_records(alloc, reader)?;
+    let records = take_records(alloc, forms, reader)?;
     take_end_object(reader)?;
     Some(DepositTexts {
         identifier,
@@ -62,23 +69,26 @@ fn take_deposit<'a>(alloc: Global, reader: &mut Reader<'a>) -> Option<DepositTex
 }
 
 /// Reads the next object of records, whose prefixes rise.
-fn take_records(alloc: Global, reader: &mut Reader<'_>) -> Option<Records>
-    ensures { IfSome result (λ records. reader.old
+fn take_records(alloc: Global, forms: Forms, reader: &mut Reader<'_>) -> Option<RecordTexts>
+    ensures formed { IfSome result (λ records. are_of_forms forms records ≡ true) }
+    ensures taken { IfSome result (λ records. reader.old
         ≡ tokens.records_tokens records ++ reader.new) }
 {
     take_begin_object(reader)?;
     let mut records = Vec::new(alloc);
-    add_records(alloc, reader, &mut records)?;
-    Some(Records::new(Sequence::new(records)))
+    add_records(alloc, forms, reader, &mut records)?;
+    Some(RecordTexts::new(Sequence::new(records)))
 }
 
 /// Reads the records, whose prefixes rise, and the brace after them, into an empty list.
 fn add_records(
     alloc: Global,
+    forms: Forms,
     reader: &mut Reader<'_>,
-    records: &mut Vec<(Text, Sequence<Field>)>,
+    records: &mut Vec<(Text, Given)>,
 ) -> Option<()>
     requires { records.old.items ≡ [] }
+    ensures formed { IfSome result (λ _. are_of_forms forms records.new.items ≡ true) }
     ensures taken { IfSome result (λ _. reader.old
         ≡ flat_map tokens.record_tokens records.new.items ++ token.Token.end_object ∷ reader.new) }
     ensures rising { IfSome result (λ _. are_rising records.new.items ≡ true) }
@@ -88,13 +98,15 @@ fn add_records(
             return None;
         }
         let prefix = Text::new(alloc, prefix).ok()?;
-        records.push((prefix, take_fields(alloc, reader)?)).ok()?;
+        records
+            .push((prefix, take_given(alloc, forms, reader)?))
+            .ok()?;
     }
     Some(())
 }
 
 /// Whether the prefix follows the last one.
-fn may_follow(records: &[(Text, Sequence<Field>)], prefix: &str) -> bool
+fn may_follow(records: &[(Text, Given)], prefix: &str) -> bool
     ensures { result ≡ tokens.may_follow records.now prefix.now }
 {
     match records.last() {
@@ -103,11 +115,34 @@ fn may_follow(records: &[(Text, Sequence<Field>)], prefix: &str) -> bool
     }
 }
 
-/// Reads the next array of fields.
-fn take_fields(alloc: Global, reader: &mut Reader<'_>) -> Option<Sequence<Field>>
-    ensures { IfSome result (λ fields. reader.old ≡ json.array_tokens tokens.field_tokens fields ++ reader.new) }
+/// Reads the next array of fields, or the next text, if a record may be an element.
+fn take_given(alloc: Global, forms: Forms, reader: &mut Reader<'_>) -> Option<Given>
+    ensures formed { IfSome result (λ given. is_of_forms forms given ≡ true) }
+    ensures taken { IfSome result (λ given. reader.old ≡ tokens.given_tokens given ++ reader.new) }
 {
-    take_begin_array(reader)?;
+    match reader.next()? {
+        Token::BeginArray => Some(Given::Listed(take_fields(alloc, reader)?)),
+        Token::String(text) => taken_element(alloc, forms, text),
+        _ => None,
+    }
+}
+
+/// The text as one that is to be an element, if a record may be one.
+fn taken_element(alloc: Global, forms: Forms, text: &str) -> Option<Given>
+    ensures formed { IfSome result (λ given. is_of_forms forms given ≡ true) }
+    ensures whole { IfSome result (λ given. given ≡ Whole text.now) }
+{
+    match forms {
+        Forms::Fields => None,
+        Forms::Elements => Some(Given::Whole(Text::new(alloc, text).ok()?)),
+    }
+}
+
+/// Reads the fields of an array and the bracket after them.
+fn take_fields(alloc: Global, reader: &mut Reader<'_>) -> Option<Sequence<Field>>
+    ensures { IfSome result (λ fields. reader.old
+        ≡ flat_map tokens.field_tokens fields ++ token.Token.end_array ∷ reader.new) }
+{
     let mut fields = Vec::with_capacity(alloc, USUAL_FIELDS).ok()?;
     while !reader.take_end_array() {
         fields.push(take_field(alloc, reader)?).ok()?;

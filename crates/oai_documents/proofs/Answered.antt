@@ -19,7 +19,7 @@ use Rattle.oai_item.specs.Known.{has_format, has_known_fields}
 use Rattle.oai_item.specs.Selection.{selected}
 use Rattle.oai_item.specs.ShortTexts.{is_short_text}
 use Rattle.oai_names.specs.Sets.{has_set}
-use Rattle.oai_item.specs.declared.changes.Change.{Change}
+use Rattle.oai_deposit.specs.declared.changes.Change.{Change}
 use Rattle.oai_item.specs.declared.formats.Format.{Format}
 use Rattle.oai_item.specs.declared.refusals.ChangeRefusal.{ChangeRefusal}
 use Rattle.oai_args.specs.Asks.{AskOrError, asks, bad_argument, bad_verb}
@@ -45,7 +45,7 @@ use Rattle.oai_holdings.specs.Kept.{is_well_kept}
 use Rattle.oai_documents.specs.Answering.{have_namespaces}
 use Rattle.oai_documents.specs.DocumentTrees.{document_tree}
 use Rattle.oai_documents.specs.Schema.{IsOfSchema}
-use Rattle.oai_documents.specs.WellFormed.{HasMembers, HasNamespace, IsFilled, is_foreign, may_be_default}
+use Rattle.oai_documents.specs.WellFormed.{HasMembers, HasNamespace, HasFittingElements, IsFilled, is_foreign, may_be_default}
 use Rattle.oai_documents.proofs.SchemaLemmas.{document_is}
 use Rattle.oai_documents.proofs.WholeTrees.{document_whole}
 
@@ -306,8 +306,8 @@ some_answer passes config d rules is all =
 
 -- ---- what is true of such documents
 
-pub given_whole : (d : Document) → IsGivenDocument may_be_default d → is_whole (document_tree d) ≡ true
-given_whole d given = document_whole d given.regular given.own
+pub given_whole : (d : Document) → IsGivenDocument may_be_default d → HasFittingElements d.answer → is_whole (document_tree d) ≡ true
+given_whole d given room = document_whole d given.regular given.own room
 
 pub given_of_schema : (d : Document) → IsGivenDocument is_foreign d → IsOfSchema (document_tree d)
 given_of_schema d given = document_is d given.regular given.filled given.own

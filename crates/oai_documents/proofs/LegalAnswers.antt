@@ -12,12 +12,13 @@ use Rattle.oai_names.proofs.Lists.{all-filter}
 use Rattle.oai_lists.specs.Tokens.{token_of, token_text}
 use Rattle.oai_lists.specs.declared.tokens.Token.{Token}
 use Rattle.oai_item.specs.Formats.{format_named}
+use Rattle.oai_item.specs.Givens.{GivenRecord, kept as as_kept}
 use Rattle.oai_item.specs.Item.{ItemState, Metadata, emptied, has_record, live_item, tombstone_of}
 use Rattle.oai_item.specs.Items.{item_named, without}
 use Rattle.oai_item.specs.Membership.{distinct, reduced}
 use Rattle.oai_item.specs.Selection.{Filter, passes, selected}
-use Rattle.oai_item.specs.declared.changes.Change.{Change}
-use Rattle.oai_item.specs.declared.changes.Change.TheVariants as change
+use Rattle.oai_deposit.specs.declared.changes.Change.{Change}
+use Rattle.oai_deposit.specs.declared.changes.Change.TheVariants as change
 use Rattle.oai_item.specs.declared.deleted_record.DeletedRecord.{DeletedRecord}
 use Rattle.oai_item.specs.declared.deleted_record.DeletedRecord.TheVariants.{No, Transient, Persistent}
 use Rattle.oai_item.specs.declared.formats.Format.{Format}
@@ -32,7 +33,7 @@ use Rattle.oai_xml.specs.LegalTexts.{is_legal_text}
 use Rattle.oai_xml.specs.Documents.{tree_in}
 use Rattle.oai_settings.specs.Config.{IsConfig, RepositoryConfig}
 use Rattle.oai_repo.specs.Answers.{arguments_of_request, disseminated, filter_of, formats_answer, item_formats_answer, record_answer, sets_answer}
-use Rattle.oai_holdings.specs.Changes.{after_deletion, after_purge, changed, is_past, limit_of, purged, refusal_of, stamp_at, with_new, with_tombstone}
+use Rattle.oai_holdings.specs.Changes.{after_deletion, after_purge, changed, is_held_so, is_past, limit_of, purged, refusal_of, stamp_at, with_new, with_put, with_tombstone}
 use Rattle.oai_repo.specs.Listing.{Response, answer_by_verb, carried_on_at, complete_answer, complete_page, continued_response, extent_at, format_response, has_no_sets, is_continued, is_of_number, items_from, list_response, new_list, next_cursor, opens_list, part_answer, part_from, prolonged, request_response, retry_after, selection_response, token_response, wait_at, where_continued, with_answer}
 use Rattle.oai_repo.specs.Machine.{Command, Outcome, accepted, act, act_on_change, changing, documented, later, outcome_of, refused_with, rejecting, requesting}
 use Rattle.oai_holdings.specs.Holdings.{NamedSet}
@@ -46,7 +47,7 @@ use Rattle.oai_laws.proofs.StandLemmas.{of_found}
 use Rattle.oai_documents.specs.Answering.{have_namespaces}
 use Rattle.oai_documents.specs.DocumentTrees.{document_tree}
 use Rattle.oai_documents.specs.Texts.{are_legal_commands, have_legal_arguments, is_legal_change, is_legal_command, is_legal_config, is_legal_format, is_legal_item, is_legal_record, is_legal_set}
-use Rattle.oai_documents.specs.WellFormed.{may_be_default}
+use Rattle.oai_documents.specs.WellFormed.{HasFittingElements, may_be_default}
 use Rattle.oai_documents.proofs.Answered.{IsGivenDocument, given_whole, some_answer}
 use Rattle.oai_documents.proofs.LegalTrees.{IsLegalAnswer, document_legal, is_legal_token, token_legal}
 use Rattle.oai_documents.proofs.ReadBack.{file_tested, tree_read}
@@ -105,10 +106,10 @@ reduced_legal : (sets : List (List ℕ)) → list_all is_legal_text sets ≡ tru
 unfolding reduced
 reduced_legal sets all = all-filter is_legal_text _ (distinct sets) (distinct_legal sets all)
 
-deposited_legal : (identifier : List ℕ) (stamp : ℤ) (sets : List (List ℕ)) (records : List Metadata) → is_legal_change (change.Deposit identifier sets records) ≡ true
-    → is_legal_item (live_item identifier stamp (reduced sets) records) ≡ true
+deposited_legal : (identifier : List ℕ) (stamp : ℤ) (sets : List (List ℕ)) (records : List GivenRecord) → is_legal_change (change.Deposit identifier sets records) ≡ true
+    → is_legal_item (live_item identifier stamp (reduced sets) (map as_kept records)) ≡ true
 deposited_legal identifier stamp sets records is =
-    let three = and_parts (is_legal_text identifier && list_all is_legal_text sets) (list_all is_legal_record records) is in
+    let three = and_parts (is_legal_text identifier && list_all is_legal_text sets) (list_all is_legal_record (map as_kept records)) is in
     let two = and_parts (is_legal_text identifier) (list_all is_legal_text sets) three.0 in
     both (both two.0 (reduced_legal sets two.1)) three.1
 
@@ -122,6 +123,13 @@ tombstone_legal stamp item is =
 
 new_legal : (item : ItemState) (items : List ItemState) → is_legal_item item ≡ true → list_all is_legal_item items ≡ true → list_all is_legal_item (with_new item items) ≡ true
 new_legal item items is all = all-placed is_legal_item item (without item.identifier items) is (well-without is_legal_item item.identifier items all)
+
+put_legal : (item : ItemState) (items : List ItemState) → is_legal_item item ≡ true → list_all is_legal_item items ≡ true → list_all is_legal_item (with_put item items) ≡ true
+put_legal item items is all = by_test (is_held_so item (item_named item.identifier items))
+  where
+    by_test : (b : Bool) → list_all is_legal_item (cond b items (with_new item items)) ≡ true
+    by_test true = all
+    by_test false = new_legal item items is all
 
 buried_legal : (stamp : ℤ) (identifier : List ℕ) (found : Option ItemState) (items : List ItemState) → item_named identifier items ≡ found → list_all is_legal_item items ≡ true
     → list_all is_legal_item (with_tombstone stamp found items) ≡ true
@@ -144,7 +152,12 @@ changed_legal : (config : RepositoryConfig) (stamp : ℤ) (state : RepoState) (a
     → AreLegal (record state { holdings = changed config stamp state.holdings asked })
 unfolding changed
 changed_legal config stamp state (change.Deposit identifier sets records) is so = record {
-  items = new_legal (live_item identifier stamp (reduced sets) records) state.holdings.items (deposited_legal identifier stamp sets records is) so.items;
+  items = new_legal (live_item identifier stamp (reduced sets) (map as_kept records)) state.holdings.items (deposited_legal identifier stamp sets records is) so.items;
+  sets = so.sets;
+  lists = so.lists;
+}
+changed_legal config stamp state (change.Put identifier sets records) is so = record {
+  items = put_legal (live_item identifier stamp (reduced sets) (map as_kept records)) state.holdings.items (deposited_legal identifier stamp sets records is) so.items;
   sets = so.sets;
   lists = so.lists;
 }
@@ -373,15 +386,16 @@ legal_behind config state (timed ∷ commands) so all held =
 
 -- ---- the bytes of such a document
 
-pub is_read : (d : Document) → IsGivenDocument may_be_default d → IsLegalDocument d → (is_legal_text (document d) ≡ true) × (tree_in (document d) ≡ Some (document_tree d))
+pub is_read : (d : Document) → IsGivenDocument may_be_default d → IsLegalDocument d
+    → (is_legal_text (document d) ≡ true) × (HasFittingElements d.answer → tree_in (document d) ≡ Some (document_tree d))
 is_read d given so =
     let legal = document_legal d so.base so.asked given.regular so.answer in (
-      ap is_legal_text (document_written d) ∙ file_tested (document_tree d) legal,
-      ap tree_in (document_written d) ∙ tree_read (document_tree d) (given_whole d given) legal,
+      ap is_legal_text (document_written d given.regular) ∙ file_tested (document_tree d) legal,
+      λ room. ap tree_in (document_written d given.regular) ∙ tree_read (document_tree d) (given_whole d given room) legal,
     )
 
 pub some_read : (config : RepositoryConfig) (d : Document) (rules : IsConfig config) (is : IsSomeAnswer config d) → have_namespaces may_be_default config ≡ true → is_legal_config config ≡ true
-    → are_legal_commands is.commands ≡ true → (is_legal_text (document d) ≡ true) × (tree_in (document d) ≡ Some (document_tree d))
+    → are_legal_commands is.commands ≡ true → (is_legal_text (document d) ≡ true) × (HasFittingElements d.answer → tree_in (document d) ≡ Some (document_tree d))
 some_read config d rules is all so commands =
     is_read d (some_answer may_be_default config d rules is all)
     (subst IsLegalOutcome is.told (legal_part config is.commands (empty_state config) (is.exchange ∷ []) so commands (legal_empty config) is.among).0)

@@ -29,25 +29,31 @@ use Rattle.oai_names.specs.declared.list_verbs.ListVerb.{ListVerb}
 use Rattle.oai_names.specs.declared.list_verbs.ListVerb.TheVariants as list
 use Rattle.oai_names.proofs.Lists.{all-filter, all-weaker}
 use Rattle.oai_time.specs.declared.granularity.Granularity.{Granularity}
-use Rattle.oai_item.specs.Item.{Metadata}
+use Rattle.oai_item.specs.Elements.{element_field}
+use Rattle.oai_item.specs.Givens.{GivenRecord, kept, kept_fields}
+use Rattle.oai_item.specs.declared.forms.Forms.{Forms}
+use Rattle.oai_item.specs.declared.givens.Given.{Given}
+use Rattle.oai_item.specs.declared.givens.Given.TheVariants.{Listed, Whole}
 use Rattle.oai_item.specs.ShortTexts.{is_short_text}
-use Rattle.oai_item.specs.declared.changes.Change.{Change}
-use Rattle.oai_item.specs.declared.changes.Change.TheVariants as change
+use Rattle.oai_deposit.specs.declared.changes.Change.{Change}
+use Rattle.oai_deposit.specs.declared.changes.Change.TheVariants as change
 use Rattle.oai_item.specs.declared.fields.Field.{Field}
 use Rattle.oai_item.specs.declared.refusals.LineRefusal.{LineRefusal}
 use Rattle.oai_item.specs.declared.refusals.LineRefusal.TheVariants.{BadIdentifier, BadSetSpec, BadText}
 use Rattle.oai_json.specs.Json.{items_of, json_in, members_of}
-use Rattle.oai_deposit.specs.Lines.{Shape, adds_set, asked_change, change_asked, deletes, deposits, have_xml_texts, line_of, purges, shape_of, value_asked}
-use Rattle.oai_deposit.specs.Shapes.{IsShape, written_field, written_record, written_records}
+use Rattle.oai_deposit.specs.Lines.{Parts, Shape, adds_set, as_deposit, as_given, as_put, asked_change, asked_parts, before_others, change_asked, deletes, deposits, puts, elements_read, given_element, have_xml_texts, line_of, purges, read_as_element, shape_of, value_asked}
+use Rattle.oai_deposit.specs.Shapes.{IsShape, written_field, written_given, written_record, written_records}
 use Rattle.oai_deposit.proofs.ShapeLemmas.{shape_law_holds}
-use Rattle.oai_args.specs.Arguments.{given, given_of}
+use Rattle.oai_args.specs.Arguments.{given, occurrence_of}
 use Rattle.oai_args.specs.Asks.{AskOrError, IsAskOrError, asks, at_most_once, bad_argument, bad_verb}
 use Rattle.oai_args.specs.Pairs.{Pair, decoded_pair, decoded_pairs, decoded_text, has_xml_values, values_of}
 use Rattle.oai_args.specs.Requests.{request_of}
 use Rattle.oai_args.specs.Verbs.{name_of, verb_of_list}
 use Rattle.oai_args.specs.declared.requests.Ask.TheVariants as ask
 use Rattle.oai_args.proofs.RequestLemmas.{gives_the_answer}
+use Rattle.oai_xml.specs.Documents.{canonical}
 use Rattle.oai_xml.specs.LegalTexts.{is_legal_text}
+use Rattle.oai_item.proofs.ElementLemmas.{canonical_element}
 use Rattle.oai_xml.proofs.LegalSpellings.{is_plain}
 use Rattle.oai_repo.specs.Answers.{arguments_of_request}
 use Rattle.oai_repo.specs.Machine.{command_of, line, query}
@@ -191,39 +197,100 @@ fields_legal (field ∷ fields) is all =
     let parts = and_parts (is_xml_text field.text) (list_all (λ (field : Field). is_xml_text field.text) fields) all in
     both (field_legal field texts.0 parts.0) (fields_legal fields texts.1 parts.1)
 
-records_legal : (records : List Metadata) → are_text_values (members_of (map written_record records)) ≡ true → have_xml_texts records ≡ true → list_all is_legal_record records ≡ true
-unfolding have_xml_texts
-records_legal [] is all = refl
-records_legal (r ∷ records) is all =
-    let texts = and_parts (is_text_data (written_record r).1) (are_text_values (members_of (map written_record records))) is in
-    let parts = and_parts (list_all (λ (field : Field). is_xml_text field.text) r.1) (have_xml_texts records) all in
-    both (fields_legal r.1 texts.0 parts.0) (records_legal records texts.1 parts.1)
+-- the canonical text of an element is in UTF-8
+element_legal : (text element : List ℕ) → canonical text ≡ Ok element → is_xml_text element ≡ true → is_legal_text element ≡ true
+element_legal text element is characters = both (is_utf8-from_IsUtf8 element (canonical_element text element is).1.utf8) characters
+
+-- what is given for a format, and how an item keeps it
+given_legal : (written given : Given) → is_text_data (written_given written) ≡ true → given_element written ≡ Ok given
+    → list_all (λ (field : Field). is_xml_text field.text) (kept_fields given) ≡ true → list_all is_legal_field (kept_fields given) ≡ true
+given_legal (Listed fields) given texts is all =
+    let same : Listed fields ≡ given = cc in
+    subst (λ (w : Given). list_all is_legal_field (kept_fields w) ≡ true) same
+    (fields_legal fields texts (subst (λ (w : Given). list_all (λ (field : Field). is_xml_text field.text) (kept_fields w) ≡ true) (sym same) all))
+given_legal (Whole text) given texts is all = by_canonical (canonical text) refl is
+  where
+    by_canonical : (c : Result (List ℕ) ℕ) → canonical text ≡ c → as_given (read_as_element c) ≡ Ok given → list_all is_legal_field (kept_fields given) ≡ true
+    by_canonical (Ok element) found is =
+        let same : Whole element ≡ given = cc in
+        let characters : list_all (λ (field : Field). is_xml_text field.text) (element_field element ∷ []) ≡ true =
+        subst (λ (w : Given). list_all (λ (field : Field). is_xml_text field.text) (kept_fields w) ≡ true) (sym same) all in
+        subst (λ (w : Given). list_all is_legal_field (kept_fields w) ≡ true) same
+        (both (element_legal text element found (and_parts (is_xml_text element) true characters).0) refl)
+    by_canonical (Err at) found is = cc
+
+records_legal : (written given : List GivenRecord) → are_text_values (members_of (map written_record written)) ≡ true → elements_read written ≡ Ok given
+    → have_xml_texts (map kept given) ≡ true → list_all is_legal_record (map kept given) ≡ true
+unfolding have_xml_texts elements_read
+records_legal [] [] texts is all = refl
+records_legal [] (r ∷ given) texts is all = cc
+records_legal (w ∷ written) given texts is all =
+    let parts = and_parts (is_text_data (written_record w).1) (are_text_values (members_of (map written_record written))) texts in
+    by_parts (λ gs later fine. records_legal written gs parts.1 later fine) (given_element w.1) (elements_read written) refl refl is
+  where
+    by_parts : ((gs : List GivenRecord) → elements_read written ≡ Ok gs → have_xml_texts (map kept gs) ≡ true → list_all is_legal_record (map kept gs) ≡ true)
+        → (one : Result Given LineRefusal) (others : Result (List GivenRecord) LineRefusal) → given_element w.1 ≡ one → elements_read written ≡ others
+        → before_others w.0 one others ≡ Ok given → list_all is_legal_record (map kept given) ≡ true
+    by_parts legal_others (Ok g) (Ok gs) first later is =
+        let same : (w.0, g) ∷ gs ≡ given = cc in
+        let parts = and_parts (is_text_data (written_record w).1) (are_text_values (members_of (map written_record written))) texts in
+        let fine : have_xml_texts (map kept ((w.0, g) ∷ gs)) ≡ true = subst (λ (rs : List GivenRecord). have_xml_texts (map kept rs) ≡ true) (sym same) all in
+        let each = and_parts (list_all (λ (field : Field). is_xml_text field.text) (kept_fields g)) (have_xml_texts (map kept gs)) fine in
+        subst (λ (rs : List GivenRecord). list_all is_legal_record (map kept rs) ≡ true) same
+        (both (given_legal w.1 g parts.0 first each.0) (legal_others gs later each.1))
+    by_parts legal_others (Ok g) (Err cause) first later is = cc
+    by_parts legal_others (Err cause) others first later is = cc
 
 pub short_characters : (text : List ℕ) → is_short_text text ≡ true → is_xml_text text ≡ true
 unfolding is_short_text
 short_characters text is = (and_parts _ (is_xml_text text) is).1
 
-asked_legal : (shape : Shape) (d : Data) (asked : Change) → IsShape shape d → is_text_data d ≡ true → asked_change shape ≡ Ok asked → is_legal_change asked ≡ true
-unfolding asked_change
-asked_legal (deposits identifier sets records) d asked shape text is = by_tests (may_be_identifier identifier) (list_all may_be_set_spec sets) (have_xml_texts records) refl refl refl is
+-- the parts of a deposit, whose texts are tested
+parts_legal : (d : Data) (written : List GivenRecord) (identifier : List ℕ) (sets : List (List ℕ)) (parts : Parts) → get (codes "records") d ≡ Some (written_records written) → is_text_data d ≡ true
+    → asked_parts identifier sets (elements_read written) ≡ Ok parts → is_legal_change (change.Deposit parts.0 parts.1 parts.2) ≡ true
+parts_legal d written identifier sets parts found text is = by_elements (elements_read written) refl is
   where
-    by_tests : (a b c : Bool) → may_be_identifier identifier ≡ a → list_all may_be_set_spec sets ≡ b → have_xml_texts records ≡ c
-        → cond (not a) (Err BadIdentifier) (cond (not b) (Err BadSetSpec) (cond (not c) (Err BadText) (Ok (change.Deposit identifier sets records)))) ≡ Ok asked → is_legal_change asked ≡ true
-    by_tests true true true named specs texts is =
-        let same : change.Deposit identifier sets records ≡ asked = cc in
-        let written : is_text_data (written_records records) ≡ true = found_text (codes "records") d (written_records records) text shape.records in
-        subst (λ (c : Change). is_legal_change c ≡ true) same
-        (both (both (identifier_legal identifier named) (all-weaker may_be_set_spec is_legal_text set_spec_legal sets specs)) (records_legal records written texts))
-    by_tests true true false named specs texts is = cc
-    by_tests true false c named specs texts is = cc
-    by_tests false b c named specs texts is = cc
-asked_legal (deletes identifier) d asked shape text is = by_test (may_be_identifier identifier) is
+    by_tests : (records : List GivenRecord) (a b c : Bool) → elements_read written ≡ Ok records
+        → may_be_identifier identifier ≡ a → list_all may_be_set_spec sets ≡ b → have_xml_texts (map kept records) ≡ c
+        → cond (not a) (Err BadIdentifier) (cond (not b) (Err BadSetSpec) (cond (not c) (Err BadText) (Ok (identifier, sets, records)))) ≡ Ok parts
+        → is_legal_change (change.Deposit parts.0 parts.1 parts.2) ≡ true
+    by_tests records true true true read named specs texts is =
+        let whole : Parts = (identifier, sets, records) in
+        let same : whole ≡ parts = cc in
+        let told : is_text_data (written_records written) ≡ true = found_text (codes "records") d (written_records written) text found in
+        subst (λ (p : Parts). is_legal_change (change.Deposit p.0 p.1 p.2) ≡ true) same
+        (both (both (identifier_legal identifier named) (all-weaker may_be_set_spec is_legal_text set_spec_legal sets specs)) (records_legal written records told read texts))
+    by_tests records true true false read named specs texts is = cc
+    by_tests records true false c read named specs texts is = cc
+    by_tests records false b c read named specs texts is = cc
+
+    by_elements : (r : Result (List GivenRecord) LineRefusal) → elements_read written ≡ r → asked_parts identifier sets r ≡ Ok parts → is_legal_change (change.Deposit parts.0 parts.1 parts.2) ≡ true
+    by_elements (Ok records) read is = by_tests records (may_be_identifier identifier) (list_all may_be_set_spec sets) (have_xml_texts (map kept records)) read refl refl refl is
+    by_elements (Err cause) read is = cc
+
+asked_legal : (forms : Forms) (shape : Shape) (d : Data) (asked : Change) → IsShape forms shape d → is_text_data d ≡ true → asked_change shape ≡ Ok asked → is_legal_change asked ≡ true
+unfolding asked_change
+asked_legal forms (deposits identifier sets written) d asked shape text is = by_parts (asked_parts identifier sets (elements_read written)) refl is
+  where
+    by_parts : (r : Result Parts LineRefusal) → asked_parts identifier sets (elements_read written) ≡ r → as_deposit r ≡ Ok asked → is_legal_change asked ≡ true
+    by_parts (Ok parts) read is =
+        let same : change.Deposit parts.0 parts.1 parts.2 ≡ asked = cc in
+        subst (λ (c : Change). is_legal_change c ≡ true) same (parts_legal d written identifier sets parts shape.records text read)
+    by_parts (Err cause) read is = cc
+asked_legal forms (puts identifier sets written) d asked shape text is = by_parts (asked_parts identifier sets (elements_read written)) refl is
+  where
+    by_parts : (r : Result Parts LineRefusal) → asked_parts identifier sets (elements_read written) ≡ r → as_put r ≡ Ok asked → is_legal_change asked ≡ true
+    by_parts (Ok parts) read is =
+        let same : change.Put parts.0 parts.1 parts.2 ≡ asked = cc in
+        subst (λ (c : Change). is_legal_change c ≡ true) same (parts_legal d written identifier sets parts shape.records text read)
+    by_parts (Err cause) read is = cc
+asked_legal forms (deletes identifier) d asked shape text is = by_test (may_be_identifier identifier) is
   where
     by_test : (a : Bool) → cond a (Ok (change.Delete identifier)) (Err BadIdentifier) ≡ Ok asked → is_legal_change asked ≡ true
     by_test true is = let same : change.Delete identifier ≡ asked = cc in subst (λ (c : Change). is_legal_change c ≡ true) same refl
     by_test false is = cc
-asked_legal (purges before) d asked shape text is = let same : change.Purge before ≡ asked = cc in subst (λ (c : Change). is_legal_change c ≡ true) same refl
-asked_legal (adds_set spec name) d asked shape text is = by_tests (may_be_set_spec spec) (is_short_text name) refl refl is
+asked_legal forms (purges before) d asked shape text is = let same : change.Purge before ≡ asked = cc in subst (λ (c : Change). is_legal_change c ≡ true) same refl
+asked_legal forms (adds_set spec name) d asked shape text is = by_tests (may_be_set_spec spec) (is_short_text name) refl refl is
   where
     by_tests : (a b : Bool) → may_be_set_spec spec ≡ a → is_short_text name ≡ b → cond (not a) (Err BadSetSpec) (cond (not b) (Err BadText) (Ok (change.AddSet spec name))) ≡ Ok asked → is_legal_change asked ≡ true
     by_tests true true named short is =
@@ -233,24 +300,24 @@ asked_legal (adds_set spec name) d asked shape text is = by_tests (may_be_set_sp
     by_tests true false named short is = cc
     by_tests false b named short is = cc
 
-line_legal : (text : List ℕ) (asked : Change) → line_of text ≡ Ok asked → is_legal_change asked ≡ true
+line_legal : (forms : Forms) (text : List ℕ) (asked : Change) → line_of forms text ≡ Ok asked → is_legal_change asked ≡ true
 unfolding line_of json_in
-line_legal text asked is = by_json (is_utf8 text) (read text) refl refl is
+line_legal forms text asked is = by_json (is_utf8 text) (read text) refl refl is
   where
-    by_shape : (d : Data) (shape : Option Shape) → shape_of d ≡ shape → is_text_data d ≡ true → change_asked shape ≡ Ok asked → is_legal_change asked ≡ true
+    by_shape : (d : Data) (shape : Option Shape) → shape_of forms d ≡ shape → is_text_data d ≡ true → change_asked shape ≡ Ok asked → is_legal_change asked ≡ true
     by_shape d None found its is = cc
-    by_shape d (Some shape) found its is = asked_legal shape d asked (((shape_law_holds d).fits shape).0 found) its is
+    by_shape d (Some shape) found its is = asked_legal forms shape d asked (((shape_law_holds forms d).fits shape).0 found) its is
 
-    by_json : (t : Bool) (r : Option Data) → is_utf8 text ≡ t → read text ≡ r → value_asked (cond t r None) ≡ Ok asked → is_legal_change asked ≡ true
-    by_json true (Some d) utf8 found is = by_shape d (shape_of d) refl (read_text text d (IsUtf8-from_is_utf8 text utf8) found) is
+    by_json : (t : Bool) (r : Option Data) → is_utf8 text ≡ t → read text ≡ r → value_asked forms (cond t r None) ≡ Ok asked → is_legal_change asked ≡ true
+    by_json true (Some d) utf8 found is = by_shape d (shape_of forms d) refl (read_text text d (IsUtf8-from_is_utf8 text utf8) found) is
     by_json true None utf8 found is = cc
     by_json false r utf8 found is = cc
 
-pub line_command : (g : Granularity) (text : List ℕ) → is_legal_command (command_of g (line (line_of text))) ≡ true
-line_command g text = by_read (line_of text) refl
+pub line_command : (g : Granularity) (forms : Forms) (text : List ℕ) → is_legal_command (command_of g (line (line_of forms text))) ≡ true
+line_command g forms text = by_read (line_of forms text) refl
   where
-    by_read : (r : Result Change LineRefusal) → line_of text ≡ r → is_legal_command (command_of g (line r)) ≡ true
-    by_read (Ok asked) is = line_legal text asked is
+    by_read : (r : Result Change LineRefusal) → line_of forms text ≡ r → is_legal_command (command_of g (line r)) ≡ true
+    by_read (Ok asked) is = line_legal forms text asked is
     by_read (Err cause) is = refl
 
 -- ---- bytes with U+FFFD for what is not UTF-8
@@ -355,7 +422,7 @@ of_values : (pairs : List Pair) → are_legal_values pairs ≡ true → list_all
 of_values [] all = refl
 of_values (pair ∷ pairs) all = let parts = and_parts (is_legal_text pair.1) (are_legal_values pairs) all in both parts.0 (of_values pairs parts.1)
 
-once_legal : (values : List (List ℕ)) (value : List ℕ) → list_all is_legal_text values ≡ true → given_of values ≡ at_most_once (Some value) → is_legal_text value ≡ true
+once_legal : (values : List (List ℕ)) (value : List ℕ) → list_all is_legal_text values ≡ true → occurrence_of values ≡ at_most_once (Some value) → is_legal_text value ≡ true
 once_legal [] value all is = cc
 once_legal (v ∷ []) value all is = let same : v ≡ value = cc in subst (λ (w : List ℕ). is_legal_text w ≡ true) same (and_parts (is_legal_text v) true all).0
 once_legal (v ∷ other ∷ values) value all is = cc

@@ -1,8 +1,8 @@
 -- Where the texts of a document are legal, its tree is.
-use Rattle.std.proofs.Common.{◌≡◌, ◌∙◌, ◌+◌, ◌<◌, inl, inr, ℕ, ℤ, Bool, true, false, ◌&&◌, not, eqb, cond, List, [], ◌∷◌, ◌++◌, map, codes, Option, None, Some, refl, sym, ap, arith}
+use Rattle.std.proofs.Common.{◌≡◌, ◌∙◌, ◌+◌, ◌<◌, inl, inr, ℕ, ℤ, Bool, true, false, ◌&&◌, ◌||◌, not, eqb, cond, List, [], ◌∷◌, ◌++◌, map, codes, Option, None, Some, refl, sym, ap, subst, arith}
 use Rattle.std.specs.Fmt.{decimal}
-use Rattle.std.specs.Prelude.{find}
-use Rattle.std.specs.List.{list_all}
+use Rattle.std.specs.Prelude.{find, option_and_then}
+use Rattle.std.specs.List.{flat_map, list_all}
 use Rattle.std.specs.Str.{bytes_eq}
 use Rattle.std.proofs.lemmas.Bool.{and_parts, cases_Bool, eq-eqb, eqb-true, true≢false}
 use Rattle.std.proofs.lemmas.Bool.Decides.{nat_tests}
@@ -15,6 +15,9 @@ use Rattle.oai_time.specs.declared.granularity.Granularity.TheVariants.{Day, Sec
 use Rattle.oai_lists.specs.Tokens.{token_text}
 use Rattle.oai_lists.specs.declared.tokens.Token.{Token}
 use Rattle.oai_item.specs.Formats.{dublin_core}
+use Rattle.oai_item.specs.Elements.{element_in, keeps_element_of}
+use Rattle.oai_item.specs.Known.{are_fields_of, are_listed_in}
+use Rattle.oai_item.proofs.GivenLemmas.{kept_element}
 use Rattle.oai_item.specs.Item.{ItemState, Metadata, fields_in, fields_of, record_named}
 use Rattle.oai_item.specs.declared.deleted_record.DeletedRecord.{DeletedRecord}
 use Rattle.oai_item.specs.declared.deleted_record.DeletedRecord.TheVariants.{No, Transient, Persistent}
@@ -28,13 +31,20 @@ use Rattle.oai_answers.specs.declared.errors.ErrorCode.TheVariants.{BadVerb, Bad
 use Rattle.oai_answers.specs.declared.tokens.Extent.{Extent}
 use Rattle.oai_answers.proofs.Printed.{IsNoTime, datestamp_lacks, decimal_lacks, second_lacks}
 use Rattle.oai_xml.specs.Ascii.{is_ascii_ncname}
-use Rattle.oai_xml.specs.LegalTexts.{are_elements_legal, is_legal_attribute, is_legal_tag, is_legal_text, is_legal_tree, leading_text}
+use Rattle.oai_xml.specs.LegalTexts.{are_elements_legal, is_legal_attribute, is_legal_tag, is_legal_text, leading_text}
 use Rattle.oai_xml.specs.QNames.{is_ascii_further}
-use Rattle.oai_xml.specs.Trees.{Attribute, Tree, text_of}
-use Rattle.oai_xml.proofs.LegalSpellings.{both as both_legal, is_plain, legal, plain, tested}
+use Rattle.oai_xml.specs.Documents.{tree_in}
+use Rattle.oai_xml.specs.Trees.{Attribute, Tree, end_tag, spelled, spelled_content, start_tag, text_of}
+use Rattle.oai_xml.specs.Whole.{IsElement}
+use Rattle.oai_xml.proofs.CanonicalLemmas.{element_tested, tree_again}
+use Rattle.oai_xml.proofs.Spellings.{tree_spelled}
+use Rattle.oai_xml.proofs.LegalSpellings.{Legal, both as both_legal, end_legal, is_plain, legal, nothing_legal, plain, spelled_legal, start_legal, tested}
 use Rattle.oai_holdings.specs.Holdings.{NamedSet}
-use Rattle.oai_documents.specs.Elements.{bare_leaf, bare_parent, element_attribute, in_order, leaf, parent}
-use Rattle.oai_documents.specs.DocumentTrees.{answer_tree, argument_attribute, arguments, declared_attributes, declared_tree, document_tree, dublin_core_attributes, dublin_core_tree, error_tree, extent, field_tree, format_tree, formats_tree, header_tree, headers_tree, identify_tree, instance_namespace, metadata_parts, metadata_tree, record_tree, records_tree, request_tree, root_attributes, set_tree, sets_tree, status, token_trees}
+use Rattle.oai_answers.specs.ElementParts.{bare_leaf, bare_parent, element_attribute, in_order, leaf, parent}
+use Rattle.oai_documents.specs.DocumentTrees.{answer_tree, argument_attribute, arguments, document_tree, error_tree, extent, format_tree, formats_tree, header_tree, headers_tree, identify_tree, metadata_parts, record_tree, records_tree, request_tree, root_attributes, set_tree, sets_tree, status, token_trees}
+use Rattle.oai_answers.specs.MetadataTrees.{declared_attributes, declared_tree, dublin_core_attributes, dublin_core_tree, field_tree, fields_tree, instance_namespace, metadata_tree, tree_or}
+use Rattle.oai_answers.proofs.NamedTrees.{canonical_so, kept_so}
+use Rattle.oai_answers.proofs.Written.{in_order_spelled}
 use Rattle.oai_documents.specs.Texts.{have_legal_arguments, is_legal_argument, is_legal_field, is_legal_format, is_legal_item, is_legal_record, is_legal_set}
 use Rattle.oai_documents.proofs.Names.{all_further, rule_name}
 use Rattle.oai_documents.proofs.Tags.{both}
@@ -115,8 +125,12 @@ name_plain name is = all-weaker is_ascii_further is_plain further_plain name (al
 
 -- ---- elements
 
+-- the bytes of an element are legal
+abbrev pub is_fine : Tree → Bool
+is_fine t = is_legal_text (spelled t)
+
 abbrev IsFine : Tree → Type 0
-IsFine t = is_legal_tree t ≡ true
+IsFine t = is_fine t ≡ true
 
 text_first : (text : List ℕ) → leading_text (text_of text) ≡ text
 unfolding text_of leading_text
@@ -128,22 +142,19 @@ unfolding text_of are_elements_legal
 text_alone [] = refl
 text_alone (b ∷ text) = text_alone text
 
-in_order_first : (trees : List Tree) → IsText (leading_text (in_order trees))
-unfolding in_order leading_text
-in_order_first [] = no_text
-in_order_first (t ∷ trees) = no_text
-
-in_order_legal : (trees : List Tree) → list_all is_legal_tree trees ≡ true → are_elements_legal (in_order trees) ≡ true
-unfolding in_order are_elements_legal
-in_order_legal [] all = refl
-in_order_legal (t ∷ trees) all =
-    let parts = and_parts (is_legal_tree t) (list_all is_legal_tree trees) all in both parts.0 (both (in_order_first trees) (in_order_legal trees parts.1))
+trees_legal : (trees : List Tree) → list_all is_fine trees ≡ true → Legal (flat_map spelled trees)
+trees_legal [] all = nothing_legal
+trees_legal (t ∷ trees) all =
+    let parts = and_parts (is_fine t) (list_all is_fine trees) all in both_legal (spelled t) (flat_map spelled trees) (legal (spelled t) parts.0) (trees_legal trees parts.1)
 
 leaf_legal : (name : List ℕ) (attributes : List Attribute) (text : List ℕ) → is_legal_tag name attributes ≡ true → IsText text → IsFine (leaf name attributes text)
-leaf_legal name attributes text tag is = both tag (both (ap is_legal_text (text_first text) ∙ is) (text_alone text))
+leaf_legal name attributes text tag is = spelled_legal (leaf name attributes text) (both tag (both (ap is_legal_text (text_first text) ∙ is) (text_alone text)))
 
-parent_legal : (name : List ℕ) (attributes : List Attribute) (trees : List Tree) → is_legal_tag name attributes ≡ true → list_all is_legal_tree trees ≡ true → IsFine (parent name attributes trees)
-parent_legal name attributes trees tag all = both tag (both (in_order_first trees) (in_order_legal trees all))
+parent_legal : (name : List ℕ) (attributes : List Attribute) (trees : List Tree) → is_legal_tag name attributes ≡ true → list_all is_fine trees ≡ true → IsFine (parent name attributes trees)
+parent_legal name attributes trees tag all =
+    tested (spelled (parent name attributes trees)) (subst Legal (sym (tree_spelled (parent name attributes trees)))
+    (both_legal (start_tag name attributes) _ (start_legal name attributes tag)
+    (both_legal (spelled_content (in_order trees)) (end_tag name) (subst Legal (sym (in_order_spelled trees)) (trees_legal trees all)) (end_legal name attributes tag))))
 
 bare_tag : (name : List ℕ) → list_all is_plain name ≡ true → is_legal_tag name [] ≡ true
 bare_tag name is = both (plain_text name is) refl
@@ -151,18 +162,18 @@ bare_tag name is = both (plain_text name is) refl
 fine_leaf : (name text : List ℕ) → list_all is_plain name ≡ true → IsText text → IsFine (bare_leaf name text)
 fine_leaf name text is legal_so = leaf_legal name [] text (bare_tag name is) legal_so
 
-fine_parent : (name : List ℕ) (trees : List Tree) → list_all is_plain name ≡ true → list_all is_legal_tree trees ≡ true → IsFine (bare_parent name trees)
+fine_parent : (name : List ℕ) (trees : List Tree) → list_all is_plain name ≡ true → list_all is_fine trees ≡ true → IsFine (bare_parent name trees)
 fine_parent name trees is all = parent_legal name [] trees (bare_tag name is) all
 
 fine_attribute : (name value : List ℕ) → list_all is_plain name ≡ true → IsText value → is_legal_attribute (element_attribute name value) ≡ true
 fine_attribute name value is legal_so = both (plain_text name is) legal_so
 
-each_fine : {A : Type 0} (tree : A → Tree) (good : A → Bool) → ((a : A) → good a ≡ true → IsFine (tree a)) → (xs : List A) → list_all good xs ≡ true → list_all is_legal_tree (map tree xs) ≡ true
+each_fine : {A : Type 0} (tree : A → Tree) (good : A → Bool) → ((a : A) → good a ≡ true → IsFine (tree a)) → (xs : List A) → list_all good xs ≡ true → list_all is_fine (map tree xs) ≡ true
 each_fine tree good is [] all = refl
 each_fine tree good is (x ∷ xs) all = let parts = and_parts (good x) (list_all good xs) all in both (is x parts.0) (each_fine tree good is xs parts.1)
 
-and_more : (xs ys : List Tree) → list_all is_legal_tree xs ≡ true → list_all is_legal_tree ys ≡ true → list_all is_legal_tree (xs ++ ys) ≡ true
-and_more xs ys first second = list_all-append is_legal_tree xs ys ∙ both first second
+and_more : (xs ys : List Tree) → list_all is_fine xs ≡ true → list_all is_fine ys ≡ true → list_all is_fine (xs ++ ys) ≡ true
+and_more xs ys first second = list_all-append is_fine xs ys ∙ both first second
 
 -- ---- the request and errors
 
@@ -341,13 +352,34 @@ declared_fine format fields good is all =
     parent_legal format.root (declared_attributes format) (map (field_tree []) fields) (both (plain_text format.root (root_plain format good)) (declared_legal format is))
     (each_fine (field_tree []) is_good_field (λ field so. field_fine [] field refl so) fields all)
 
-metadata_fine : (format : Format) (fields : List Field) → IsGoodFormat format → is_legal_format format ≡ true → list_all is_good_field fields ≡ true → IsFine (metadata_tree format fields)
-unfolding metadata_tree
-metadata_fine format fields good is all = by_test (bytes_eq format.prefix (codes "oai_dc"))
+fields_fine : (format : Format) (fields : List Field) → IsGoodFormat format → is_legal_format format ≡ true → list_all is_good_field fields ≡ true → IsFine (fields_tree format fields)
+unfolding fields_tree
+fields_fine format fields good is all = by_test (bytes_eq format.prefix (codes "oai_dc"))
   where
     by_test : (b : Bool) → IsFine (cond b (dublin_core_tree fields) (declared_tree format fields))
     by_test true = dublin_core_fine fields all
     by_test false = declared_fine format fields good is all
+
+-- the text of an element is its spelling
+element_fine : (fields : Tree) (text : List ℕ) (e : IsElement text) → IsText text → IsFine (tree_or fields (tree_in text))
+element_fine fields text e is = ap (λ o. is_fine (tree_or fields o)) (tree_again text e.0 e.1) ∙ ap is_legal_text (sym e.1.bytes_are) ∙ is
+
+only_listed : (b : Bool) → (b || false) ≡ true → b ≡ true
+only_listed true h = refl
+only_listed false h = h
+
+metadata_fine : (format : Format) (fields : List Field) → IsGoodFormat format → is_legal_format format ≡ true → are_fields_of (Some format) fields ≡ true → list_all is_legal_field fields ≡ true
+    → IsFine (metadata_tree format fields)
+unfolding metadata_tree
+metadata_fine format fields good is own all = by_element (element_in fields) refl
+  where
+    by_element : (o : Option (List ℕ)) → element_in fields ≡ o → IsFine (tree_or (fields_tree format fields) (option_and_then tree_in o))
+    by_element None none =
+        let listed : are_listed_in format fields ≡ true = only_listed (are_listed_in format fields) (ap (λ o. are_listed_in format fields || keeps_element_of format o) (sym none) ∙ own) in
+        fields_fine format fields good is (all_and is_named_field is_legal_field fields (fields_named format fields good listed) all)
+    by_element (Some text) found =
+        let legal_so : (is_legal_text text && true) ≡ true = ap (list_all is_legal_field) (sym (kept_element fields text found)) ∙ all in
+        element_fine (fields_tree format fields) text (element_tested text (canonical_so format text (kept_so format fields text good found own))) (and_parts (is_legal_text text) true legal_so).0
 
 -- ---- headers and records
 
@@ -378,19 +410,19 @@ found_legal prefix (r ∷ records) all =
     by_test false here later = later
 
 part_fine : (format : Format) (item : ItemState) → IsGoodFormat format → is_legal_format format ≡ true → has_own_fields format item ≡ true → is_legal_item item ≡ true
-    → list_all is_legal_tree (metadata_parts format item) ≡ true
+    → list_all is_fine (metadata_parts format item) ≡ true
 unfolding metadata_parts
 part_fine format item good is own legal_so = by_test item.live
   where
     fields : List Field
     fields = fields_in format.prefix item.formats
 
-    all : list_all is_good_field fields ≡ true
-    all = all_and is_named_field is_legal_field fields (fields_named format fields good own)
+    all : list_all is_legal_field fields ≡ true
+    all =
         (found_legal format.prefix item.formats (and_parts (is_legal_text item.identifier && list_all is_legal_text item.sets) (list_all is_legal_record item.formats) legal_so).1)
 
-    by_test : (b : Bool) → list_all is_legal_tree (cond b (bare_parent (codes "metadata") (metadata_tree format fields ∷ []) ∷ []) []) ≡ true
-    by_test true = both (fine_parent (codes "metadata") (metadata_tree format fields ∷ []) refl (both (metadata_fine format fields good is all) refl)) refl
+    by_test : (b : Bool) → list_all is_fine (cond b (bare_parent (codes "metadata") (metadata_tree format fields ∷ []) ∷ []) []) ≡ true
+    by_test true = both (fine_parent (codes "metadata") (metadata_tree format fields ∷ []) refl (both (metadata_fine format fields good is own all) refl)) refl
     by_test false = refl
 
 abbrev is_good_item : Format → ItemState → Bool
@@ -415,7 +447,7 @@ unfolding extent
 extent_legal e =
     both (fine_attribute (codes "completeListSize") (decimal e.size) refl (decimal_legal e.size)) (both (fine_attribute (codes "cursor") (decimal e.cursor) refl (decimal_legal e.cursor)) refl)
 
-token_fine : (c : Continuation) → is_legal_token c ≡ true → list_all is_legal_tree (token_trees c) ≡ true
+token_fine : (c : Continuation) → is_legal_token c ≡ true → list_all is_fine (token_trees c) ≡ true
 unfolding token_trees
 token_fine whole is = refl
 token_fine (remains expires part token) is =
@@ -472,7 +504,7 @@ root_legal =
     (fine_attribute (codes "xsi:schemaLocation") (codes "http://www.openarchives.org/OAI/2.0/ http://www.openarchives.org/OAI/2.0/OAI-PMH.xsd") refl
     (plain_text (codes "http://www.openarchives.org/OAI/2.0/ http://www.openarchives.org/OAI/2.0/OAI-PMH.xsd") refl)) refl)))
 
-pub document_legal : (d : Document) → IsText d.base → have_legal_arguments d.asked ≡ true → IsRegular d.answer → IsLegalAnswer d.answer → is_legal_tree (document_tree d) ≡ true
+pub document_legal : (d : Document) → IsText d.base → have_legal_arguments d.asked ≡ true → IsRegular d.answer → IsLegalAnswer d.answer → is_legal_text (spelled (document_tree d)) ≡ true
 unfolding document_tree
 document_legal d url asked regular so =
     parent_legal (codes "OAI-PMH") root_attributes (bare_leaf (codes "responseDate") (second_text d.date) ∷ request_tree d ∷ answer_tree d.base d.answer ∷ []) root_legal

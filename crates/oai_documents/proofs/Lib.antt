@@ -1,4 +1,3 @@
-pub mod Written
 pub mod Unescaped
 pub mod Parts
 pub mod Records
@@ -6,6 +5,7 @@ pub mod Names
 pub mod Tags
 pub mod Scopes
 pub mod Arguments
+pub mod Deeper
 pub mod WholeTrees
 pub mod SchemaLemmas
 pub mod ReadBack

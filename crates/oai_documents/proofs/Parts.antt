@@ -8,10 +8,10 @@ use Rattle.oai_answers.specs.Answers.{Attributes, Description, Document, argumen
 use Rattle.oai_answers.specs.Documents.{attributes, code_of, deleted_text, error_element, format_element, formats_element, given_attribute, granularity_text, identify_element, message_of, request_element, set_element, sets_element}
 use Rattle.oai_answers.specs.Markup.{end_tag, plain, spelled_attribute as marked_attribute, text_element}
 use Rattle.oai_answers.specs.declared.errors.ErrorCode.{ErrorCode}
-use Rattle.oai_documents.specs.Elements.{bare_leaf, element_attribute}
+use Rattle.oai_answers.specs.ElementParts.{bare_leaf, element_attribute}
 use Rattle.oai_documents.specs.DocumentTrees.{argument_attribute, arguments, error_tree, format_tree, formats_tree, identify_tree, request_tree, set_tree, sets_tree}
 use Rattle.oai_documents.proofs.Unescaped.{code_same, datestamp_free, deleted_same, free_text, granularity_same, message_same, version_same}
-use Rattle.oai_documents.proofs.Written.{attribute_as, attribute_written, bare_leaf_written, bare_parent_written, each_written, leaf_written, one_attribute, only, plain_leaf_written, start_written, then_attributes, then_more, then_one}
+use Rattle.oai_answers.proofs.Written.{attribute_as, attribute_written, bare_leaf_written, bare_parent_written, each_written, leaf_written, one_attribute, only, plain_leaf_written, start_written, then_attributes, then_more, then_one}
 
 -- ---- the request
 

@@ -9,14 +9,14 @@ use Rattle.oai_xml.specs.Readings.{◌>>=◌, begins, past}
 use Rattle.oai_xml.specs.Parts.{past_equals, past_spaces}
 use Rattle.oai_xml.specs.Trees.{Tree, spelled, spelled_attribute, spelled_content}
 use Rattle.oai_xml.specs.Whole.{is_whole}
-use Rattle.oai_xml.specs.LegalTexts.{is_legal_text, is_legal_tree}
+use Rattle.oai_xml.specs.LegalTexts.{is_legal_text}
 use Rattle.oai_xml.specs.Documents.{begins_spaces, declaration_in, document_in, element_of, encoding_in, legal_front, legal_len, misc_in, normalized, opening_in, prolog_in, pseudo_attribute_in, quote_in, root_in, standalone_in, tail_in, tree_in, utf_8_in, version_in, version_number_in}
 use Rattle.oai_xml.specs.declared.limits.TheConstants.{MAX_DEPTH}
 use Rattle.oai_xml.proofs.TagBacks.{begun_apart, space_read}
 use Rattle.oai_xml.proofs.ContentBacks.{behind_tag, spelled_text, tag_parts, tree_back, tree_parts}
 use Rattle.oai_xml.proofs.CanonicalLemmas.{accepted_so, all_cat, lines_same, marked, no_cr, past_tag, read_so, tree_free}
 use Rattle.oai_xml.proofs.LegalLemmas.{legal_whole}
-use Rattle.oai_xml.proofs.LegalSpellings.{Legal, both, legal, plain, spelled_legal, tested}
+use Rattle.oai_xml.proofs.LegalSpellings.{Legal, both, legal, plain, tested}
 use Rattle.oai_documents.specs.DocumentTrees.{line_end, xml_declaration}
 
 -- ---- the XML declaration
@@ -108,21 +108,21 @@ file_free : (t : Tree) → is_whole t ≡ true → list_all no_cr (file t) ≡ t
 unfolding xml_declaration line_end
 file_free t whole = all_cat xml_declaration (spelled t ++ line_end) refl (all_cat (spelled t) line_end (tree_free t whole) refl)
 
-file_legal : (t : Tree) → is_legal_tree t ≡ true → Legal (file t)
+file_legal : (t : Tree) → is_legal_text (spelled t) ≡ true → Legal (file t)
 unfolding xml_declaration line_end
-file_legal t is = both xml_declaration (spelled t ++ line_end) (plain xml_declaration refl) (both (spelled t) line_end (legal (spelled t) (spelled_legal t is)) (plain line_end refl))
+file_legal t is = both xml_declaration (spelled t ++ line_end) (plain xml_declaration refl) (both (spelled t) line_end (legal (spelled t) is) (plain line_end refl))
 
-pub file_tested : (t : Tree) → is_legal_tree t ≡ true → is_legal_text (file t) ≡ true
+pub file_tested : (t : Tree) → is_legal_text (spelled t) ≡ true → is_legal_text (file t) ≡ true
 file_tested t is = tested (file t) (file_legal t is)
 
-file_read : (t : Tree) → is_whole t ≡ true → is_legal_tree t ≡ true → element_of (file t) ≡ Ok t
+file_read : (t : Tree) → is_whole t ≡ true → is_legal_text (spelled t) ≡ true → element_of (file t) ≡ Ok t
 file_read t whole is =
     let text = file_legal t is in
     let len = legal_whole (file t) text.utf8 text.characters in
     let front : legal_front (file t) ≡ file t = ap (λ n. take n (file t)) len ∙ take_all (length (file t)) (file t) (omega arith) in
     read_so (file t) t (ap (λ w. document_in (normalized w)) front ∙ ap document_in (lines_same (file t) (file_free t whole)) ∙ document_back t whole)
-    (accepted_so (file t) t (eq-eqb (legal_len (chars (file t))) (length (file t)) len) (spelled_legal t is))
+    (accepted_so (file t) t (eq-eqb (legal_len (chars (file t))) (length (file t)) len) is)
 
-pub tree_read : (t : Tree) → is_whole t ≡ true → is_legal_tree t ≡ true → tree_in (file t) ≡ Some t
+pub tree_read : (t : Tree) → is_whole t ≡ true → is_legal_text (spelled t) ≡ true → tree_in (file t) ≡ Some t
 unfolding tree_in
 tree_read t whole is = ap result_ok (file_read t whole is)

@@ -1,80 +1,30 @@
 -- Records, lists, tokens and documents are the spellings of their trees.
 use Rattle.std.proofs.Common.{◌≡◌, ◌∙◌, ℕ, Bool, true, false, cond, List, [], ◌∷◌, ◌++◌, map, codes, refl, sym, ap, append_assoc, append-nil}
 use Rattle.std.specs.Fmt.{decimal}
-use Rattle.std.specs.List.{flat_map}
-use Rattle.std.specs.Str.{bytes_eq}
-use Rattle.std.proofs.lemmas.Grind.{flat_map-append}
-use Rattle.oai_names.specs.Escapes.{attribute_spelling, escaped, escaped_attribute, escaped_text}
+use Rattle.std.specs.List.{flat_map, list_all}
+use Rattle.std.proofs.lemmas.Bool.{and_parts}
+use Rattle.oai_names.specs.Escapes.{escaped, escaped_text}
 use Rattle.oai_time.specs.TimeTexts.{datestamp_text, second_text}
 use Rattle.oai_time.specs.declared.granularity.Granularity.{Granularity}
+use Rattle.oai_item.specs.Elements.{element_in}
+use Rattle.oai_item.specs.Givens.{is_none_or_canonical}
 use Rattle.oai_item.specs.Item.{ItemState, fields_in}
 use Rattle.oai_item.specs.declared.fields.Field.{Field}
 use Rattle.oai_item.specs.declared.formats.Format.{Format}
 use Rattle.oai_xml.specs.Trees.{Attribute, Tree, spelled, spelled_attribute, start_tag}
 use Rattle.oai_answers.specs.Answers.{Continuation, Document, Page, VerbAnswer, completes, fails, gives_record, identifies, lists_formats, lists_headers, lists_records, lists_sets, remains, whole}
-use Rattle.oai_answers.specs.Documents.{answer_element, declared_metadata, declared_start, document, dublin_core_metadata, dublin_core_start, extent_attributes, field_element, get_record_element, head, header_element, header_start, identifiers_element, metadata, metadata_part, record_element, records_element, request_element, schema_location, token_element}
-use Rattle.oai_answers.specs.Markup.{attribute as text_attribute, element, end_tag, plain, spelled_attribute as marked_attribute, text_element}
+use Rattle.oai_answers.specs.Documents.{answer_element, document, extent_attributes, get_record_element, head, header_element, header_start, identifiers_element, metadata, metadata_part, record_element, records_element, request_element, token_element}
+use Rattle.oai_answers.specs.Markup.{element, end_tag, plain, spelled_attribute as marked_attribute, text_element}
 use Rattle.oai_answers.specs.declared.tokens.Extent.{Extent}
-use Rattle.oai_documents.specs.Elements.{bare_leaf, bare_parent, element_attribute, leaf}
-use Rattle.oai_documents.specs.DocumentTrees.{answer_tree, declared_attributes, declared_tree, document_tree, dublin_core_attributes, dublin_core_tree, extent, field_tree, header_tree, headers_tree, instance_namespace, line_end, metadata_parts, metadata_tree, record_tree, records_tree, request_tree, root_attributes, status, token_trees, xml_declaration}
+use Rattle.oai_answers.specs.ElementParts.{bare_leaf, bare_parent, element_attribute, leaf}
+use Rattle.oai_documents.specs.DocumentTrees.{answer_tree, document_tree, extent, header_tree, headers_tree, line_end, metadata_parts, record_tree, records_tree, request_tree, root_attributes, status, token_trees, xml_declaration}
+use Rattle.oai_answers.specs.MetadataTrees.{instance_namespace, metadata_tree}
+use Rattle.oai_answers.specs.Seen.{IsGoodFormat, IsRegular, has_own_fields}
+use Rattle.oai_answers.proofs.ElementLemmas.{metadata_written}
+use Rattle.oai_answers.proofs.NamedTrees.{canonical_own}
 use Rattle.oai_documents.proofs.Parts.{error_written, formats_written, identify_written, request_written, sets_written}
 use Rattle.oai_documents.proofs.Unescaped.{datestamp_free, decimal_free, free_text, free_value, second_free}
-use Rattle.oai_documents.proofs.Written.{attribute_as, attribute_written, bare_leaf_written, bare_parent_written, each_written, leaf_written, one_attribute, only, parent_written, plain_leaf_written, start_written, then_attributes, then_more, then_one}
-
--- ---- metadata
-
-field_written : (qualifier : List ℕ) (field : Field) → field_element qualifier field ≡ spelled (field_tree qualifier field)
-unfolding field_element field_tree
-field_written qualifier field = bare_leaf_written (qualifier ++ field.name) field.text
-
-dublin_core_begun : dublin_core_start ≡ start_tag (codes "oai_dc:dc") dublin_core_attributes
-unfolding dublin_core_start dublin_core_attributes instance_namespace start_tag spelled_attribute escaped
-dublin_core_begun = refl
-
-dublin_core_written : (fields : List Field) → dublin_core_metadata fields ≡ spelled (dublin_core_tree fields)
-unfolding dublin_core_metadata dublin_core_tree
-dublin_core_written fields =
-    parent_written dublin_core_start _ (codes "oai_dc:dc") dublin_core_attributes (map (field_tree (codes "dc:")) fields) dublin_core_begun
-    (each_written (field_element (codes "dc:")) (field_tree (codes "dc:")) (field_written (codes "dc:")) fields)
-
-location_same : (namespace schema : List ℕ) → escaped_attribute namespace ++ codes " " ++ escaped_attribute schema ≡ escaped_attribute (namespace ++ codes " " ++ schema)
-unfolding escaped
-location_same namespace schema =
-    sym (flat_map-append attribute_spelling (namespace ++ codes " ") schema ∙ ap (λ (w : List ℕ). w ++ flat_map attribute_spelling schema) (flat_map-append attribute_spelling namespace (codes " ")))
-
--- three attributes behind a name
-start_shape : (name a b c end : List ℕ) → name ++ a ++ b ++ c ++ end ≡ name ++ (a ++ b ++ c) ++ end
-start_shape name a b c end = simp append_assoc refl
-
-declared_begun : (format : Format) → declared_start format ≡ start_tag format.root (declared_attributes format)
-unfolding declared_start declared_attributes schema_location instance_namespace plain
-declared_begun format =
-    let own : List ℕ = text_attribute (codes "xmlns") format.namespace in
-    let xsi : List ℕ = text_attribute (codes "xmlns:xsi") (codes "http://www.w3.org/2001/XMLSchema-instance") in
-    let location : List ℕ = marked_attribute (codes "xsi:schemaLocation") (escaped_attribute format.namespace ++ codes " " ++ escaped_attribute format.schema) in
-    let first : Attribute = element_attribute (codes "xmlns") format.namespace in
-    let second : Attribute = element_attribute (codes "xmlns:xsi") (codes "http://www.w3.org/2001/XMLSchema-instance") in
-    let third : Attribute = element_attribute (codes "xsi:schemaLocation") (format.namespace ++ codes " " ++ format.schema) in
-    let one = one_attribute own first (attribute_written (codes "xmlns") format.namespace) in
-    let two = then_attributes own xsi (first ∷ []) (second ∷ []) one
-    (one_attribute xsi second (attribute_written (codes "xmlns:xsi") (codes "http://www.w3.org/2001/XMLSchema-instance"))) in
-    let three = then_attributes (own ++ xsi) location (first ∷ second ∷ []) (third ∷ []) two
-    (one_attribute location third (attribute_as (codes "xsi:schemaLocation") (format.namespace ++ codes " " ++ format.schema) _ (location_same format.namespace format.schema))) in
-    start_shape (60 ∷ format.root) own xsi location (codes ">") ∙ start_written format.root (own ++ xsi ++ location) (first ∷ second ∷ third ∷ []) three
-
-declared_written : (format : Format) (fields : List Field) → declared_metadata format fields ≡ spelled (declared_tree format fields)
-unfolding declared_metadata declared_tree
-declared_written format fields =
-    parent_written (declared_start format) _ format.root (declared_attributes format) (map (field_tree []) fields) (declared_begun format)
-    (each_written (field_element []) (field_tree []) (field_written []) fields)
-
-metadata_written : (format : Format) (fields : List Field) → metadata format fields ≡ spelled (metadata_tree format fields)
-unfolding metadata metadata_tree
-metadata_written format fields = by_test (bytes_eq format.prefix (codes "oai_dc"))
-  where
-    by_test : (b : Bool) → cond b (dublin_core_metadata fields) (declared_metadata format fields) ≡ spelled (cond b (dublin_core_tree fields) (declared_tree format fields))
-    by_test true = dublin_core_written fields
-    by_test false = declared_written format fields
+use Rattle.oai_answers.proofs.Written.{attribute_as, bare_leaf_written, bare_parent_written, each_written, leaf_written, one_attribute, only, parent_written, plain_leaf_written, start_written, then_attributes, then_more, then_one}
 
 -- ---- headers and records
 
@@ -99,24 +49,24 @@ header_written granularity item =
     (flat_map (text_element (codes "setSpec")) item.sets) (end_tag (codes "header"))
     ∙ parent_written (header_start item.live) _ (codes "header") (status item.live) (identifier ∷ datestamp ∷ sets) (header_begun item.live) three
 
-part_written : (format : Format) (item : ItemState) → metadata_part format item ≡ flat_map spelled (metadata_parts format item)
+part_written : (format : Format) (item : ItemState) → is_none_or_canonical (element_in (fields_in format.prefix item.formats)) ≡ true → metadata_part format item ≡ flat_map spelled (metadata_parts format item)
 unfolding metadata_part metadata_parts
-part_written format item = by_test item.live
+part_written format item canonical = by_test item.live
   where
     fields : List Field
     fields = fields_in format.prefix item.formats
 
     by_test : (b : Bool) → cond b (element (codes "metadata") (metadata format fields)) [] ≡ flat_map spelled (cond b (bare_parent (codes "metadata") (metadata_tree format fields ∷ []) ∷ []) [])
     by_test true = only _ (bare_parent (codes "metadata") (metadata_tree format fields ∷ []))
-        (bare_parent_written (codes "metadata") (metadata format fields) (metadata_tree format fields ∷ []) (only _ (metadata_tree format fields) (metadata_written format fields)))
+        (bare_parent_written (codes "metadata") (metadata format fields) (metadata_tree format fields ∷ []) (only _ (metadata_tree format fields) (metadata_written format fields canonical)))
     by_test false = refl
 
-record_written : (granularity : Granularity) (format : Format) (item : ItemState) → record_element granularity format item ≡ spelled (record_tree granularity format item)
+record_written : (granularity : Granularity) (format : Format) (item : ItemState) → is_none_or_canonical (element_in (fields_in format.prefix item.formats)) ≡ true → record_element granularity format item ≡ spelled (record_tree granularity format item)
 unfolding record_element record_tree
-record_written granularity format item =
+record_written granularity format item canonical =
     let header = only _ (header_tree granularity item) (header_written granularity item) in
     bare_parent_written (codes "record") _ (header_tree granularity item ∷ metadata_parts format item)
-    (then_more _ _ (header_tree granularity item ∷ []) (metadata_parts format item) header (part_written format item))
+    (then_more _ _ (header_tree granularity item ∷ []) (metadata_parts format item) header (part_written format item canonical))
 
 -- ---- tokens
 
@@ -161,26 +111,34 @@ headers_written page =
     bare_parent_written (codes "ListIdentifiers") _ (headers ++ token_trees page.continuation)
     (then_more _ _ headers (token_trees page.continuation) (each_written (header_element page.granularity) (header_tree page.granularity) (header_written page.granularity) page.items) (token_written page.continuation))
 
-records_written : (format : Format) (page : Page) → records_element format page ≡ spelled (records_tree format page)
+each_record : (granularity : Granularity) (format : Format) (items : List ItemState) → IsGoodFormat format → list_all (has_own_fields format) items ≡ true
+    → flat_map (record_element granularity format) items ≡ flat_map spelled (map (record_tree granularity format) items)
+each_record granularity format [] good own = refl
+each_record granularity format (item ∷ items) good own =
+    let parts = and_parts (has_own_fields format item) (list_all (has_own_fields format) items) own in
+    ap (λ (w : List ℕ). w ++ flat_map (record_element granularity format) items) (record_written granularity format item (canonical_own format (fields_in format.prefix item.formats) good parts.0))
+    ∙ ap (λ (w : List ℕ). spelled (record_tree granularity format item) ++ w) (each_record granularity format items good parts.1)
+
+records_written : (format : Format) (page : Page) → IsGoodFormat format → list_all (has_own_fields format) page.items ≡ true → records_element format page ≡ spelled (records_tree format page)
 unfolding records_element records_tree
-records_written format page =
+records_written format page good own =
     let records : List Tree = map (record_tree page.granularity format) page.items in
     bare_parent_written (codes "ListRecords") _ (records ++ token_trees page.continuation)
     (then_more _ _ records (token_trees page.continuation)
-    (each_written (record_element page.granularity format) (record_tree page.granularity format) (record_written page.granularity format) page.items) (token_written page.continuation))
+    (each_record page.granularity format page.items good own) (token_written page.continuation))
 
 -- ---- the document
 
-answer_written : (base : List ℕ) (answer : VerbAnswer) → answer_element base answer ≡ spelled (answer_tree base answer)
+answer_written : (base : List ℕ) (answer : VerbAnswer) → IsRegular answer → answer_element base answer ≡ spelled (answer_tree base answer)
 unfolding answer_tree get_record_element
-answer_written base (fails code) = error_written code
-answer_written base (identifies d) = identify_written base d
-answer_written base (lists_formats formats) = formats_written formats
-answer_written base (lists_sets sets) = sets_written sets
-answer_written base (gives_record d) =
-    bare_parent_written (codes "GetRecord") _ (record_tree d.granularity d.format d.item ∷ []) (only _ (record_tree d.granularity d.format d.item) (record_written d.granularity d.format d.item))
-answer_written base (lists_headers page) = headers_written page
-answer_written base (lists_records format page) = records_written format page
+answer_written base (fails code) regular = error_written code
+answer_written base (identifies d) regular = identify_written base d
+answer_written base (lists_formats formats) regular = formats_written formats
+answer_written base (lists_sets sets) regular = sets_written sets
+answer_written base (gives_record d) regular =
+    bare_parent_written (codes "GetRecord") _ (record_tree d.granularity d.format d.item ∷ []) (only _ (record_tree d.granularity d.format d.item) (record_written d.granularity d.format d.item (canonical_own d.format (fields_in d.format.prefix d.item.formats) regular.0 regular.1)))
+answer_written base (lists_headers page) regular = headers_written page
+answer_written base (lists_records format page) regular = records_written format page regular.0 regular.1
 
 head_is : head ≡ xml_declaration ++ start_tag (codes "OAI-PMH") root_attributes
 unfolding head xml_declaration root_attributes instance_namespace start_tag spelled_attribute escaped
@@ -193,16 +151,16 @@ tail_is = refl
 document_shape : (front start a b c end behind : List ℕ) → front ++ start ++ a ++ b ++ c ++ (end ++ behind) ≡ front ++ (start ++ (a ++ b ++ c) ++ end ++ behind)
 document_shape front start a b c end behind = simp append_assoc refl
 
-pub document_written : (d : Document) → document d ≡ xml_declaration ++ (spelled (document_tree d) ++ line_end)
+pub document_written : (d : Document) → IsRegular d.answer → document d ≡ xml_declaration ++ (spelled (document_tree d) ++ line_end)
 unfolding document document_tree
-document_written d =
+document_written d regular =
     let date : Tree = bare_leaf (codes "responseDate") (second_text d.date) in
     let dated : List ℕ = element (codes "responseDate") (second_text d.date) in
     let start : List ℕ = start_tag (codes "OAI-PMH") root_attributes in
     let end : List ℕ = end_tag (codes "OAI-PMH") in
     let one = only dated date (plain_leaf_written (codes "responseDate") (second_text d.date) (free_text (second_text d.date) (second_free d.date))) in
     let two = then_one dated (request_element d) (date ∷ []) (request_tree d) one (request_written d) in
-    let three = then_one (dated ++ request_element d) (answer_element d.base d.answer) (date ∷ request_tree d ∷ []) (answer_tree d.base d.answer) two (answer_written d.base d.answer) in
+    let three = then_one (dated ++ request_element d) (answer_element d.base d.answer) (date ∷ request_tree d ∷ []) (answer_tree d.base d.answer) two (answer_written d.base d.answer regular) in
     let filled = parent_written start (dated ++ request_element d ++ answer_element d.base d.answer) (codes "OAI-PMH") root_attributes (date ∷ request_tree d ∷ answer_tree d.base d.answer ∷ []) refl three in
     ap (λ (w : List ℕ). w ++ dated ++ request_element d ++ answer_element d.base d.answer ++ plain (codes "</OAI-PMH>\n")) head_is
     ∙ ap (λ (w : List ℕ). xml_declaration ++ start ++ dated ++ request_element d ++ answer_element d.base d.answer ++ w) tail_is

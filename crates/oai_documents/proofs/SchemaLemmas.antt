@@ -1,15 +1,20 @@
 -- The tree of each document is as the schema asks.
-use Rattle.std.proofs.Common.{◌≡◌, ◌∙◌, inl, inr, ℕ, Bool, true, false, ◌&&◌, ◌||◌, not, cond, List, [], ◌∷◌, ◌++◌, map, codes, Some, refl, sym, ap, append-nil}
+use Rattle.std.proofs.Common.{◌≡◌, ◌∙◌, inl, inr, ℕ, Bool, true, false, ◌&&◌, ◌||◌, not, cond, List, [], ◌∷◌, ◌++◌, map, codes, Option, None, Some, refl, sym, ap, append-nil}
+use Rattle.std.specs.Prelude.{option_and_then, option_map}
 use Rattle.std.specs.List.{list_all}
 use Rattle.std.specs.Option.{unwrap_or}
 use Rattle.std.specs.Str.{bytes_eq}
 use Rattle.std.proofs.lemmas.Bool.{and_parts, not-true, true≢false}
+use Rattle.std.proofs.lemmas.Slice.Eq.{bytes_eq-Decides}
 use Rattle.oai_names.specs.Names.{is_among}
 use Rattle.oai_time.specs.TimeTexts.{datestamp_text, second_text}
 use Rattle.oai_time.specs.declared.granularity.Granularity.{Granularity}
 use Rattle.oai_time.specs.declared.granularity.Granularity.TheVariants.{Day, Second}
+use Rattle.oai_item.specs.Elements.{element_in, has_root_of, is_element_of, is_root_of, root_in}
+use Rattle.oai_item.specs.Formats.{dublin_core}
 use Rattle.oai_item.specs.Item.{ItemState, fields_in}
-use Rattle.oai_item.specs.Rules.{are_names, are_uris, has_fields, has_repeat, is_allowed, is_uri}
+use Rattle.oai_item.specs.Known.{are_fields_of}
+use Rattle.oai_item.specs.Rules.{are_names, are_uris, has_few_fields, has_repeat, is_allowed, is_uri}
 use Rattle.oai_item.specs.ShortTexts.{is_short_text}
 use Rattle.oai_item.specs.declared.deleted_record.DeletedRecord.{DeletedRecord}
 use Rattle.oai_item.specs.declared.deleted_record.DeletedRecord.TheVariants.{No, Transient, Persistent}
@@ -20,14 +25,18 @@ use Rattle.oai_xml.specs.QNames.{local_of, prefix_of}
 use Rattle.oai_xml.specs.Roots.{named_so, root_of}
 use Rattle.oai_xml.specs.Trees.{Tree}
 use Rattle.oai_xml.specs.Namespaces.{declared, is_declaring, namespace_of, xml_namespace, xmlns_namespace}
-use Rattle.oai_xml.specs.Whole.{names_of, within}
+use Rattle.oai_xml.specs.Documents.{is_canonical, tree_in}
+use Rattle.oai_xml.specs.Whole.{IsElement, names_of, within}
+use Rattle.oai_xml.proofs.CanonicalLemmas.{element_tested, tree_again}
 use Rattle.oai_answers.specs.Answers.{Attributes, Continuation, Description, Document, Page, VerbAnswer, arguments_told, completes, fails, gives_record, identifies, lists_formats, lists_headers, lists_records, lists_sets, remains, whole}
 use Rattle.oai_answers.specs.Documents.{code_of, deleted_text, granularity_text, message_of}
-use Rattle.oai_answers.specs.Seen.{IsGoodFormat, IsRegular}
+use Rattle.oai_answers.specs.Seen.{IsGoodFormat, IsRegular, has_own_fields}
+use Rattle.oai_answers.proofs.NamedTrees.{kept_so}
 use Rattle.oai_answers.specs.declared.errors.ErrorCode.{ErrorCode}
 use Rattle.oai_answers.specs.declared.errors.ErrorCode.TheVariants.{BadVerb, BadArgument, BadResumptionToken, CannotDisseminateFormat, IdDoesNotExist, NoRecordsMatch, NoMetadataFormats, NoSetHierarchy}
-use Rattle.oai_documents.specs.Elements.{bare_leaf, bare_parent}
-use Rattle.oai_documents.specs.DocumentTrees.{answer_tree, declared_attributes, declared_tree, document_tree, dublin_core_attributes, dublin_core_tree, error_tree, extent, format_tree, formats_tree, header_tree, headers_tree, identify_tree, instance_namespace, metadata_parts, metadata_tree, record_tree, records_tree, request_tree, root_attributes, set_tree, sets_tree, status, token_trees}
+use Rattle.oai_answers.specs.ElementParts.{bare_leaf, bare_parent}
+use Rattle.oai_documents.specs.DocumentTrees.{answer_tree, document_tree, error_tree, extent, format_tree, formats_tree, header_tree, headers_tree, identify_tree, metadata_parts, record_tree, records_tree, request_tree, root_attributes, set_tree, sets_tree, status, token_trees}
+use Rattle.oai_answers.specs.MetadataTrees.{declared_attributes, declared_tree, dublin_core_attributes, dublin_core_tree, fields_tree, instance_namespace, metadata_tree, tree_or}
 use Rattle.oai_documents.specs.Schema.{Any, AreAnswerElements, IsContainer, IsError, IsForeign, IsFormatElement, IsFormats, IsHeader, IsHeaders, IsIdentify, IsOfSchema, IsOneOf, IsRecord, IsRecords, IsRequestElement, IsSet, IsSets, IsTextElement, IsTokenElement, One, Optional, Several, ◌⨾◌, error_codes, oai_namespace}
 use Rattle.oai_documents.specs.WellFormed.{HasMembers, HasNamespace, IsFilled, is_foreign}
 use Rattle.oai_documents.proofs.Arguments.{all_chosen, are_given, argument_names, names_given}
@@ -48,6 +57,16 @@ any_of is tree each (x ∷ xs) = (each x, any_of is tree each xs)
 several_of : {A : Type 0} (is : Tree → Type 0) (tree : A → Tree) → ((a : A) → is (tree a)) → (xs : List A) → HasMembers xs → Several is (map tree xs)
 several_of is tree each [] none = absurd none
 several_of is tree each (x ∷ xs) some = (each x, any_of is tree each xs)
+
+-- where each of the values is as it is asked
+any_good : {A : Type 0} (is : Tree → Type 0) (tree : A → Tree) (good : A → Bool) → ((a : A) → good a ≡ true → is (tree a)) → (xs : List A) → list_all good xs ≡ true → Any is (map tree xs)
+any_good is tree good each [] all = tt
+any_good is tree good each (x ∷ xs) all = let parts = and_parts (good x) (list_all good xs) all in (each x parts.0, any_good is tree good each xs parts.1)
+
+several_good : {A : Type 0} (is : Tree → Type 0) (tree : A → Tree) (good : A → Bool) → ((a : A) → good a ≡ true → is (tree a)) → (xs : List A) → HasMembers xs → list_all good xs ≡ true
+    → Several is (map tree xs)
+several_good is tree good each [] none all = absurd none
+several_good is tree good each (x ∷ xs) some all = let parts = and_parts (good x) (list_all good xs) all in (each x parts.0, any_good is tree good each xs parts.1)
 
 is_text : (name text : List ℕ) → IsTextElement name (bare_leaf name text)
 is_text name text = record { name_is = refl; attributes = refl; value = (text, refl, refl) }
@@ -188,10 +207,18 @@ uri_some (b ∷ text) is = refl
 allowed_namespace : (format : Format) → is_allowed format ≡ true → is_uri format.namespace ≡ true
 unfolding is_allowed
 allowed_namespace format h =
-    let repeats = and_parts (are_names format && are_uris format && has_fields format) (not (has_repeat format.fields)) h in
-    let fields = and_parts (are_names format && are_uris format) (has_fields format) repeats.0 in
+    let repeats = and_parts (are_names format && are_uris format && has_few_fields format) (not (has_repeat format.fields)) h in
+    let fields = and_parts (are_names format && are_uris format) (has_few_fields format) repeats.0 in
     let uris = and_parts (are_names format) (are_uris format) fields.0 in
     (and_parts (is_uri format.schema) (is_uri format.namespace) uris.1).1
+
+dublin_core_namespace : bytes_eq dublin_core.namespace [] ≡ false
+unfolding dublin_core
+dublin_core_namespace = refl
+
+some_namespace : (format : Format) → IsGoodFormat format → bytes_eq format.namespace [] ≡ false
+some_namespace format (inl same) = ap (λ (f : Format). bytes_eq f.namespace []) same ∙ dublin_core_namespace
+some_namespace format (inr allowed) = uri_some format.namespace (allowed_namespace format allowed)
 
 neither : (a b : Bool) → a ≡ false → b ≡ false → (a || b) ≡ false
 neither true b first second = first
@@ -203,19 +230,45 @@ declared_foreign format fields allowed other =
     ap (λ w. bytes_eq w oai_namespace || bytes_eq w []) space
     ∙ neither (bytes_eq format.namespace oai_namespace) (bytes_eq format.namespace []) other (uri_some format.namespace (allowed_namespace format allowed))
 
-metadata_foreign : (format : Format) (fields : List Field) → IsGoodFormat format → bytes_eq format.namespace oai_namespace ≡ false → IsForeign (metadata_tree format fields)
-unfolding metadata_tree
-metadata_foreign format fields (inl same) other =
+fields_foreign : (format : Format) (fields : List Field) → IsGoodFormat format → bytes_eq format.namespace oai_namespace ≡ false → IsForeign (fields_tree format fields)
+unfolding fields_tree
+fields_foreign format fields (inl same) other =
     ap (λ b. is_own (cond b (dublin_core_tree fields) (declared_tree format fields))) (ap (λ (f : Format). bytes_eq f.prefix (codes "oai_dc")) same ∙ dublin_core_known)
     ∙ dublin_core_foreign fields
   where
     is_own : Tree → Bool
     is_own t = bytes_eq (root_of t).namespace oai_namespace || bytes_eq (root_of t).namespace []
-metadata_foreign format fields (inr allowed) other = by_test (bytes_eq format.prefix (codes "oai_dc"))
+fields_foreign format fields (inr allowed) other = by_test (bytes_eq format.prefix (codes "oai_dc"))
   where
     by_test : (b : Bool) → IsForeign (cond b (dublin_core_tree fields) (declared_tree format fields))
     by_test true = dublin_core_foreign fields
     by_test false = declared_foreign format fields allowed other
+
+-- an element has the namespace of the format that it is of
+element_foreign : (format : Format) (fields : Tree) (text : List ℕ) → IsGoodFormat format → bytes_eq format.namespace oai_namespace ≡ false → is_element_of format text ≡ true
+    → IsForeign (tree_or fields (tree_in text))
+unfolding is_element_of
+element_foreign format fields text good other is =
+    let parts = and_parts (is_canonical text) (has_root_of format (root_in text)) is in
+    let e : IsElement text = element_tested text parts.0 in
+    let found = tree_again text e.0 e.1 in
+    let root : is_root_of format (root_of e.0) ≡ true = ap (λ o. has_root_of format (option_map root_of o)) (sym found) ∙ parts.1 in
+    let same : (root_of e.0).namespace ≡ format.namespace =
+    (bytes_eq-Decides (root_of e.0).namespace format.namespace).0 (and_parts (bytes_eq (root_of e.0).namespace format.namespace) _ root).0 in
+    ap (λ o. is_own (tree_or fields o)) found ∙ ap (λ w. bytes_eq w oai_namespace || bytes_eq w []) same
+    ∙ neither (bytes_eq format.namespace oai_namespace) (bytes_eq format.namespace []) other (some_namespace format good)
+  where
+    is_own : Tree → Bool
+    is_own t = bytes_eq (root_of t).namespace oai_namespace || bytes_eq (root_of t).namespace []
+
+metadata_foreign : (format : Format) (fields : List Field) → IsGoodFormat format → bytes_eq format.namespace oai_namespace ≡ false → are_fields_of (Some format) fields ≡ true
+    → IsForeign (metadata_tree format fields)
+unfolding metadata_tree
+metadata_foreign format fields good other own = by_element (element_in fields) refl
+  where
+    by_element : (o : Option (List ℕ)) → element_in fields ≡ o → IsForeign (tree_or (fields_tree format fields) (option_and_then tree_in o))
+    by_element None is = fields_foreign format fields good other
+    by_element (Some text) is = element_foreign format (fields_tree format fields) text good other (kept_so format fields text good is own)
 
 -- ---- headers and records
 
@@ -236,10 +289,10 @@ header_is granularity item = record {
   );
 }
 
-part_is : (format : Format) (item : ItemState) → IsGoodFormat format → bytes_eq format.namespace oai_namespace ≡ false
+part_is : (format : Format) (item : ItemState) → IsGoodFormat format → bytes_eq format.namespace oai_namespace ≡ false → has_own_fields format item ≡ true
     → (Optional (IsContainer (codes "metadata")) ⨾ Any (IsContainer (codes "about"))) (metadata_parts format item)
 unfolding metadata_parts
-part_is format item good other = by_test item.live
+part_is format item good other own = by_test item.live
   where
     it : Tree
     it = bare_parent (codes "metadata") (metadata_tree format (fields_in format.prefix item.formats) ∷ [])
@@ -248,19 +301,20 @@ part_is format item good other = by_test item.live
     contained = record {
       name_is = refl;
       attributes = refl;
-      children = (_, refl, (metadata_tree format (fields_in format.prefix item.formats), refl, metadata_foreign format (fields_in format.prefix item.formats) good other));
+      children = (_, refl, (metadata_tree format (fields_in format.prefix item.formats), refl, metadata_foreign format (fields_in format.prefix item.formats) good other own));
     }
 
     by_test : (b : Bool) → (Optional (IsContainer (codes "metadata")) ⨾ Any (IsContainer (codes "about"))) (cond b (it ∷ []) [])
     by_test true = (it ∷ [], [], refl, inr (it, refl, contained), tt)
     by_test false = ([], [], refl, inl refl, tt)
 
-record_is : (granularity : Granularity) (format : Format) (item : ItemState) → IsGoodFormat format → bytes_eq format.namespace oai_namespace ≡ false → IsRecord (record_tree granularity format item)
+record_is : (granularity : Granularity) (format : Format) (item : ItemState) → IsGoodFormat format → bytes_eq format.namespace oai_namespace ≡ false → has_own_fields format item ≡ true
+    → IsRecord (record_tree granularity format item)
 unfolding record_tree
-record_is granularity format item good other = record {
+record_is granularity format item good other own = record {
   name_is = refl;
   attributes = refl;
-  children = (header_tree granularity item ∷ metadata_parts format item, refl, first_one _ _ _ _ (header_is granularity item) (part_is format item good other));
+  children = (header_tree granularity item ∷ metadata_parts format item, refl, first_one _ _ _ _ (header_is granularity item) (part_is format item good other own));
 }
 
 -- ---- lists
@@ -284,9 +338,10 @@ headers_are page some =
       );
     }
 
-records_are : (format : Format) (page : Page) → IsGoodFormat format → bytes_eq format.namespace oai_namespace ≡ false → HasMembers page.items → IsRecords (records_tree format page)
+records_are : (format : Format) (page : Page) → IsGoodFormat format → bytes_eq format.namespace oai_namespace ≡ false → HasMembers page.items → list_all (has_own_fields format) page.items ≡ true
+    → IsRecords (records_tree format page)
 unfolding records_tree
-records_are format page good other some =
+records_are format page good other some own =
     let records : List Tree = map (record_tree page.granularity format) page.items in record {
       name_is = refl;
       attributes = refl;
@@ -297,7 +352,7 @@ records_are format page good other some =
           records,
           token_trees page.continuation,
           refl,
-          several_of IsRecord (record_tree page.granularity format) (λ item. record_is page.granularity format item good other) page.items some,
+          several_good IsRecord (record_tree page.granularity format) (has_own_fields format) (λ item own. record_is page.granularity format item good other own) page.items some own,
           token_is page.continuation,
         ),
       );
@@ -318,11 +373,11 @@ answer_is base (gives_record d) regular filled other =
       record {
         name_is = refl;
         attributes = refl;
-        children = (_, refl, (record_tree d.granularity d.format d.item, refl, record_is d.granularity d.format d.item regular.0 (not-true (bytes_eq d.format.namespace oai_namespace) other)));
+        children = (_, refl, (record_tree d.granularity d.format d.item, refl, record_is d.granularity d.format d.item regular.0 (not-true (bytes_eq d.format.namespace oai_namespace) other) regular.1));
       },
     )))))
 answer_is base (lists_headers page) regular filled other = inr (inr (inr (inr (inr (inl (headers_tree page, refl, headers_are page filled))))))
-answer_is base (lists_records format page) regular filled other = inr (inr (inr (inr (inr (inr (records_tree format page, refl, records_are format page regular.0 (not-true (bytes_eq format.namespace oai_namespace) other) filled))))))
+answer_is base (lists_records format page) regular filled other = inr (inr (inr (inr (inr (inr (records_tree format page, refl, records_are format page regular.0 (not-true (bytes_eq format.namespace oai_namespace) other) filled regular.1))))))
 
 pub document_is : (d : Document) → IsRegular d.answer → IsFilled d.answer → HasNamespace is_foreign d.answer → IsOfSchema (document_tree d)
 unfolding document_tree root_attributes

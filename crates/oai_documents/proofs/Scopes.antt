@@ -9,7 +9,8 @@ use Rattle.oai_xml.specs.Ascii.{is_ascii_ncname}
 use Rattle.oai_xml.specs.QNames.{is_prefixed, is_qname, local_of, prefix_of}
 use Rattle.oai_xml.specs.Namespaces.{Scope, are_alike, are_unlike, declared, is_bound, is_declaring, is_legal, may_bind, namespace_of, xml_namespace, xmlns_namespace}
 use Rattle.oai_xml.specs.Whole.{are_names_whole, is_tag_whole, names_of, within}
-use Rattle.oai_documents.specs.DocumentTrees.{declared_attributes, dublin_core_attributes, instance_namespace, root_attributes}
+use Rattle.oai_documents.specs.DocumentTrees.{root_attributes}
+use Rattle.oai_answers.specs.MetadataTrees.{declared_attributes, dublin_core_attributes, instance_namespace}
 use Rattle.oai_documents.proofs.Names.{no_prefix, plain_qname, prefix_is, prefixed_qname}
 use Rattle.oai_documents.proofs.Tags.{IsReady, both, own_bound}
 

@@ -12,7 +12,7 @@ use Rattle.oai_xml.specs.Trees.{Attribute, Tree, text_of}
 use Rattle.oai_xml.specs.Namespaces.{Scope, are_unlike, declaration_of, declared, is_bound, is_declaring}
 use Rattle.oai_xml.specs.Whole.{are_names_whole, has_default, is_content_whole, is_tag_whole, is_whole_in, names_of, within}
 use Rattle.oai_xml.specs.declared.limits.TheConstants.{MAX_ATTRIBUTES, MAX_DECLARATIONS}
-use Rattle.oai_documents.specs.Elements.{bare_leaf, bare_parent, in_order, leaf, parent}
+use Rattle.oai_answers.specs.ElementParts.{bare_leaf, bare_parent, in_order, leaf, parent}
 use Rattle.oai_documents.proofs.Names.{no_prefix, plain_qname, unprefixed}
 
 pub both : {a b : Bool} → a ≡ true → b ≡ true → (a && b) ≡ true

@@ -1,6 +1,8 @@
 -- The tree of each document is whole.
-use Rattle.std.proofs.Common.{◌≡◌, ◌∙◌, ◌-◌, inl, inr, ℕ, Bool, true, false, ◌&&◌, ◌||◌, not, eqb, cond, List, [], ◌∷◌, ◌++◌, map, codes, refl, ap}
+use Rattle.std.proofs.Common.{◌≡◌, ◌∙◌, ◌-◌, inl, inr, ℕ, Bool, true, false, ◌&&◌, ◌||◌, not, eqb, cond, List, [], ◌∷◌, ◌++◌, map, codes, Option, None, Some, refl, sym, ap}
+use Rattle.std.specs.Prelude.{option_and_then}
 use Rattle.std.specs.List.{list_all}
+use Rattle.std.specs.Option.{option_map_or}
 use Rattle.std.specs.Str.{bytes_eq}
 use Rattle.std.proofs.lemmas.Bool.{and_parts, not-true}
 use Rattle.std.proofs.lemmas.Slice.Eq.{bytes_eq-Decides}
@@ -9,24 +11,31 @@ use Rattle.oai_names.proofs.Lists.{all-weaker}
 use Rattle.oai_time.specs.TimeTexts.{datestamp_text, second_text}
 use Rattle.oai_time.specs.declared.granularity.Granularity.{Granularity}
 use Rattle.oai_item.specs.Formats.{dublin_core}
+use Rattle.oai_item.specs.Elements.{element_in, keeps_element_of}
 use Rattle.oai_item.specs.Item.{ItemState, fields_in}
-use Rattle.oai_item.specs.Rules.{are_names, are_uris, has_fields, has_repeat, is_allowed, is_name}
+use Rattle.oai_item.specs.Known.{are_fields_of, are_listed_in}
+use Rattle.oai_item.specs.Rules.{are_names, are_uris, has_few_fields, has_repeat, is_allowed, is_name}
 use Rattle.oai_item.specs.declared.fields.Field.{Field}
 use Rattle.oai_item.specs.declared.formats.Format.{Format}
 use Rattle.oai_xml.specs.Ascii.{is_ascii_ncname}
 use Rattle.oai_xml.specs.QNames.{prefix_of}
 use Rattle.oai_xml.specs.Trees.{Tree}
 use Rattle.oai_xml.specs.Namespaces.{Scope, are_alike, are_unlike, is_declaring}
-use Rattle.oai_xml.specs.Whole.{is_whole, is_whole_in}
+use Rattle.oai_xml.specs.Documents.{tree_in}
+use Rattle.oai_xml.specs.Whole.{IsElement, is_whole, is_whole_in}
+use Rattle.oai_xml.proofs.CanonicalLemmas.{element_tested, tree_again}
 use Rattle.oai_xml.specs.declared.limits.TheConstants.{MAX_DEPTH}
 use Rattle.oai_answers.specs.Answers.{Continuation, Description, Document, Page, VerbAnswer, arguments_told, completes, fails, gives_record, identifies, lists_formats, lists_headers, lists_records, lists_sets, remains, whole}
 use Rattle.oai_answers.specs.Documents.{code_of, deleted_text, granularity_text, message_of}
 use Rattle.oai_answers.specs.Seen.{IsGoodFormat, IsRegular, has_own_fields}
 use Rattle.oai_answers.specs.declared.errors.ErrorCode.{ErrorCode}
 use Rattle.oai_answers.specs.declared.tokens.Extent.{Extent}
-use Rattle.oai_documents.specs.Elements.{bare_leaf, bare_parent, element_attribute}
-use Rattle.oai_documents.specs.DocumentTrees.{answer_tree, arguments, declared_attributes, declared_tree, document_tree, dublin_core_attributes, dublin_core_tree, error_tree, extent, field_tree, format_tree, formats_tree, header_tree, headers_tree, identify_tree, metadata_parts, metadata_tree, record_tree, records_tree, request_tree, root_attributes, set_tree, sets_tree, status, token_trees}
-use Rattle.oai_documents.specs.WellFormed.{HasNamespace, may_be_default}
+use Rattle.oai_answers.specs.ElementParts.{bare_leaf, bare_parent, element_attribute}
+use Rattle.oai_documents.specs.DocumentTrees.{answer_tree, arguments, document_tree, error_tree, extent, format_tree, formats_tree, header_tree, headers_tree, identify_tree, metadata_parts, record_tree, records_tree, request_tree, root_attributes, set_tree, sets_tree, status, token_trees}
+use Rattle.oai_answers.specs.MetadataTrees.{declared_attributes, declared_tree, dublin_core_attributes, dublin_core_tree, field_tree, fields_tree, metadata_tree, tree_or}
+use Rattle.oai_answers.proofs.NamedTrees.{canonical_so, kept_so}
+use Rattle.oai_documents.specs.WellFormed.{HasNamespace, HasFittingElements, fits_in_document, has_fitting_element, may_be_default}
+use Rattle.oai_documents.proofs.Deeper.{element_behind}
 use Rattle.oai_documents.proofs.Names.{rule_name}
 use Rattle.oai_documents.proofs.Tags.{IsPlainTag, all_whole, and_others, bare_leaf_whole, bare_parent_whole, both, each_whole, leaf_by_tag, leaf_whole, parent_by_tag, parent_whole}
 use Rattle.oai_documents.proofs.Scopes.{declared_ready, declared_scope, declared_tag, dublin_core_scope, dublin_core_tag, field_tag, is_reserved, oai_ready, oai_scope, root_scope, root_tag}
@@ -112,8 +121,8 @@ dublin_core_names = refl
 pub allowed_names : (format : Format) → is_allowed format ≡ true → (is_name format.root ≡ true) × (list_all is_name format.fields ≡ true)
 unfolding is_allowed
 allowed_names format h =
-    let repeats = and_parts (are_names format && are_uris format && has_fields format) (not (has_repeat format.fields)) h in
-    let fields = and_parts (are_names format && are_uris format) (has_fields format) repeats.0 in
+    let repeats = and_parts (are_names format && are_uris format && has_few_fields format) (not (has_repeat format.fields)) h in
+    let fields = and_parts (are_names format && are_uris format) (has_few_fields format) repeats.0 in
     let uris = and_parts (are_names format) (are_uris format) fields.0 in
     and_parts (is_name format.root) (list_all is_name format.fields) uris.0
 
@@ -150,17 +159,38 @@ declared_whole format fields root none named =
     (each_whole 123 (declared_scope format) (field_tree []) is_named_field
     (λ field is. bare_leaf_whole 123 (declared_scope format) field.name field.text refl (declared_ready format) is) fields named)
 
-metadata_whole : (format : Format) (fields : List Field) → IsGoodFormat format → is_reserved format.namespace ≡ false → list_all is_named_field fields ≡ true
-    → IsFine 124 (metadata_tree format fields)
-unfolding metadata_tree
-metadata_whole format fields (inl same) none named =
+fields_whole : (format : Format) (fields : List Field) → IsGoodFormat format → is_reserved format.namespace ≡ false → list_all is_named_field fields ≡ true
+    → IsFine 124 (fields_tree format fields)
+unfolding fields_tree
+fields_whole format fields (inl same) none named =
     ap (λ b. is_whole_in 124 oai_scope (cond b (dublin_core_tree fields) (declared_tree format fields))) (ap (λ (f : Format). bytes_eq f.prefix (codes "oai_dc")) same ∙ dublin_core_known)
     ∙ dublin_core_whole fields named
-metadata_whole format fields (inr allowed) none named = by_test (bytes_eq format.prefix (codes "oai_dc"))
+fields_whole format fields (inr allowed) none named = by_test (bytes_eq format.prefix (codes "oai_dc"))
   where
     by_test : (b : Bool) → is_whole_in 124 oai_scope (cond b (dublin_core_tree fields) (declared_tree format fields)) ≡ true
     by_test true = dublin_core_whole fields named
     by_test false = declared_whole format fields (rule_name format.root (allowed_names format allowed).0) none named
+
+-- an element, for which there is room
+element_whole : (fields : Tree) (text : List ℕ) (e : IsElement text) → option_map_or fits_in_document (tree_in text) true ≡ true → IsFine 124 (tree_or fields (tree_in text))
+element_whole fields text e room =
+    ap (λ o. is_whole_in 124 oai_scope (tree_or fields o)) (tree_again text e.0 e.1)
+    ∙ element_behind oai_scope e.0 refl (ap (λ o. option_map_or fits_in_document o true) (sym (tree_again text e.0 e.1)) ∙ room) e.1.whole
+
+only_listed : (b : Bool) → (b || false) ≡ true → b ≡ true
+only_listed true h = refl
+only_listed false h = h
+
+metadata_whole : (format : Format) (fields : List Field) → IsGoodFormat format → is_reserved format.namespace ≡ false → are_fields_of (Some format) fields ≡ true
+    → option_map_or fits_in_document (option_and_then tree_in (element_in fields)) true ≡ true → IsFine 124 (metadata_tree format fields)
+unfolding metadata_tree
+metadata_whole format fields good none own room = by_element (element_in fields) refl room
+  where
+    by_element : (o : Option (List ℕ)) → element_in fields ≡ o → option_map_or fits_in_document (option_and_then tree_in o) true ≡ true
+        → IsFine 124 (tree_or (fields_tree format fields) (option_and_then tree_in o))
+    by_element None is room =
+        fields_whole format fields good none (fields_named format fields good (only_listed (are_listed_in format fields) (ap (λ o. are_listed_in format fields || keeps_element_of format o) (sym is) ∙ own)))
+    by_element (Some text) is room = element_whole (fields_tree format fields) text (element_tested text (canonical_so format text (kept_so format fields text good is own))) room
 
 -- ---- headers and records
 
@@ -177,22 +207,22 @@ header_whole levels some more granularity item =
     (both (fine_leaf (levels - 1) (codes "datestamp") (datestamp_text granularity item.stamp) more refl)
     (all_whole (levels - 1) oai_scope (bare_leaf (codes "setSpec")) (λ spec. fine_leaf (levels - 1) (codes "setSpec") spec more refl) item.sets)))
 
-part_whole : (format : Format) (item : ItemState) → IsGoodFormat format → is_reserved format.namespace ≡ false → has_own_fields format item ≡ true
+part_whole : (format : Format) (item : ItemState) → IsGoodFormat format → is_reserved format.namespace ≡ false → has_own_fields format item ≡ true → has_fitting_element format item ≡ true
     → list_all (is_whole_in 125 oai_scope) (metadata_parts format item) ≡ true
 unfolding metadata_parts
-part_whole format item good none own = by_test item.live
+part_whole format item good none own room = by_test item.live
   where
     by_test : (b : Bool) → list_all (is_whole_in 125 oai_scope) (cond b (bare_parent (codes "metadata") (metadata_tree format (fields_in format.prefix item.formats) ∷ []) ∷ []) []) ≡ true
     by_test true =
         both (fine_parent 125 (codes "metadata") (metadata_tree format (fields_in format.prefix item.formats) ∷ []) refl refl
-        (both (metadata_whole format (fields_in format.prefix item.formats) good none (fields_named format (fields_in format.prefix item.formats) good own)) refl)) refl
+        (both (metadata_whole format (fields_in format.prefix item.formats) good none own room) refl)) refl
     by_test false = refl
 
-record_whole : (granularity : Granularity) (format : Format) (item : ItemState) → IsGoodFormat format → is_reserved format.namespace ≡ false → has_own_fields format item ≡ true
+record_whole : (granularity : Granularity) (format : Format) (item : ItemState) → IsGoodFormat format → is_reserved format.namespace ≡ false → has_own_fields format item ≡ true → has_fitting_element format item ≡ true
     → IsFine 126 (record_tree granularity format item)
 unfolding record_tree
-record_whole granularity format item good none own =
-    fine_parent 126 (codes "record") (header_tree granularity item ∷ metadata_parts format item) refl refl (both (header_whole 125 refl refl granularity item) (part_whole format item good none own))
+record_whole granularity format item good none own room =
+    fine_parent 126 (codes "record") (header_tree granularity item ∷ metadata_parts format item) refl refl (both (header_whole 125 refl refl granularity item) (part_whole format item good none own room))
 
 -- ---- lists
 
@@ -217,31 +247,40 @@ headers_whole page =
     fine_parent 127 (codes "ListIdentifiers") _ refl refl
     (and_others 126 oai_scope (map (header_tree page.granularity) page.items) (token_trees page.continuation) headers (token_whole page.continuation))
 
-records_whole : (format : Format) (page : Page) → IsGoodFormat format → is_reserved format.namespace ≡ false → list_all (has_own_fields format) page.items ≡ true → IsFine 127 (records_tree format page)
+all_both : {A : Type 0} (p q : A → Bool) (xs : List A) → list_all p xs ≡ true → list_all q xs ≡ true → list_all (λ x. p x && q x) xs ≡ true
+all_both p q [] one other = refl
+all_both p q (x ∷ xs) one other =
+    let first = and_parts (p x) (list_all p xs) one in
+    let second = and_parts (q x) (list_all q xs) other in
+    both (both first.0 second.0) (all_both p q xs first.1 second.1)
+
+records_whole : (format : Format) (page : Page) → IsGoodFormat format → is_reserved format.namespace ≡ false → list_all (has_own_fields format) page.items ≡ true
+    → list_all (has_fitting_element format) page.items ≡ true → IsFine 127 (records_tree format page)
 unfolding records_tree
-records_whole format page good none own =
-    let records = each_whole 126 oai_scope (record_tree page.granularity format) (has_own_fields format)
-    (λ item known. record_whole page.granularity format item good none known) page.items own in
+records_whole format page good none own room =
+    let records = each_whole 126 oai_scope (record_tree page.granularity format) (λ item. has_own_fields format item && has_fitting_element format item)
+    (λ item fit. let parts = and_parts (has_own_fields format item) (has_fitting_element format item) fit in record_whole page.granularity format item good none parts.0 parts.1)
+    page.items (all_both (has_own_fields format) (has_fitting_element format) page.items own room) in
     fine_parent 127 (codes "ListRecords") _ refl refl
     (and_others 126 oai_scope (map (record_tree page.granularity format) page.items) (token_trees page.continuation) records (token_whole page.continuation))
 
 -- ---- documents
 
-answer_whole : (base : List ℕ) (answer : VerbAnswer) → IsRegular answer → HasNamespace may_be_default answer → IsFine 127 (answer_tree base answer)
+answer_whole : (base : List ℕ) (answer : VerbAnswer) → IsRegular answer → HasNamespace may_be_default answer → HasFittingElements answer → IsFine 127 (answer_tree base answer)
 unfolding answer_tree
-answer_whole base (fails code) regular own = error_whole code
-answer_whole base (identifies d) regular own = identify_whole base d
-answer_whole base (lists_formats formats) regular own = formats_whole formats
-answer_whole base (lists_sets sets) regular own = sets_whole sets
-answer_whole base (gives_record d) regular own =
-    fine_parent 127 (codes "GetRecord") (record_tree d.granularity d.format d.item ∷ []) refl refl (both (record_whole d.granularity d.format d.item regular.0 (not-true (is_reserved d.format.namespace) own) regular.1) refl)
-answer_whole base (lists_headers page) regular own = headers_whole page
-answer_whole base (lists_records format page) regular own = records_whole format page regular.0 (not-true (is_reserved format.namespace) own) regular.1
+answer_whole base (fails code) regular own room = error_whole code
+answer_whole base (identifies d) regular own room = identify_whole base d
+answer_whole base (lists_formats formats) regular own room = formats_whole formats
+answer_whole base (lists_sets sets) regular own room = sets_whole sets
+answer_whole base (gives_record d) regular own room =
+    fine_parent 127 (codes "GetRecord") (record_tree d.granularity d.format d.item ∷ []) refl refl (both (record_whole d.granularity d.format d.item regular.0 (not-true (is_reserved d.format.namespace) own) regular.1 room) refl)
+answer_whole base (lists_headers page) regular own room = headers_whole page
+answer_whole base (lists_records format page) regular own room = records_whole format page regular.0 (not-true (is_reserved format.namespace) own) regular.1 room
 
-pub document_whole : (d : Document) → IsRegular d.answer → HasNamespace may_be_default d.answer → is_whole (document_tree d) ≡ true
+pub document_whole : (d : Document) → IsRegular d.answer → HasNamespace may_be_default d.answer → HasFittingElements d.answer → is_whole (document_tree d) ≡ true
 unfolding document_tree
-document_whole d regular own =
+document_whole d regular own room =
     let children : List Tree = bare_leaf (codes "responseDate") (second_text d.date) ∷ request_tree d ∷ answer_tree d.base d.answer ∷ [] in
     let all : list_all (is_whole_in 127 oai_scope) children ≡ true
-    = both (fine_leaf 127 (codes "responseDate") (second_text d.date) refl refl) (both (request_whole d) (both (answer_whole d.base d.answer regular own) refl)) in
+    = both (fine_leaf 127 (codes "responseDate") (second_text d.date) refl refl) (both (request_whole d) (both (answer_whole d.base d.answer regular own room) refl)) in
     parent_by_tag MAX_DEPTH [] (codes "OAI-PMH") root_attributes children refl root_tag (ap (λ (s : Scope). list_all (is_whole_in 127 s) children) root_scope ∙ all)

@@ -2,18 +2,17 @@
 -- the one that contains it.
 use Rattle.std.specs.Prelude.{ℕ, Bool, true, false, if◌then◌else◌, List, [], ◌∷◌, ◌++◌, map, codes, Option, Some, None}
 use Rattle.std.specs.Fmt.{decimal}
-use Rattle.std.specs.Str.{bytes_eq}
 use Rattle.oai_time.specs.TimeTexts.{datestamp_text, second_text}
 use Rattle.oai_time.specs.declared.granularity.Granularity.{Granularity}
 use Rattle.oai_item.specs.Item.{ItemState, fields_in}
-use Rattle.oai_item.specs.declared.fields.Field.{Field}
 use Rattle.oai_item.specs.declared.formats.Format.{Format}
 use Rattle.oai_xml.specs.Trees.{Attribute, Tree}
 use Rattle.oai_answers.specs.Answers.{Attributes, Continuation, Description, Document, Page, VerbAnswer, arguments_told, completes, fails, gives_record, identifies, lists_formats, lists_headers, lists_records, lists_sets, remains, whole}
 use Rattle.oai_answers.specs.Documents.{code_of, deleted_text, granularity_text, message_of}
 use Rattle.oai_answers.specs.declared.errors.ErrorCode.{ErrorCode}
 use Rattle.oai_answers.specs.declared.tokens.Extent.{Extent}
-use Rattle.oai_documents.specs.Elements.{bare_leaf, bare_parent, element_attribute, leaf, parent}
+use Rattle.oai_answers.specs.ElementParts.{bare_leaf, bare_parent, element_attribute, leaf, parent}
+use Rattle.oai_answers.specs.MetadataTrees.{instance_namespace, metadata_tree}
 
 -- ---- the request. Section 3.2
 
@@ -74,47 +73,6 @@ set_tree set = bare_parent (codes "set")
 
 unfoldable pub sets_tree : List (List ℕ × List ℕ) → Tree
 sets_tree sets = bare_parent (codes "ListSets") (map set_tree sets)
-
--- ---- metadata. Section 2.5
-
--- the namespace of XML Schema's attributes in documents (XML Schema Part 1, section 2.6)
-unfoldable pub instance_namespace : List ℕ
-instance_namespace = codes "http://www.w3.org/2001/XMLSchema-instance"
-
--- a field; what precedes its name is the prefix of a namespace and a colon, or nothing
-unfoldable pub field_tree : List ℕ → Field → Tree
-field_tree qualifier field = bare_leaf (qualifier ++ field.name) field.text
-
-unfoldable pub dublin_core_attributes : List Attribute
-dublin_core_attributes =
-    element_attribute (codes "xmlns:oai_dc") (codes "http://www.openarchives.org/OAI/2.0/oai_dc/")
-    ∷ element_attribute (codes "xmlns:dc") (codes "http://purl.org/dc/elements/1.1/")
-    ∷ element_attribute (codes "xmlns:xsi") instance_namespace
-    ∷ element_attribute (codes "xsi:schemaLocation") (codes "http://www.openarchives.org/OAI/2.0/oai_dc/ http://www.openarchives.org/OAI/2.0/oai_dc.xsd")
-    ∷ []
-
--- unqualified Dublin Core (the OAI's guidelines for repository implementers, oai_dc)
-unfoldable pub dublin_core_tree : List Field → Tree
-dublin_core_tree fields =
-    parent (codes "oai_dc:dc") dublin_core_attributes (map (field_tree (codes "dc:")) fields)
-
--- the namespaces of a declared format, of which its own is the default one, and its schema
-unfoldable pub declared_attributes : Format → List Attribute
-declared_attributes format =
-    element_attribute (codes "xmlns") format.namespace
-    ∷ element_attribute (codes "xmlns:xsi") instance_namespace
-    ∷ element_attribute (codes "xsi:schemaLocation") (format.namespace ++ codes " " ++ format.schema)
-    ∷ []
-
-unfoldable pub declared_tree : Format → List Field → Tree
-declared_tree format fields =
-    parent format.root (declared_attributes format) (map (field_tree []) fields)
-
--- the metadata of a record: oai_dc is known by its prefix
-unfoldable pub metadata_tree : Format → List Field → Tree
-metadata_tree format fields =
-    if bytes_eq format.prefix (codes "oai_dc") then dublin_core_tree fields
-    else declared_tree format fields
 
 -- ---- headers and records. Sections 2.5, 2.5.1 and 4.1
 

@@ -1,4 +1,3 @@
-pub mod Elements
 pub mod DocumentTrees
 pub mod Schema
 pub mod WellFormed

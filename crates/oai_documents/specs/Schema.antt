@@ -9,7 +9,7 @@ use Rattle.oai_names.specs.Names.{is_among}
 use Rattle.oai_xml.specs.Roots.{root_of}
 use Rattle.oai_xml.specs.Trees.{Tree, text_of}
 use Rattle.oai_xml.specs.Whole.{names_of}
-use Rattle.oai_documents.specs.Elements.{element_attribute, in_order}
+use Rattle.oai_answers.specs.ElementParts.{element_attribute, in_order}
 
 -- ---- particles: which elements stand one behind the other. XML Schema Part 1, sections 3.8 and 3.9
 

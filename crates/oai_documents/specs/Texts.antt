@@ -1,10 +1,11 @@
 -- Texts that XML allows, in the configuration of a repository, in what it holds, in commands and in answers: UTF-8, of XML's characters.
 -- XML 1.0 (fifth edition), sections 2.2 and 4.3.3.
-use Rattle.std.specs.Prelude.{ℕ, Bool, true, ◌&&◌, List, Option, None, Some}
+use Rattle.std.specs.Prelude.{ℕ, Bool, true, ◌&&◌, List, map, Option, None, Some}
 use Rattle.std.specs.List.{list_all}
+use Rattle.oai_item.specs.Givens.{kept}
 use Rattle.oai_item.specs.Item.{ItemState, Metadata}
-use Rattle.oai_item.specs.declared.changes.Change.{Change}
-use Rattle.oai_item.specs.declared.changes.Change.TheVariants as change
+use Rattle.oai_deposit.specs.declared.changes.Change.{Change}
+use Rattle.oai_deposit.specs.declared.changes.Change.TheVariants as change
 use Rattle.oai_item.specs.declared.fields.Field.{Field}
 use Rattle.oai_item.specs.declared.formats.Format.{Format}
 use Rattle.oai_answers.specs.Answers.{Attributes}
@@ -32,7 +33,7 @@ is_legal_config config =
 abbrev pub is_legal_field : Field → Bool
 is_legal_field field = is_legal_text field.text
 
--- the fields of a record; their names are those of its format
+-- the fields of a record; their names are those of its format, and of an element, which is one without a name, its text
 abbrev pub is_legal_record : Metadata → Bool
 is_legal_record metadata = list_all is_legal_field metadata.1
 
@@ -55,7 +56,8 @@ have_legal_arguments asked =
     && is_legal_argument asked.until && is_legal_argument asked.set && is_legal_argument asked.token
 
 abbrev pub is_legal_change : Change → Bool
-is_legal_change (change.Deposit identifier sets records) = is_legal_text identifier && list_all is_legal_text sets && list_all is_legal_record records
+is_legal_change (change.Deposit identifier sets records) = is_legal_text identifier && list_all is_legal_text sets && list_all is_legal_record (map kept records)
+is_legal_change (change.Put identifier sets records) = is_legal_text identifier && list_all is_legal_text sets && list_all is_legal_record (map kept records)
 is_legal_change (change.Delete identifier) = true
 is_legal_change (change.Purge before) = true
 is_legal_change (change.AddSet spec name) = is_legal_text spec && is_legal_text name

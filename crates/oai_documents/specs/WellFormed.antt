@@ -1,8 +1,15 @@
 -- What the laws of documents ask of an answer, besides the rules of formats.
-use Rattle.std.specs.Prelude.{◌≡◌, ℕ, Bool, true, ◌||◌, not, List, [], ◌∷◌}
+use Rattle.std.specs.Prelude.{◌≡◌, ℕ, suc, Bool, true, ◌||◌, ◌&&◌, ◌+◌, not, nat_le, if◌then◌else◌, List, [], ◌∷◌, length, option_and_then}
+use Rattle.std.specs.List.{list_all}
+use Rattle.std.specs.Option.{option_map_or}
 use Rattle.std.specs.Str.{bytes_eq}
+use Rattle.oai_item.specs.Elements.{element_in}
+use Rattle.oai_item.specs.Item.{ItemState, fields_in}
+use Rattle.oai_item.specs.declared.formats.Format.{Format}
 use Rattle.oai_answers.specs.Answers.{VerbAnswer, fails, gives_record, identifies, lists_formats, lists_headers, lists_records, lists_sets}
-use Rattle.oai_xml.specs.Namespaces.{xml_namespace, xmlns_namespace}
+use Rattle.oai_xml.specs.Documents.{tree_in}
+use Rattle.oai_xml.specs.Namespaces.{declared, xml_namespace, xmlns_namespace}
+use Rattle.oai_xml.specs.Trees.{Content, Tree, nothing, byte, element}
 use Rattle.oai_documents.specs.Schema.{oai_namespace}
 
 -- ---- namespaces
@@ -25,6 +32,41 @@ HasNamespace passes (lists_sets sets) = Unit {0}
 HasNamespace passes (gives_record d) = passes d.format.namespace ≡ true
 HasNamespace passes (lists_headers page) = Unit {0}
 HasNamespace passes (lists_records format page) = passes format.namespace ≡ true
+
+-- ---- elements that are records
+
+abbrev pub larger : ℕ → ℕ → ℕ
+larger a b = if nat_le a b then b else a
+
+-- how many elements stand within one another in contents
+unfoldable pub levels_of : Content → ℕ
+levels_of nothing = 0
+levels_of (byte b rest) = levels_of rest
+levels_of (element name attributes inside rest) = larger (suc (levels_of inside)) (levels_of rest)
+
+-- and how many declarations of namespaces come into force in them
+unfoldable pub declarations_of : Content → ℕ
+declarations_of nothing = 0
+declarations_of (byte b rest) = declarations_of rest
+declarations_of (element name attributes inside rest) = larger (length (declared attributes) + declarations_of inside) (declarations_of rest)
+
+-- in a document the element stands within four others and two declarations: with those there are at most 128 of each, as many as `tree_in` reads
+-- (limits of this repository's own: XML sets none)
+abbrev pub fits_in_document : Tree → Bool
+fits_in_document t = nat_le (levels_of t.content) 123 && nat_le (length (declared t.attributes) + declarations_of t.content) 126
+
+abbrev pub has_fitting_element : Format → ItemState → Bool
+has_fitting_element format item = option_map_or fits_in_document (option_and_then tree_in (element_in (fields_in format.prefix item.formats))) true
+
+-- for each element that the answer shows as a record
+abbrev pub HasFittingElements : VerbAnswer → Type 0
+HasFittingElements (fails code) = Unit {0}
+HasFittingElements (identifies d) = Unit {0}
+HasFittingElements (lists_formats formats) = Unit {0}
+HasFittingElements (lists_sets sets) = Unit {0}
+HasFittingElements (gives_record d) = has_fitting_element d.format d.item ≡ true
+HasFittingElements (lists_headers page) = Unit {0}
+HasFittingElements (lists_records format page) = list_all (has_fitting_element format) page.items ≡ true
 
 -- ---- lists
 

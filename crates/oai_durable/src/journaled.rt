@@ -6,10 +6,12 @@ ghost use Rattle.oai_journal.specs.declared.records.TheConstants.{MAX_BODY};
 ghost use Rattle.std.specs.Prelude.{◌≡◌, ◌≤◌, ℕ, List, OnOk};
 
 use crate::records::add;
+use oai_figures::{Exposition, Figures};
 use oai_http::{Answer, Endpoint, Exchange, Handler, SettleFault, Settled, endpoint_of};
 use oai_item::Fault;
-use oai_journal::{Journal, JournalFault, MAX_BODY};
+use oai_journal::{FileJournal, Journal, JournalFault, MAX_BODY};
 use oai_replay::Replayed;
+use sqlite_disk::Disk;
 use std::alloc::Global;
 use std::marker::Model;
 
@@ -20,6 +22,8 @@ pub struct Journaled<H, J> {
     alloc: Global,
     handler: H,
     journal: J,
+    /// How many records the journal has behind its first one.
+    records: u64,
 }
 
 impl<H, J> Model for Journaled<H, J> {
@@ -31,8 +35,8 @@ impl<H, J> Model for Journaled<H, J> {
 }
 
 impl<H: Replayed, J: Journal> Journaled<H, J> {
-    /// The handler; the journal has what it performed.
-    pub fn new(alloc: Global, handler: H, journal: J) -> Journaled<H, J>
+    /// The handler; the journal has what it performed, that many records behind its first one.
+    pub fn new(alloc: Global, handler: H, journal: J, records: u64) -> Journaled<H, J>
         ensures handler { result.handler ≡ handler }
         ensures journal { result.journal ≡ journal }
     {
@@ -40,6 +44,7 @@ impl<H: Replayed, J: Journal> Journaled<H, J> {
             alloc,
             handler,
             journal,
+            records,
         }
     }
 
@@ -71,6 +76,7 @@ impl<H: Replayed, J: Journal> Handler for Journaled<H, J> {
                 let done = self.handler.exchange_recorded(moment, exchange);
                 if let Some(performed) = done.performed {
                     add(&mut self.journal, moment, &performed);
+                    self.records = self.records.wrapping_add(1);
                 }
                 done.answer
             }
@@ -120,5 +126,15 @@ impl<H: Replayed, J: Journal> Settled for Journaled<H, J> {
             Ok(()) => Ok(()),
             Err(_) => Err(SettleFault),
         }
+    }
+}
+
+impl<H: Figures, D: Disk + Drop> Figures for Journaled<H, FileJournal<D>> {
+    fn report(&self, page: &mut Exposition) {
+        let records = "Log records of the journal behind its first one.";
+        page.add("journal_records", records, self.records);
+        let bytes = self.journal.len() as u64;
+        page.add("journal_bytes", "Length of the journal in bytes.", bytes);
+        self.handler.report(page);
     }
 }

@@ -80,11 +80,13 @@ pub fn note_last<D: Disk + Drop, P: Progress>(
     }
 }
 
-/// The handler with the journal whose records it replayed; `None` before all of them were read.
+/// The handler with the journal whose records it replayed, that many behind the first one; `None` before all of them
+/// were read.
 pub fn resume<H: Replayed + Drop, D: Disk + Drop>(
     alloc: Global,
     handler: H,
     recovery: Recovery<D>,
+    records: u64,
 ) -> Option<Journaled<H, FileJournal<D>>>
     ensures { IfSome result (λ journaled. (begun : H.Kept) (first : Entry) (entries : List Entry)
         → HasRedone H.kept H.is_honest (record { redone = H.redone; restored = H.restored }) D.Disk.seen D.Disk.may_leave begun handler recovery first entries
@@ -98,7 +100,7 @@ pub fn resume<H: Replayed + Drop, D: Disk + Drop>(
         }) ⟦<FileJournal<D> as Journal>⟧ begun journaled entries (length entries)) }
 {
     match recovery.into_journal() {
-        Some(journal) => Some(Journaled::new(alloc, handler, journal)),
+        Some(journal) => Some(Journaled::new(alloc, handler, journal, records)),
         None => None,
     }
 }

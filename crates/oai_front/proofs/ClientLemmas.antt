@@ -22,7 +22,7 @@ use Rattle.oai_http.specs.declared.statuses.Status.{Status}
 use Rattle.oai_http.specs.declared.statuses.Status.TheVariants as status
 use Rattle.oai_front.specs.Clients.{BeginsWithResponse}
 use Rattle.oai_front.specs.Fields.{any_close, is_alike, is_field_named, lists_close, values_named}
-use Rattle.oai_front.specs.Heads.{allow_field, answer_bytes, answer_head, close_field, done_field, fault_bytes, field, head_told, length_field, plain, retry_field, status_fields, status_line, type_field}
+use Rattle.oai_front.specs.Heads.{allow_field, answer_bytes, answer_head, challenge_field, close_field, done_field, fault_bytes, field, head_told, length_field, plain, retry_field, status_fields, status_line, type_field}
 use Rattle.oai_front.specs.declared.heads.AnswerHead.{AnswerHead}
 use Rattle.oai_http.specs.declared.targets.Endpoint.{Endpoint}
 use Rattle.oai_http.specs.declared.targets.Endpoint.TheVariants.{Requests, Deposits}
@@ -151,13 +151,17 @@ type_told : (endpoint : Option Endpoint) → Tells (type_field endpoint) [] []
 unfolding type_field plain values_named is_alike is_token_byte
 type_told (Some Requests) = one (codes "Content-Type") (codes "text/xml") [] [] (line_valid _ _ (omega arith) refl refl) refl refl refl
 type_told (Some Deposits) = one (codes "Content-Type") (codes "text/plain; charset=utf-8") [] [] (line_valid _ _ (omega arith) refl refl) refl refl refl
-type_told None = nothing
+type_told None = one (codes "Content-Type") (codes "text/plain; version=0.0.4") [] [] (line_valid _ _ (omega arith) refl refl) refl refl refl
 
 allow_told : (endpoint : Option Endpoint) → Tells (allow_field endpoint) [] []
 unfolding allow_field plain values_named is_alike is_token_byte
 allow_told (Some Requests) = one (codes "Allow") (codes "GET, POST") [] [] (line_valid _ _ (omega arith) refl refl) refl refl refl
 allow_told (Some Deposits) = one (codes "Allow") (codes "POST") [] [] (line_valid _ _ (omega arith) refl refl) refl refl refl
-allow_told None = nothing
+allow_told None = one (codes "Allow") (codes "GET") [] [] (line_valid _ _ (omega arith) refl refl) refl refl refl
+
+challenge_told : Tells challenge_field [] []
+unfolding challenge_field plain values_named is_alike is_token_byte
+challenge_told = one (codes "WWW-Authenticate") (codes "Bearer realm=\"deposit\"") [] [] (line_valid _ _ (omega arith) refl refl) refl refl refl
 
 retry_told : (seconds : Option ℤ) → Tells (retry_field seconds) [] []
 unfolding retry_field values_named is_alike is_token_byte
@@ -175,6 +179,7 @@ done_told None lines = nothing
 status_told : (of : Status) (head : AnswerHead) → Tells (status_fields of head) [] []
 unfolding status_fields
 status_told status.Ok head = type_told head.endpoint
+status_told status.Unauthorized head = challenge_told
 status_told status.MethodNotAllowed head = allow_told head.endpoint
 status_told status.InternalServerError head = done_told head.endpoint head.done
 status_told status.ServiceUnavailable head = both (retry_field head.seconds) (done_field head.endpoint head.done) [] [] [] [] (retry_told head.seconds) (done_told head.endpoint head.done)
@@ -215,6 +220,7 @@ number_told : (of : Status) → (length (decimal (number_of of)) ≡ 3) × (digi
 unfolding fmt.digits
 number_told status.Ok = (refl, refl)
 number_told status.BadRequest = (refl, refl)
+number_told status.Unauthorized = (refl, refl)
 number_told status.NotFound = (refl, refl)
 number_told status.MethodNotAllowed = (refl, refl)
 number_told status.ContentTooLarge = (refl, refl)
@@ -226,6 +232,7 @@ number_told status.ServiceUnavailable = (refl, refl)
 phrase_is_value : (of : Status) → list_all is_value_byte (phrase_of of) ≡ true
 phrase_is_value status.Ok = refl
 phrase_is_value status.BadRequest = refl
+phrase_is_value status.Unauthorized = refl
 phrase_is_value status.NotFound = refl
 phrase_is_value status.MethodNotAllowed = refl
 phrase_is_value status.ContentTooLarge = refl

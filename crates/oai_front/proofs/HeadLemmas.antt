@@ -1,6 +1,6 @@
 -- Heads at the front of bytes: more bytes behind them change nothing, and the first so many bytes are enough to see them.
 use Rattle.std.proofs.Common.{◌≡◌, ℕ, ◌+◌, ◌-◌, ◌<◌, ◌≤◌, List, [], ◌++◌, append_assoc, length, take, drop, map, Option, Some, None, refl, sym, ap, ap₂, subst, ◌∙◌, arith, inr}
-use Rattle.std.specs.Prelude.{codes, slice_range, IfSome}
+use Rattle.std.specs.Prelude.{slice_range, IfSome}
 use Rattle.std.specs.Option.{option_map}
 use Rattle.std.proofs.lemmas.List.{append-nil, drop-append-le, take-append-le, take-append-drop, length-append, length-drop, length-map, length-take}
 use Rattle.std.proofs.Math.Seq.{drop-append_seam, take-append-add}
@@ -70,6 +70,8 @@ head_more bytes more kept h = record {
   endpoint = h.endpoint;
   type_in = withins_more bytes more kept.content_type h.type_in;
   content_type = sym (spans_more bytes more kept.content_type h.type_in) ∙ h.content_type;
+  key_in = withins_more bytes more kept.authorization h.key_in;
+  authorization = sym (spans_more bytes more kept.authorization h.key_in) ∙ h.authorization;
 }
 
 kept_more : (bytes more : List ℕ) (b : HeadParse) → IsHeadResult bytes b → IsHeadParse (bytes ++ more) b
@@ -141,10 +143,10 @@ read_framing bytes headers spans h framing at e =
     ∙ ap (λ (target : List ℕ). framing_of spans.version target fields) (sym at.path)
     ∙ sym e
 
-pub read_type : (bytes : List ℕ) (headers : List HeaderSpan) (spans : RequestSpans) (h : RequestHead) (value : Option (List ℕ)) → IsRequestAt bytes headers spans h
-    → value ≡ first_value (values_named (codes "Content-Type") (map (header_bytes bytes) (take spans.headers headers)))
-    → value ≡ first_value (values_named (codes "Content-Type") (head_fields h))
-read_type bytes headers spans h value at e = e ∙ ap (λ (fields : List (List ℕ × List ℕ)). first_value (values_named (codes "Content-Type") fields)) at.fields
+pub read_value : (name bytes : List ℕ) (headers : List HeaderSpan) (spans : RequestSpans) (h : RequestHead) (value : Option (List ℕ)) → IsRequestAt bytes headers spans h
+    → value ≡ first_value (values_named name (map (header_bytes bytes) (take spans.headers headers)))
+    → value ≡ first_value (values_named name (head_fields h))
+read_value name bytes headers spans h value at e = e ∙ ap (λ (fields : List (List ℕ × List ℕ)). first_value (values_named name fields)) at.fields
 
 pub within_len : (bytes : List ℕ) (n : ℕ) (s : Span) → n ≤ length bytes → IsWithin n s → IsWithin (length bytes) s
 within_len bytes n s fits w = (w.0, omega (arith, w.1))

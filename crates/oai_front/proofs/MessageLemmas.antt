@@ -1,5 +1,5 @@
 -- Messages at the front of bytes, and those that were performed.
-use Rattle.std.proofs.Common.{◌≡◌, ◌∙◌, inl, inr, ℕ, ℤ, ◌+◌, ◌-◌, ◌<◌, ◌≤◌, Bool, true, false, List, [], ◌∷◌, ◌++◌, append_assoc, length, take, drop, Option, None, refl, sym, ap, subst, arith}
+use Rattle.std.proofs.Common.{◌≡◌, ◌∙◌, inl, inr, ℕ, ℤ, ◌+◌, ◌-◌, ◌<◌, ◌≤◌, Bool, true, false, List, [], ◌∷◌, ◌++◌, append_assoc, length, take, drop, Option, Some, None, refl, sym, ap, subst, arith}
 use Rattle.std.specs.List.{flat_map}
 use Rattle.std.specs.Prelude.{IfSome}
 use Rattle.std.proofs.lemmas.List.{append-nil, drop-drop, length-append, length-drop, length-take-le, take-append-drop}
@@ -12,11 +12,16 @@ use Rattle.oai_http.specs.Exchanges.{Asked}
 use Rattle.oai_front.specs.Messages.{Begins, End, HasNoHead, HasWhole, IsClosing, IsFault, IsUnfinished, MayBegin, Message, ReadsMessages, Splits, closes, faults, framing_in, waits}
 use Rattle.oai_front.specs.Performing.{AnsweredMessage, Completes, Performs, Run, Steps, answers_of, done_bytes, end_bytes, messages_of}
 use Rattle.oai_front.specs.RequestHeads.{IsHead}
-use Rattle.oai_front.specs.Pipelining.{IsSoFar, WritesBehind, behind_message, message_behind}
+use Rattle.oai_front.specs.Pipelining.{IsNext, IsRemainder, IsSoFar, WritesBehind, behind_message, left_at, message_behind}
+use Rattle.oai_front.specs.declared.messages.Next.{Next}
+use Rattle.oai_front.specs.declared.messages.Next.TheVariants as coming
+use Rattle.oai_front.specs.declared.messages.Next.TheVariants.{Unfinished, Faulty}
 use Rattle.oai_front.specs.declared.request_heads.Head.{Head}
 use Rattle.oai_front.specs.declared.request_heads.TheConstants.{MAX_HEAD_BYTES}
 use Rattle.oai_front.specs.declared.framings.Framing.{Framing}
-use Rattle.oai_front.specs.declared.framings.Framing.TheVariants.{Body, Refused}
+use Rattle.oai_front.specs.declared.framings.Framing.TheVariants.{Body}
+use Rattle.oai_front.specs.declared.framings.Framing.TheVariants as plan
+use Rattle.oai_front.specs.declared.messages.Left.TheVariants.{Refused}
 use Rattle.oai_front.proofs.HeadLemmas.{behind_is, head_has_bytes, start_within}
 
 -- ---- what stands at the front
@@ -24,13 +29,13 @@ use Rattle.oai_front.proofs.HeadLemmas.{behind_is, head_has_bytes, start_within}
 -- the size and the end that a plan tells
 size_in : Framing → ℕ
 size_in (Body size last) = size
-size_in (Refused status) = 0
+size_in (plan.Refused status) = 0
 
 last_in : Framing → Bool
 last_in (Body size last) = last
-last_in (Refused status) = false
+last_in (plan.Refused status) = false
 
-not_refused : (status : Status) (size : ℕ) (last : Bool) → Refused status ≡ Body size last → ⊥
+not_refused : (status : Status) (size : ℕ) (last : Bool) → plan.Refused status ≡ Body size last → ⊥
 not_refused status size last e = cc
 
 pub unfinished_without : (bytes : List ℕ) → HasNoHead bytes → length bytes < MAX_HEAD_BYTES → MayBegin bytes → IsUnfinished bytes
@@ -72,6 +77,7 @@ message_reads bytes kept h whole =
       method = h.method;
       target = h.target;
       content_type = h.content_type;
+      authorization = h.authorization;
     }
 
 -- ---- one more message
@@ -249,3 +255,43 @@ sofar_more step moment old mid new bytes before between after rest known kept as
       within = omega (arith, length_behind rest kept h whole, s.within);
       end = suffix_more bytes inner kept.size shorter (suffix_more bytes rest kept.start s.within s.end start) whole;
     }
+
+-- what is left where that comes next
+pub sofar_left : {H : Type 0} (step : Steps H) (moment : ℤ) (old new : H) (bytes before after rest : List ℕ) (known : Option Head) (next : Next)
+    → IsSoFar step moment old new bytes before after rest known → IsNext rest next → IsRemainder step moment old new bytes before after (left_at (length bytes - length rest) next)
+sofar_left step moment old new bytes before after rest known (Unfinished kept) s n =
+    let p = s.performed in
+    let few : length bytes - length rest ≤ length bytes = omega arith in
+    subst (λ (xs : List ℕ). WritesBehind before after (Completes step moment old new bytes (waits xs)) × (length bytes - length rest ≤ length bytes) × IfSome kept (IsHead xs)) s.end
+    ((p.0, p.1, completes_waiting step moment old new bytes rest p.0 p.2 n.0), few, n.1)
+sofar_left step moment old new bytes before after rest known (Faulty status) s n =
+    sofar_untold step moment old new bytes before after after rest known status s n refl
+sofar_left step moment old new bytes before after rest known (coming.Message kept) s n =
+    sofar_refused step moment old new new bytes before after after rest known kept s n.0 n.1 refl refl
+
+-- ---- the first of them
+
+none_before : (bytes : List ℕ) → length bytes - length bytes ≡ 0
+none_before bytes = omega arith
+
+-- nothing was performed, and that comes next
+pub first_left : {H : Type 0} (step : Steps H) (moment : ℤ) (old : H) (bytes before : List ℕ) (known : Option Head) (next : Next)
+    → IfSome known (IsHead bytes) → IsNext bytes next → IsRemainder step moment old old bytes before before (left_at 0 next)
+first_left step moment old bytes before known next h n =
+    subst (λ (k : ℕ). IsRemainder step moment old old bytes before before (left_at k next)) (none_before bytes)
+    (sofar_left step moment old old bytes before before bytes known next (sofar_none step moment old bytes before known h) n)
+
+-- out of memory: the first message was not performed
+pub first_refused : {H : Type 0} (step : Steps H) (moment : ℤ) (old new : H) (bytes before after : List ℕ) (known : Option Head) (kept : Head)
+    → IfSome known (IsHead bytes) → IsHead bytes kept → kept.size ≤ length (drop kept.start bytes) → new ≡ old → after ≡ before
+    → IsRemainder step moment old new bytes before after (Refused 0 (Some kept))
+first_refused step moment old new bytes before after known kept h stands whole same e =
+    subst (λ (k : ℕ). IsRemainder step moment old new bytes before after (Refused k (Some kept))) (none_before bytes)
+    (sofar_refused step moment old old new bytes before before after bytes known kept (sofar_none step moment old bytes before known h) stands whole same e)
+
+-- out of memory: the fault was not answered
+pub first_untold : {H : Type 0} (step : Steps H) (moment : ℤ) (old : H) (bytes before after : List ℕ) (known : Option Head) (status : Status)
+    → IfSome known (IsHead bytes) → IsFault bytes status → after ≡ before → IsRemainder step moment old old bytes before after (Refused 0 None)
+first_untold step moment old bytes before after known status h f e =
+    subst (λ (k : ℕ). IsRemainder step moment old old bytes before after (Refused k None)) (none_before bytes)
+    (sofar_untold step moment old old bytes before before after bytes known status (sofar_none step moment old bytes before known h) f e)

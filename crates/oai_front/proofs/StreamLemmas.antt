@@ -36,8 +36,8 @@ refused_alike : (s t : Status) → Refused s ≡ Refused t → s ≡ t
 unfolding status_in
 refused_alike s t e = ap status_in e
 
-type_of : RequestHead → Option (List ℕ)
-type_of head = first_value (values_named (codes "Content-Type") (head_fields head))
+value_of : List ℕ → RequestHead → Option (List ℕ)
+value_of name head = first_value (values_named name (head_fields head))
 
 -- fronts of one length, with what comes behind them
 fronts_of : (a b c d : List ℕ) → length a ≡ length b → a ++ c ≡ b ++ d → (a ≡ b) × (c ≡ d)
@@ -47,7 +47,7 @@ fronts_of a b c d long e = (
 )
 
 reads_unique : (bytes : List ℕ) (m n : Message) (after other : List ℕ) → ReadsMessages bytes m after → ReadsMessages bytes n other → (m ≡ n) × (after ≡ other)
-unfolding size_in last_in type_of
+unfolding size_in last_in value_of
 reads_unique bytes m n after other r q =
     let same = request_unique bytes r.head q.head _ _ r.begins.reads q.begins.reads in
     let framings : Body (length m.asked.body) m.last ≡ Body (length n.asked.body) n.last = sym r.framing ∙ ap framing_in same.0 ∙ q.framing in
@@ -56,8 +56,9 @@ reads_unique bytes m n after other r q =
     let parts = fronts_of m.asked.body n.asked.body after other long same.1 in
     let method : m.asked.method ≡ n.asked.method = r.method ∙ ap (λ (h : RequestHead). h.method) same.0 ∙ sym q.method in
     let target : m.asked.target ≡ n.asked.target = r.target ∙ ap (λ (h : RequestHead). h.target) same.0 ∙ sym q.target in
-    let kind : m.asked.content_type ≡ n.asked.content_type = r.content_type ∙ ap type_of same.0 ∙ sym q.content_type in
-    (λ i. record { asked = record { method = method i; target = target i; content_type = kind i; body = parts.0 i }; last = last i }, parts.1)
+    let kind : m.asked.content_type ≡ n.asked.content_type = r.content_type ∙ ap (value_of (codes "Content-Type")) same.0 ∙ sym q.content_type in
+    let key : m.asked.authorization ≡ n.asked.authorization = r.authorization ∙ ap (value_of (codes "Authorization")) same.0 ∙ sym q.authorization in
+    (λ i. record { asked = record { method = method i; target = target i; content_type = kind i; authorization = key i; body = parts.0 i }; last = last i }, parts.1)
 
 reads_more : (bytes more : List ℕ) (m : Message) (after : List ℕ) → ReadsMessages bytes m after → ReadsMessages (bytes ++ more) m (after ++ more)
 reads_more bytes more m after r = record {
@@ -67,6 +68,7 @@ reads_more bytes more m after r = record {
   method = r.method;
   target = r.target;
   content_type = r.content_type;
+  authorization = r.authorization;
 }
 
 -- ---- what excludes a message

@@ -19,4 +19,5 @@ pub record AreRead (bytes : List ℕ) (fields : List (List ℕ × List ℕ)) (re
   pub transfer_encoding : AreLines bytes (values_named (codes "Transfer-Encoding") fields) read.transfer_encoding
   pub content_length : AreLines bytes (values_named (codes "Content-Length") fields) read.content_length
   pub content_type : AreLines bytes (values_named (codes "Content-Type") fields) read.content_type
+  pub authorization : AreLines bytes (values_named (codes "Authorization") fields) read.authorization
   pub close : read.is_close ≡ any_close fields

@@ -1,5 +1,5 @@
--- The bytes of an answer: RFC 9112, sections 4 and 5; RFC 9110, sections 8.3, 8.6, 10.2.1, 10.2.3 and 7.6.1. Which
--- fields a head has, and in which order, is this repository's own, and so is X-Lines-Done.
+-- The bytes of an answer: RFC 9112, sections 4 and 5; RFC 9110, sections 8.3, 8.6, 10.2.1, 10.2.3, 11.6.1 and 7.6.1.
+-- Which fields a head has, and in which order, is this repository's own, and so is X-Lines-Done.
 use Rattle.std.specs.Prelude.{ℕ, ℤ, Bool, true, if◌then◌else◌, List, [], ◌++◌, length, codes, Option, Some, None}
 use Rattle.std.specs.Fmt.{decimal, signed_decimal}
 use Rattle.oai_http.specs.Statuses.{number_of, phrase_of}
@@ -24,17 +24,22 @@ unfoldable pub status_line : Status → List ℕ
 status_line status =
     plain (codes "HTTP/1.1 ") ++ decimal (number_of status) ++ plain (codes " ") ++ phrase_of status ++ plain (codes "\r\n")
 
--- the Content-Type of a 200: RFC 9110, section 8.3; of requests OAI-PMH 2.0, section 3.1.2.1
+-- the Content-Type of a 200: RFC 9110, section 8.3; of requests OAI-PMH 2.0, section 3.1.2.1. One that leads to no
+-- repository is a page of figures, in Prometheus' text exposition format, version 0.0.4
 unfoldable pub type_field : Option Endpoint → List ℕ
 type_field (Some Requests) = field (codes "Content-Type") (plain (codes "text/xml"))
 type_field (Some Deposits) = field (codes "Content-Type") (plain (codes "text/plain; charset=utf-8"))
-type_field None = []
+type_field None = field (codes "Content-Type") (plain (codes "text/plain; version=0.0.4"))
+
+-- what a 401 asks for, a key: RFC 9110, section 11.6.1; RFC 6750, section 3, which wants a parameter
+unfoldable pub challenge_field : List ℕ
+challenge_field = field (codes "WWW-Authenticate") (plain (codes "Bearer realm=\"deposit\""))
 
 -- the methods that a target allows, if the request had another: RFC 9110, sections 10.2.1 and 15.5.6
 unfoldable pub allow_field : Option Endpoint → List ℕ
 allow_field (Some Requests) = field (codes "Allow") (plain (codes "GET, POST"))
 allow_field (Some Deposits) = field (codes "Allow") (plain (codes "POST"))
-allow_field None = []
+allow_field None = field (codes "Allow") (plain (codes "GET"))
 
 -- the seconds after which to retry: RFC 9110, section 10.2.3, and OAI-PMH 2.0, section 3.1.2.2
 unfoldable pub retry_field : Option ℤ → List ℕ
@@ -49,6 +54,7 @@ done_field endpoint lines = []
 -- the fields that the status requires
 unfoldable pub status_fields : Status → AnswerHead → List ℕ
 status_fields status.Ok head = type_field head.endpoint
+status_fields status.Unauthorized head = challenge_field
 status_fields status.MethodNotAllowed head = allow_field head.endpoint
 status_fields status.InternalServerError head = done_field head.endpoint head.done
 status_fields status.ServiceUnavailable head = retry_field head.seconds ++ done_field head.endpoint head.done

@@ -46,6 +46,7 @@ pub record ReadsMessages (bytes : List ℕ) (message : Message) (after : List �
   pub method : message.asked.method ≡ head.method
   pub target : message.asked.target ≡ head.target
   pub content_type : message.asked.content_type ≡ first_value (values_named (codes "Content-Type") (head_fields head))
+  pub authorization : message.asked.authorization ≡ first_value (values_named (codes "Authorization") (head_fields head))
 
 -- the bytes begin with a head whose fields are refused with that status
 pub record IsRefused (bytes : List ℕ) (status : Status) : Type 0 where

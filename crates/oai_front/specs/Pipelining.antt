@@ -1,9 +1,10 @@
 -- Pipelined messages, which are performed in order (RFC 9112, section 9.3.2): what comes next, and what is left. No
 -- definition of a message rests on it.
-use Rattle.std.specs.Prelude.{◌≡◌, ℕ, ℤ, ◌-◌, ◌≤◌, List, ◌++◌, length, take, drop, IfSome, Option}
+use Rattle.std.specs.Prelude.{◌≡◌, ℕ, ℤ, ◌-◌, ◌≤◌, ⊤, List, [], ◌++◌, length, take, drop, IfSome, Option, Some, None, Result, Ok, Err}
 use Rattle.std.specs.Option.{option_map}
 use Rattle.httparse.specs.Spans.{span_bytes}
 use Rattle.oai_http.specs.Exchanges.{Asked}
+use Rattle.oai_front.specs.Connections.{Connection}
 use Rattle.oai_front.specs.Messages.{End, HasWhole, IsClosing, IsFault, IsUnfinished, waits}
 use Rattle.oai_front.specs.Performing.{Completes, Performs, Steps}
 use Rattle.oai_front.specs.declared.messages.Next.{Next}
@@ -11,6 +12,9 @@ use Rattle.oai_front.specs.declared.messages.Next.TheVariants.{Unfinished, Fault
 use Rattle.oai_front.specs.declared.messages.Left.{Left}
 use Rattle.oai_front.specs.declared.messages.Left.TheVariants.{Waiting, Nothing, Refused}
 use Rattle.oai_front.specs.declared.request_heads.Head.{Head}
+use Rattle.oai_front.specs.declared.faults.PieceFault.{PieceFault}
+use Rattle.oai_front.specs.declared.faults.PieceFault.TheVariants as fault
+use Rattle.oai_front.specs.declared.stages.Stage.TheVariants.{Closed}
 use Rattle.oai_front.specs.RequestHeads.{IsHead}
 
 -- ---- what is to be done next
@@ -33,6 +37,7 @@ message_behind bytes head = record {
   method = span_bytes bytes head.method;
   target = span_bytes bytes head.target;
   content_type = option_map (span_bytes bytes) head.content_type;
+  authorization = option_map (span_bytes bytes) head.authorization;
   body = body_behind bytes head;
 }
 
@@ -54,6 +59,32 @@ IsRemainder step moment old new bytes before after (Refused begun kept) =
     WritesBehind before after (Performs step moment old new bytes (drop begun bytes)) × (begun ≤ length bytes)
     × IfSome kept (IsHead (drop begun bytes))
     × HasWhole (drop begun bytes)
+
+-- what is left after that many bytes, if this comes next
+abbrev pub left_at : ℕ → Next → Left
+left_at begun (Unfinished kept) = Waiting begun kept
+left_at begun (Faulty status) = Refused begun None
+left_at begun (Message head) = Refused begun (Some head)
+
+-- ---- what a connection keeps
+
+-- that can be left of the bytes
+abbrev pub IsRestLeft : List ℕ → Left → Type 0
+IsRestLeft bytes (Waiting begun kept) = (begun ≤ length bytes) × IfSome kept (IsHead (drop begun bytes))
+IsRestLeft bytes Nothing = ⊤
+IsRestLeft bytes (Refused begun kept) = (begun ≤ length bytes) × IfSome kept (IsHead (drop begun bytes))
+
+-- the connection of whose bytes that is left
+abbrev pub left_with : Connection → Left → Connection
+left_with c (Waiting begun kept) = record c { rest = drop begun c.rest }
+left_with c Nothing = record c { rest = []; stage = Closed }
+left_with c (Refused begun kept) = record c { rest = drop begun c.rest }
+
+-- whether something complete is left
+abbrev pub answer_of_left : Left → Result Unit PieceFault
+answer_of_left (Waiting begun kept) = Ok tt
+answer_of_left Nothing = Ok tt
+answer_of_left (Refused begun kept) = Err fault.Unfinished
 
 -- ---- while they are performed
 

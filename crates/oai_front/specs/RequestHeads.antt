@@ -28,6 +28,9 @@ pub record IsHead (bytes : List ℕ) (kept : Head) : Type 0 where
   pub type_in : IfSome kept.content_type (IsWithin (length bytes))
   pub content_type : option_map (span_bytes bytes) kept.content_type
       ≡ first_value (values_named (codes "Content-Type") (head_fields head))
+  pub key_in : IfSome kept.authorization (IsWithin (length bytes))
+  pub authorization : option_map (span_bytes bytes) kept.authorization
+      ≡ first_value (values_named (codes "Authorization") (head_fields head))
 
 -- what the bytes begin with: no head yet, fewer bytes than one may have, and one may still begin; a fault; a head
 abbrev pub IsHeadParse : List ℕ → HeadParse → Type 0

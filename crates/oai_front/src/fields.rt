@@ -28,6 +28,8 @@ pub(crate) struct HeadFields {
     pub(crate) content_length: FieldLines,
     /// The field lines Content-Type.
     pub(crate) content_type: FieldLines,
+    /// The field lines Authorization.
+    pub(crate) authorization: FieldLines,
     /// Whether a field Connection lists `close`.
     pub(crate) is_close: bool,
 }
@@ -59,6 +61,7 @@ impl HeadFields {
             transfer_encoding: none,
             content_length: none,
             content_type: none,
+            authorization: none,
             is_close: false,
         }
     }
@@ -74,6 +77,7 @@ impl HeadFields {
             .add(bytes, header, b"Transfer-Encoding");
         self.content_length.add(bytes, header, b"Content-Length");
         self.content_type.add(bytes, header, b"Content-Type");
+        self.authorization.add(bytes, header, b"Authorization");
         self.is_close = self.is_close || closes(bytes, header);
     }
 }

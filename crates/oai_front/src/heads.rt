@@ -68,6 +68,7 @@ fn write_fields(head: &AnswerHead, out: &mut Vec<u8>)
 {
     match head.status {
         Status::Ok => write_type(head.endpoint, out),
+        Status::Unauthorized => write_challenge(out),
         Status::MethodNotAllowed => write_allow(head.endpoint, out),
         Status::InternalServerError => write_done(head.endpoint, head.done, out),
         Status::ServiceUnavailable => {
@@ -89,8 +90,19 @@ fn write_type(endpoint: Option<Endpoint>, out: &mut Vec<u8>)
     match endpoint {
         Some(Endpoint::Requests) => write_field("Content-Type", b"text/xml", out),
         Some(Endpoint::Deposits) => write_field("Content-Type", b"text/plain; charset=utf-8", out),
-        None => {}
+        None => write_field("Content-Type", b"text/plain; version=0.0.4", out),
     }
+}
+
+/// Writes what a 401 asks for (RFC 9110, section 11.6.1; RFC 6750, section 3).
+#[tactic(auto, unfolding(crate::specs::Heads::plain, crate::specs::Heads::challenge_field))]
+fn write_challenge(out: &mut Vec<u8>)
+    requires { vec_len out.old + LINE_ROOM ≤ vec_capacity out.old }
+    ensures items { out.new.items ≡ out.old.items ++ spec.challenge_field }
+    ensures len { vec_len out.new ≤ vec_len out.old + LINE_ROOM }
+    ensures room { vec_capacity out.old ≤ vec_capacity out.new }
+{
+    write_field("WWW-Authenticate", b"Bearer realm=\"deposit\"", out)
 }
 
 /// Writes the allowed methods, in a 405 (RFC 9110, section 10.2.1).
@@ -104,7 +116,7 @@ fn write_allow(endpoint: Option<Endpoint>, out: &mut Vec<u8>)
     match endpoint {
         Some(Endpoint::Requests) => write_field("Allow", b"GET, POST", out),
         Some(Endpoint::Deposits) => write_field("Allow", b"POST", out),
-        None => {}
+        None => write_field("Allow", b"GET", out),
     }
 }
 

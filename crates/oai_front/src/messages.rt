@@ -7,6 +7,7 @@ ghost use Rattle.oai_http.specs.Targets.{endpoint_of};
 ghost use Rattle.oai_front.specs.Queues.{AreFilled, IsTaken};
 ghost use Rattle.oai_front.specs.RequestHeads.{IsHead};
 ghost use Rattle.oai_front.specs.Pipelining.{IsRemainder, IsNext, behind_message, message_behind};
+ghost use Rattle.oai_front.specs.Pipelining as spec;
 
 use crate::queues::{perform_message, put_fault};
 use crate::request_heads::{Head, HeadParse, read_head};
@@ -83,6 +84,55 @@ pub(crate) fn perform_all<H: Handler>(
     }
 }
 
+/// Performs the first of the messages with which the bytes begin, and appends its answer to the output, or the answer
+/// to a connection fault. `head` is what is known of its head. What follows it waits, with its head if that is complete.
+pub(crate) fn perform_first<H: Handler>(
+    alloc: Global,
+    handler: &mut H,
+    moment: i64,
+    bytes: &[u8],
+    head: Option<Head>,
+    queue: &mut VecDeque<Sequence<u8>>,
+) -> Left
+    requires known { IfSome head (IsHead bytes.now) }
+    requires filled { AreFilled queue.old.items }
+    ensures left { IsRemainder H.step moment handler.old handler.new bytes.now (concat queue.old.items)
+        (concat queue.new.items) result }
+    ensures filled { AreFilled queue.new.items }
+    ensures taken { (taken : ℕ) → IsTaken taken queue.old.items → IsTaken taken queue.new.items }
+{
+    match next_in(bytes, head) {
+        Next::Unfinished(head) => Left::Waiting(0, head),
+        Next::Faulty(status) => match put_fault(alloc, status, queue) {
+            Ok(()) => Left::Nothing,
+            Err(_) => Left::Refused(0, None),
+        },
+        Next::Message(head) => {
+            let exchange = exchange_of(bytes, &head);
+            match perform_message(alloc, handler, moment, &exchange, &head, queue) {
+                Ok(()) => {}
+                Err(_) => return Left::Refused(0, Some(head)),
+            }
+            if head.last {
+                return Left::Nothing;
+            }
+            let rest = after(bytes, &head);
+            left_at(bytes.len() - rest.len(), next_in(rest, None))
+        }
+    }
+}
+
+/// What is left after that many bytes, if this comes next.
+fn left_at(begun: usize, next: Next) -> Left
+    ensures { result ≡ spec.left_at begun next }
+{
+    match next {
+        Next::Unfinished(head) => Left::Waiting(begun, head),
+        Next::Faulty(_) => Left::Refused(begun, None),
+        Next::Message(head) => Left::Refused(begun, Some(head)),
+    }
+}
+
 /// What the bytes begin with, if this is known of their first head.
 pub(crate) fn next_in(bytes: &[u8], known: Option<Head>) -> Next
     requires { IfSome known (IsHead bytes.now) }
@@ -138,6 +188,7 @@ fn exchange_of<'b>(bytes: &'b [u8], head: &Head) -> Exchange<'b>
         method: head.method.of(bytes),
         target: head.target.of(bytes),
         content_type: part_of(bytes, head.content_type),
+        authorization: part_of(bytes, head.authorization),
         body: &behind_head(bytes, head)[..head.size],
     }
 }

@@ -25,6 +25,8 @@ pub struct Head {
     pub endpoint: Option<Endpoint>,
     /// The value of the first field Content-Type, if there is one.
     pub content_type: Option<Span>,
+    /// The value of the first field Authorization, if there is one.
+    pub authorization: Option<Span>,
     /// The length of the head in bytes; the body begins after it.
     pub start: usize,
     /// The length of the body in bytes.
@@ -107,6 +109,7 @@ fn kept_of(bytes: &[u8], spans: &RequestSpans, headers: &[HeaderSpan]) -> HeadPa
             target: spans.path,
             endpoint,
             content_type: fields.content_type.first,
+            authorization: fields.authorization.first,
             start: spans.len,
             size,
             last,

@@ -50,20 +50,20 @@ was_offered token step (e ∷ whole) is (inr here) = let same : e ≡ step = cc 
 -- was offered by the machine
 token_offered : (config : RepositoryConfig) (begun : RepoState) (done : List Call) (all : List Visit) (before : Visit) (offer : TokenOffer) → IsConfig config → AreRepositoryFormats config.formats
     → IsReachable config begun → IsPart all (visits config begun done) → IsPart (before ∷ []) all → IsPrinted before.answer offer
-    → WasOffered offer.token (run config begun (commands_in config.granularity done))
+    → WasOffered offer.token (run config begun (commands_in config done))
 token_offered config begun done all before offer rules formats reachable among part printed =
     let whole : List Visit = visits config begun done in
     let its : IsPart (before ∷ []) whole = part_twice (before ∷ []) all whole part among in
     let steps = taken config begun done (before ∷ []) reachable (printing_asks config before offer (alone_visit config begun done before its) printed, tt) its in
     by steps.steps steps.each (subst (IsPart steps.steps) (steps_run config begun done) steps.among)
   where
-    by : (steps : List Transition) → AllZip (IsTaken config) (before ∷ []) steps → IsPart steps (run config begun (commands_in config.granularity done))
-        → WasOffered offer.token (run config begun (commands_in config.granularity done))
+    by : (steps : List Transition) → AllZip (IsTaken config) (before ∷ []) steps → IsPart steps (run config begun (commands_in config done))
+        → WasOffered offer.token (run config begun (commands_in config done))
     by [] each own = absurd each
     by (step ∷ next ∷ steps) each own = absurd each.1
     by (step ∷ []) each own =
         let told = taken_offer config before step offer rules formats each.0 printed in
-        was_offered offer.token step (run config begun (commands_in config.granularity done))
+        was_offered offer.token step (run config begun (commands_in config done))
         (record { page = told.0; offer = offer; told = told.1; offered = told.2; same = refl }) own
 
 refused_answer : (g : Granularity) (outcome : Outcome) (answer : Answer) → answer ≡ answer_of (outcome_output g outcome) → answer_in outcome ≡ Some (fails BadResumptionToken) → IsTokenRefused answer
@@ -77,24 +77,24 @@ refused_answer g (refused_with cause) answer written told = cc
 token_refused : (config : RepositoryConfig) (begun : RepoState) (done : List Call) (all : List Visit) (after : Visit) (verb : ListVerb) (token : List ℕ) → IsReachable config begun
     → IsPart all (visits config begun done) → IsPart (after ∷ []) all → IsRequest config.granularity after.call (asks (ask.Resume verb token))
     → Throughout (λ (exchange : Transition). exchange.command ≡ next_request verb token → answer_in exchange.outcome ≡ Some (fails BadResumptionToken))
-    (run config begun (commands_in config.granularity done)) → IsTokenRefused after.answer
+    (run config begun (commands_in config done)) → IsTokenRefused after.answer
 token_refused config begun done all after verb token reachable among part asked refused =
     let whole : List Visit = visits config begun done in
     let steps = taken config begun done (after ∷ []) reachable (record { arguments = asked.arguments; asked = asked.asked }, tt) (part_twice (after ∷ []) all whole part among) in
     by steps.steps steps.each (subst (IsPart steps.steps) (steps_run config begun done) steps.among)
   where
-    by : (steps : List Transition) → AllZip (IsTaken config) (after ∷ []) steps → IsPart steps (run config begun (commands_in config.granularity done)) → IsTokenRefused after.answer
+    by : (steps : List Transition) → AllZip (IsTaken config) (after ∷ []) steps → IsPart steps (run config begun (commands_in config done)) → IsTokenRefused after.answer
     by [] each own = absurd each
     by (step ∷ next ∷ steps) each own = absurd each.1
     by (step ∷ []) each own =
         refused_answer config.granularity step.outcome after.answer (taken_written config after step each.0)
         (throughout_at (λ (exchange : Transition). exchange.command ≡ next_request verb token → answer_in exchange.outcome ≡ Some (fails BadResumptionToken)) step
-        (run config begun (commands_in config.granularity done)) refused own (its_command config after step _ each.0 asked))
+        (run config begun (commands_in config done)) refused own (its_command config after step _ each.0 asked))
 
 -- what one era prints, in eras behind it
 tokens_refused : (config : RepositoryConfig) (begun : RepoState) (done : List Call) (all : List Visit) (state : RepoState) (eras : List VisitedEra) → IsConfig config → AreRepositoryFormats config.formats
     → IsReachable config begun → IsPart all (visits config begun done) → IsStanding config state → HaveNumbersIn config state eras → AreTrueEach config state eras
-    → AllByRecursion (AreOldTokensRefused (run config begun (commands_in config.granularity done))) (runs config state (machine_eras config eras))
+    → AllByRecursion (AreOldTokensRefused (run config begun (commands_in config done))) (runs config state (machine_eras config eras))
     → AllByRecursion (AreTokensRefused config all) (visits_within config state eras)
 tokens_refused config begun done all state [] rules formats reachable among standing numbers true_in refused = tt
 tokens_refused config begun done all state (era ∷ eras) rules formats reachable among standing numbers true_in refused =
@@ -104,7 +104,7 @@ tokens_refused config begun done all state (era ∷ eras) rules formats reachabl
           token_refused config (era_begins state era) (calls_done era.calls era.answers) (era_visits config state era) after verb offer.token first true_in.0.among later asked
           (refused.0 verb offer.token (token_offered config begun done all before offer rules formats reachable among part printed)),
       tokens_refused config begun done all left eras rules formats reachable among (standing_leaves config state era rules numbers.0 standing) numbers.1 true_in.1
-          (subst (λ (s : RepoState). AllByRecursion (AreOldTokensRefused (run config begun (commands_in config.granularity done))) (runs config s (machine_eras config eras))) (leaves_same config state era) refused.1),
+          (subst (λ (s : RepoState). AllByRecursion (AreOldTokensRefused (run config begun (commands_in config done))) (runs config s (machine_eras config eras))) (leaves_same config state era) refused.1),
     )
 
 tokens_ended : (config : RepositoryConfig) (state : RepoState) (eras : List VisitedEra) → IsConfig config → AreRepositoryFormats config.formats → IsStanding config state → HaveNumbersIn config state eras
@@ -117,7 +117,7 @@ tokens_ended config state (era ∷ eras) rules formats standing numbers true_in 
     let later = standing_leaves config state era rules numbers.0 standing in (
       tokens_refused config begun done (era_visits config state era) left eras rules formats
           (reachable_standing config begun (standing_ended config era.raise state numbers.0 standing)) true_in.0.among later numbers.1 true_in.1
-          (subst (λ (s : RepoState). AllByRecursion (AreOldTokensRefused (run config begun (commands_in config.granularity done))) (runs config s (machine_eras config eras))) (leaves_same config state era) ended.0),
+          (subst (λ (s : RepoState). AllByRecursion (AreOldTokensRefused (run config begun (commands_in config done))) (runs config s (machine_eras config eras))) (leaves_same config state era) ended.0),
       tokens_ended config left eras rules formats later numbers.1 true_in.1
           (subst (λ (s : RepoState). AreEnded (runs config s (machine_eras config eras))) (leaves_same config state era) ended.1),
     )
@@ -160,7 +160,7 @@ taken_within config state (era ∷ eras) some rules standing numbers true_in ask
     let begun : RepoState = era_begins state era in
     let done : List Call = calls_done era.calls era.answers in
     let all : List Visit = era_visits config state era in
-    let whole : List Transition = run config begun (commands_in config.granularity done) in
+    let whole : List Transition = run config begun (commands_in config done) in
     let others : List Transition = all_exchanges (runs config left (machine_eras config eras)) in
     let cut : IsSplit some all (all_visits (visits_within config left eras)) = part_split some all (all_visits (visits_within config left eras)) part in
     let both = asking_both cut.front cut.back (subst (AllByRecursion IsAsking) cut.are asks_all) in

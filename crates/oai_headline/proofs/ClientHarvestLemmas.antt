@@ -428,7 +428,7 @@ met_at config begun commands prefix from first others step steps h = by others s
 
 pub harvest_met : (config : RepositoryConfig) (begun : RepoState) (calls : List Call) (all : List Visit) (prefix : List ℕ) (from : Option (List ℕ)) (harvest : ClientHarvest) → IsConfig config → AreRepositoryFormats config.formats
     → IsReachable config begun → IsPart all (visits config begun calls) → IsClientHarvest config all prefix from harvest
-    → IsMet config (run config begun (commands_in config.granularity calls)) prefix from harvest
+    → IsMet config (run config begun (commands_in config calls)) prefix from harvest
 harvest_met config begun calls all prefix from harvest rules formats reachable part own =
     let some : List Visit = map visit_in (visits_of harvest) in
     let asks : AllByRecursion IsAsking some =
@@ -438,11 +438,11 @@ harvest_met config begun calls all prefix from harvest rules formats reachable p
     by steps.steps (matched config (visits_of harvest) steps.steps formats steps.each own.seen)
     (subst (IsPart steps.steps) (steps_run config begun calls) steps.among)
   where
-    by : (steps : List Transition) → AllZip (IsMatched config) (visits_of harvest) steps → IsPart steps (run config begun (commands_in config.granularity calls))
-        → IsMet config (run config begun (commands_in config.granularity calls)) prefix from harvest
+    by : (steps : List Transition) → AllZip (IsMatched config) (visits_of harvest) steps → IsPart steps (run config begun (commands_in config calls))
+        → IsMet config (run config begun (commands_in config calls)) prefix from harvest
     by [] each among = absurd each
     by (step ∷ steps) each among =
-        met_at config begun (commands_in config.granularity calls) prefix from harvest.first harvest.others step steps
+        met_at config begun (commands_in config calls) prefix from harvest.first harvest.others step steps
         (record {
           rules = rules;
           sound = reachable.sound;
@@ -467,12 +467,12 @@ record AreMet (config : RepositoryConfig) (exchanges : List Transition) (prefix 
 
 all_met : (config : RepositoryConfig) (calls : List Call) (all : List Visit) (prefix : List ℕ) (from : Option (List ℕ)) (harvests : List ClientHarvest) (steps : List Transition) → IsConfig config
     → AreRepositoryFormats config.formats → IsPart all (visits config (empty_state config) calls) → AllZip (IsTaken config) (map first_in harvests) steps
-    → AreClientHarvests config all prefix from harvests → AreMet config (run config (empty_state config) (commands_in config.granularity calls)) prefix from harvests steps
+    → AreClientHarvests config all prefix from harvests → AreMet config (run config (empty_state config) (commands_in config calls)) prefix from harvests steps
 all_met config calls all prefix from [] [] rules formats part each own = record { machines = []; firsts = refl; made = tt; told = tt }
 all_met config calls all prefix from [] (step ∷ steps) rules formats part each own = absurd each
 all_met config calls all prefix from (harvest ∷ harvests) [] rules formats part each own = absurd each
 all_met config calls all prefix from (harvest ∷ harvests) (step ∷ steps) rules formats part each own =
-    let exchanges : List Transition = run config (empty_state config) (commands_in config.granularity calls) in
+    let exchanges : List Transition = run config (empty_state config) (commands_in config calls) in
     let one = harvest_met config (empty_state config) calls all prefix from harvest rules formats (reachable_empty config rules) part own.0 in
     let later = all_met config calls all prefix (Some (datestamp_in config.granularity harvest.first.seen.date)) harvests steps rules formats part each.1 own.1 in
     record {
@@ -553,7 +553,7 @@ client_harvests_copied config calls all prefix first others rules formats keeps 
     met.made met.told
   where
     commands : List Timed
-    commands = commands_in config.granularity calls
+    commands = commands_in config calls
 
     exchanges : List Transition
     exchanges = run config (empty_state config) commands

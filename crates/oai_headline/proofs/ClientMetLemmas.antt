@@ -256,7 +256,7 @@ first_sound config step steps (visit ∷ some) is = ((taken_reachable config vis
 
 pub harvest_seen : (config : RepositoryConfig) (calls : List Call) (prefix : List ℕ) (from : Option (List ℕ)) (some : List Visit) (harvest : Harvest) → IsConfig config → AreRepositoryFormats config.formats
     → IsPart some (visits config (empty_state config) calls) → AllZip (IsStepOf config) some (requests_of harvest)
-    → IsHarvest config (run config (empty_state config) (commands_in config.granularity calls)) (records_since prefix from) harvest
+    → IsHarvest config (run config (empty_state config) (commands_in config calls)) (records_since prefix from) harvest
     → IsSomeClientHarvest config (visits config (empty_state config) calls) prefix from some
 harvest_seen config calls prefix from some harvest rules formats part each made =
     let own = taken config (empty_state config) calls some (reachable_empty config rules) (steps_asking config some (requests_of harvest) each) part in
@@ -268,7 +268,7 @@ harvest_seen config calls prefix from some harvest rules formats part each made 
     all = visits config (empty_state config) calls
 
     commands : List Timed
-    commands = commands_in config.granularity calls
+    commands = commands_in config calls
 
     exchanges : List Transition
     exchanges = run config (empty_state config) commands

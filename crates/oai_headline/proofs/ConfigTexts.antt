@@ -8,7 +8,7 @@ use Rattle.oai_names.specs.Names.{is_prefix, is_prefix_byte, may_be_prefix}
 use Rattle.oai_names.specs.declared.limits.TheConstants.{MAX_PREFIX_BYTES}
 use Rattle.oai_names.proofs.Lists.{all-weaker}
 use Rattle.oai_item.specs.Formats.{AreRepositoryFormats, dublin_core}
-use Rattle.oai_item.specs.Rules.{are_names, are_uris, has_fields, has_repeat, is_allowed, is_space, is_uri}
+use Rattle.oai_item.specs.Rules.{are_names, are_uris, has_few_fields, has_repeat, is_allowed, is_space, is_uri}
 use Rattle.oai_item.specs.ShortTexts.{is_short_text}
 use Rattle.oai_item.specs.declared.formats.Format.{Format}
 use Rattle.oai_xml.specs.LegalTexts.{is_legal_text}
@@ -46,8 +46,8 @@ uri_legal text utf8 is = both utf8 (short_characters text (and_parts (is_short_t
 allowed_legal : (format : Format) → HasUtf8Texts format → is_allowed format ≡ true → is_legal_format format ≡ true
 unfolding is_allowed
 allowed_legal format utf8 is =
-    let repeats = and_parts (are_names format && are_uris format && has_fields format) (not (has_repeat format.fields)) is in
-    let fields = and_parts (are_names format && are_uris format) (has_fields format) repeats.0 in
+    let repeats = and_parts (are_names format && are_uris format && has_few_fields format) (not (has_repeat format.fields)) is in
+    let fields = and_parts (are_names format && are_uris format) (has_few_fields format) repeats.0 in
     let uris = and_parts (are_names format) (are_uris format) fields.0 in
     let two = and_parts (is_uri format.schema) (is_uri format.namespace) uris.1 in
     both (both (prefix_legal format.prefix utf8.prefix) (uri_legal format.schema utf8.schema two.0)) (uri_legal format.namespace utf8.namespace two.1)

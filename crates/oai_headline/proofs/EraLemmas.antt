@@ -39,7 +39,7 @@ pub record AreMetFrom (config : RepositoryConfig) (begun : RepoState) (calls : L
 
 -- the steps of those without a fault are among those of what was performed
 steps_among : (config : RepositoryConfig) (begun : RepoState) (calls : List Call) (answers : List Answer) → AllByRecursion (IsTrueVisit config) (visits_given config begun calls answers)
-    → IsPart (flat_map (steps_of config) (whole_visits (visits_given config begun calls answers))) (run config begun (commands_in config.granularity (calls_done calls answers)))
+    → IsPart (flat_map (steps_of config) (whole_visits (visits_given config begun calls answers))) (run config begun (commands_in config (calls_done calls answers)))
 steps_among config begun calls answers given =
     let some : List Visit = whole_visits (visits_given config begun calls answers) in
     let done : List Call = calls_done calls answers in
@@ -64,8 +64,8 @@ throughout_from config begun calls answers left rules formats standing met = rec
   harvests = λ prefix first others keeps successive.
       let some : List Visit = whole_visits (visits_given config begun calls answers) in
       let done : List Call = calls_done calls answers in
-      harvests_copied_from config begun (commands_in config.granularity done) prefix first others rules keeps standing
-      (successive_more config (flat_map (steps_of config) some) (run config begun (commands_in config.granularity done)) prefix first others
+      harvests_copied_from config begun (commands_in config done) prefix first others rules keeps standing
+      (successive_more config (flat_map (steps_of config) some) (run config begun (commands_in config done)) prefix first others
       (steps_among config begun calls answers met.given) successive);
 }
 
@@ -73,7 +73,7 @@ throughout_from config begun calls answers left rules formats standing met = rec
 
 -- the commands that were performed in an era
 abbrev pub machine_era : RepositoryConfig → VisitedEra → Era
-machine_era config era = record { raise = era.raise; commands = commands_in config.granularity (calls_done era.calls era.answers) }
+machine_era config era = record { raise = era.raise; commands = commands_in config (calls_done era.calls era.answers) }
 
 abbrev pub machine_eras : RepositoryConfig → List VisitedEra → List Era
 machine_eras config eras = map (machine_era config) eras
@@ -92,7 +92,7 @@ pub standing_leaves : (config : RepositoryConfig) (state : RepoState) (era : Vis
     → IsStanding config (era_leaves config state era)
 standing_leaves config state era rules few standing =
     subst (IsStanding config) (leaves_same config state era)
-    (standing_behind config (ended era.raise state) (commands_in config.granularity (calls_done era.calls era.answers)) rules (standing_ended config era.raise state few standing))
+    (standing_behind config (ended era.raise state) (commands_in config (calls_done era.calls era.answers)) rules (standing_ended config era.raise state few standing))
 
 -- ---- fewer exchanges in each era
 

@@ -100,11 +100,11 @@ pages_of config verb format (visit ∷ some) (step ∷ steps) (page ∷ pages) e
 
 reached : (config : RepositoryConfig) (state : RepoState) (calls : List Call) (all : List Visit) (list_request : ListQuery) (first : Visit) (others : List Visit) (steps : List Transition)
     → IsConfig config → AreRepositoryFormats config.formats → IsReachable config state → IsFollowing config all list_request first others → AllZip (IsTaken config) (first ∷ others) steps
-    → IsPart steps (run config state (commands_in config.granularity calls)) → AreReached config list_request first others
+    → IsPart steps (run config state (commands_in config calls)) → AreReached config list_request first others
 reached config state calls all list_request first others [] rules formats reachable chain each among = absurd each
 reached config state calls all list_request first others (step ∷ steps) rules formats reachable chain each among =
     let found : step.found ≡ found_by first = taken_found config first step each.0 in
-    let its : IsChain config (run config state (commands_in config.granularity calls)) list_request step steps =
+    let its : IsChain config (run config state (commands_in config calls)) list_request step steps =
     record {
       among = among;
       verb = chain.verb;
@@ -114,7 +114,7 @@ reached config state calls all list_request first others (step ∷ steps) rules 
       next = links config list_request.verb first others step steps rules formats each.0 each.1 chain.next;
     }
     in
-    let told = chain_followed config (commands_in config.granularity calls) state list_request step steps rules reachable.sound its in
+    let told = chain_followed config (commands_in config calls) state list_request step steps rules reachable.sound its in
     let followed : IsFollowedThrough config list_request (selection_in (found_by first) list_request) (step ∷ steps) told.0 =
     subst (λ (state : RepoState). IsFollowedThrough config list_request (selection_in state list_request) (step ∷ steps) told.0) found told.1
     in

@@ -2,7 +2,7 @@
 use Rattle.std.proofs.Common.{◌≡◌, ◌≢◌, inl, inr, ℕ, ℤ, List, [], ◌∷◌, ◌++◌, Result, Ok, Err, refl, sym, ap, subst}
 use Rattle.std.specs.List.{AllByRecursion, AllZip, flat_map}
 use Rattle.oai_time.specs.declared.granularity.Granularity.{Granularity}
-use Rattle.oai_item.specs.declared.changes.Change.{Change}
+use Rattle.oai_deposit.specs.declared.changes.Change.{Change}
 use Rattle.oai_item.specs.declared.refusals.LineRefusal.{LineRefusal}
 use Rattle.oai_deposit.specs.Lines.{line_of}
 use Rattle.oai_args.specs.Asks.{AskOrError}
@@ -34,14 +34,14 @@ never_line g (Err cause) request is = cc
 
 -- so what is found in a deposit, and behind it, is found behind it
 behind_lines : (config : RepositoryConfig) (moment : ℤ) (state : RepoState) (lines : List (List ℕ)) (steps rest : List Transition) → AllByRecursion IsAsked steps
-    → IsPart steps (run config state (commands_of config.granularity moment (depositing lines)) ++ rest) → IsPart steps rest
+    → IsPart steps (run config state (commands_of config moment (depositing lines)) ++ rest) → IsPart steps rest
 behind_lines config moment state [] steps rest asks part = part
 behind_lines config moment state (text ∷ lines) steps rest asks (inl part) =
-    behind_lines config moment (performed config state (timed_input config.granularity moment (line (line_of text)))).left lines steps rest asks part
+    behind_lines config moment (performed config state (timed_input config.granularity moment (line (line_of config.forms text)))).left lines steps rest asks part
 behind_lines config moment state (text ∷ lines) steps rest asks (inr here) =
-    let own : AllByRecursion IsAsked (performed config state (timed_input config.granularity moment (line (line_of text))) ∷ here.0) =
+    let own : AllByRecursion IsAsked (performed config state (timed_input config.granularity moment (line (line_of config.forms text))) ∷ here.0) =
     subst (AllByRecursion IsAsked) here.1 asks in
-    absurd (never_line config.granularity (line_of text) own.0.0 own.0.1)
+    absurd (never_line config.granularity (line_of config.forms text) own.0.0 own.0.1)
 
 passed : (config : RepositoryConfig) (visit : Visit) (steps : List Transition) (all : List Visit) → AreFound config steps all → AreFound config steps (visit ∷ all)
 passed config visit steps all h = record { some = h.some; each = h.each; among = inl h.among }
@@ -57,7 +57,7 @@ its_step config state call arguments asked = record {
 }
 
 at_call : (config : RepositoryConfig) (state : RepoState) (call : Call) (task : Task) (steps rest : List Transition) (all : List Visit) → task_of call ≡ task → AllByRecursion IsAsked steps
-    → IsPart steps (run config state (commands_of config.granularity call.moment task) ++ rest)
+    → IsPart steps (run config state (commands_of config call.moment task) ++ rest)
     → ((others : List Transition) → AllByRecursion IsAsked others → IsPart others rest → AreFound config others all)
     → AreFound config steps (visit_in config state call ∷ all)
 at_call config state call (refusing status) steps rest all is asks part later = passed config (visit_in config state call) steps all (later steps asks part)

@@ -117,7 +117,7 @@ not_told_to_wait g (refused_with cause) h = refl
 
 pub visits_met : (config : RepositoryConfig) (calls : List Call) (list_request : ListQuery) (first : Visit) (others : List Visit) (step : Transition) (steps : List Transition) → IsConfig config
     → AreRepositoryFormats config.formats → IsPart (first ∷ others) (visits config (empty_state config) calls) → AllZip (IsStepOf config) (first ∷ others) (step ∷ steps)
-    → IsChain config (run config (empty_state config) (commands_in config.granularity calls)) list_request step steps
+    → IsChain config (run config (empty_state config) (commands_in config calls)) list_request step steps
     → IsFollowing config (visits config (empty_state config) calls) list_request first others
 visits_met config calls list_request first others step steps rules formats among each chain =
     let reached = part_reached config (first ∷ others) (visits config (empty_state config) calls) among (all_reached config (empty_state config) calls (reachable_empty config rules)) in

@@ -1,11 +1,11 @@
 -- What prints a token is the answer to a request: the answer to a deposit does not begin as a document does.
 use Rattle.std.proofs.Common.{◌≡◌, ◌∙◌, inl, inr, ℕ, ℤ, List, [], ◌∷◌, ◌++◌, codes, Option, None, Some, Result, Ok, Err, refl, sym, ap, subst, arith}
 use Rattle.oai_item.specs.Refusals.{Cause, in_line, in_repository, refusal_line}
-use Rattle.oai_item.specs.declared.changes.Change.{Change}
+use Rattle.oai_deposit.specs.declared.changes.Change.{Change}
 use Rattle.oai_item.specs.declared.refusals.ChangeRefusal.{ChangeRefusal}
-use Rattle.oai_item.specs.declared.refusals.ChangeRefusal.TheVariants.{AlreadyDeleted, BadDate, DropsFormat, NoDc, NoParent, NoSuchItem, NotTransient, SetExists, TooLarge, TooManyItems, TooManySets, UnknownField, UnknownFormat, UnknownSet}
+use Rattle.oai_item.specs.declared.refusals.ChangeRefusal.TheVariants.{AlreadyDeleted, BadDate, DropsFormat, NoDc, NoParent, NoSuchItem, NotOfFormat, NotTransient, SetExists, TooLarge, TooManyItems, TooManySets, UnknownField, UnknownFormat, UnknownSet}
 use Rattle.oai_item.specs.declared.refusals.LineRefusal.{LineRefusal}
-use Rattle.oai_item.specs.declared.refusals.LineRefusal.TheVariants.{BadCommand, BadIdentifier, BadJson, BadSetSpec, BadText}
+use Rattle.oai_item.specs.declared.refusals.LineRefusal.TheVariants.{BadCommand, BadIdentifier, BadJson, BadSetSpec, BadText, BadXml}
 use Rattle.oai_answers.specs.Answers.{Document}
 use Rattle.oai_answers.specs.Documents.{document}
 use Rattle.oai_answers.specs.Documents as doc
@@ -39,6 +39,7 @@ document_first its = refl
 refusal_first : (cause : Cause) (others : List ℕ) → first_of ((refusal_line cause ++ 10 ∷ []) ++ others) ≡ 114
 refusal_first (in_line BadJson) others = refl
 refusal_first (in_line BadCommand) others = refl
+refusal_first (in_line (BadXml offset)) others = refl
 refusal_first (in_line BadIdentifier) others = refl
 refusal_first (in_line BadSetSpec) others = refl
 refusal_first (in_line BadText) others = refl
@@ -46,6 +47,7 @@ refusal_first (in_repository UnknownSet) others = refl
 refusal_first (in_repository UnknownFormat) others = refl
 refusal_first (in_repository NoDc) others = refl
 refusal_first (in_repository UnknownField) others = refl
+refusal_first (in_repository NotOfFormat) others = refl
 refusal_first (in_repository DropsFormat) others = refl
 refusal_first (in_repository TooLarge) others = refl
 refusal_first (in_repository TooManyItems) others = refl
@@ -98,8 +100,8 @@ not_first g (refused_with cause) others of_line first = refused_first cause othe
 lines_first : (config : RepositoryConfig) (moment : ℤ) (state : RepoState) (lines : List (List ℕ)) → first_of (after_lines config moment state lines).0 ≡ 60 → ⊥
 lines_first config moment state [] first = cc
 lines_first config moment state (text ∷ lines) first =
-    not_first config.granularity (act config (moved moment state) (command_of config.granularity (line (line_of text)))).0
-    (after_lines config moment (after_line config moment state text).1 lines).0 (line_outcome config (moved moment state) (line_of text)) first
+    not_first config.granularity (act config (moved moment state) (command_of config.granularity (line (line_of config.forms text)))).0
+    (after_lines config moment (after_line config moment state text).1 lines).0 (line_outcome config (moved moment state) (line_of config.forms text)) first
 
 -- ---- a visit
 

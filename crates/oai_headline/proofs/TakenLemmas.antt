@@ -4,7 +4,7 @@ use Rattle.std.specs.List.{AllByRecursion, AllZip, flat_map}
 use Rattle.oai_args.specs.Pairs.{decoded_pairs}
 use Rattle.oai_args.specs.Requests.{request_of}
 use Rattle.oai_item.specs.Formats.{AreRepositoryFormats}
-use Rattle.oai_item.specs.declared.changes.Change.{Change}
+use Rattle.oai_deposit.specs.declared.changes.Change.{Change}
 use Rattle.oai_item.specs.declared.refusals.ChangeRefusal.{ChangeRefusal}
 use Rattle.oai_settings.specs.Config.{IsConfig, RepositoryConfig, is_in_years}
 use Rattle.oai_repo.specs.Answers.{arguments_of_request}
@@ -68,7 +68,7 @@ reachable_behind config state (timed ∷ commands) h =
 
 pub reachable_after : (config : RepositoryConfig) (state : RepoState) (call : Call) → IsReachable config state → IsReachable config (exchanged_alone config state call).1
 reachable_after config state call h =
-    subst (IsReachable config) (call_behind config state call) (reachable_behind config state (commands_by config.granularity call) h)
+    subst (IsReachable config) (call_behind config state call) (reachable_behind config state (commands_by config call) h)
 
 -- ---- a visit that is a request
 
@@ -97,7 +97,7 @@ part_behind [] some whole h = h
 part_behind (x ∷ front) some whole h = inl (part_behind front some whole h)
 
 pub only_step : (config : RepositoryConfig) (visit : Visit) (arguments : List ℕ) → task_of visit.call ≡ asking arguments → steps_of config visit ≡ step_with config visit arguments ∷ []
-only_step config visit arguments asked = ap (λ (task : Task). run config visit.before (commands_of config.granularity visit.call.moment task)) asked
+only_step config visit arguments asked = ap (λ (task : Task). run config visit.before (commands_of config visit.call.moment task)) asked
 
 taken_here : (config : RepositoryConfig) (state : RepoState) (call : Call) (others : List Visit) (rest : List Transition) → IsReachable config state → IsAsking (visit_in config state call)
     → AreTaken config others rest → AreTaken config (visit_in config state call ∷ others) (steps_of config (visit_in config state call) ++ rest)

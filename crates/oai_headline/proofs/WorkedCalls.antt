@@ -18,7 +18,7 @@ use Rattle.jiff_core.proofs.SignedLemmas.{signed_arith}
 use Rattle.oai_time.specs.declared.bound.Bound.{Bound}
 use Rattle.oai_time.specs.declared.granularity.Granularity.TheVariants.{Second}
 use Rattle.oai_json.specs.Json.{elements_at, elements_of, has_members, json_in, text_at, texts_at}
-use Rattle.oai_deposit.specs.Lines.{asked_change, deletion_shape, deposit_shape, field_list_of, have_xml_texts, line_of, record_of, records_at, records_of, shape_of}
+use Rattle.oai_deposit.specs.Lines.{asked_change, deletion_shape, deposit_shape, elements_read, field_list_of, given_read, have_xml_texts, line_of, record_of, records_at, records_of, shape_of}
 use Rattle.oai_args.specs.Arguments.{arguments_in, given}
 use Rattle.oai_args.specs.Bounds.{are_bounds, are_not_turned, is_some_bound}
 use Rattle.oai_args.specs.Pairs.{decoded_pairs, has_only_keys, has_xml_values, values_of}
@@ -27,7 +27,7 @@ use Rattle.oai_args.specs.declared.requests.Ask.TheVariants as ask
 use Rattle.oai_repo.specs.Machine.{Command, requesting}
 use Rattle.oai_laws.specs.Following.{first_request, next_request}
 use Rattle.oai_laws.specs.Runs.{Timed}
-use Rattle.oai_laws.specs.Worked.{after, delete, deposit, worked_commands}
+use Rattle.oai_laws.specs.Worked.{after, delete, deposit, worked_commands, worked_config}
 use Rattle.oai_laws.proofs.WorkedLemmas.{second}
 use Rattle.oai_laws.specs.Harvests.{records_since}
 use Rattle.oai_laws.specs.WorkedHarvests.{datestamp}
@@ -53,8 +53,8 @@ new_year = day_is 2024 1 1 739_251 (omega arith) (omega arith) (omega arith) (om
 abbrev pub own_a : List Call
 own_a = own_calls (codes "a") worked_calls
 
-pub carried_a : commands_in Second own_a ≡ worked_commands
-unfolding line_of json_in shape_of has_members deposit_shape deletion_shape text_at texts_at elements_at elements_of records_at records_of record_of field_list_of asked_change have_xml_texts is_identifier is_scheme serde_json_on_literals str.is_utf8 str.chars decoded_pairs form_urlencoded_on_literals lossy.utf8_lossy lossy.utf8_valid_len request_of request_in arguments_in given values_of has_only_keys has_xml_values asked_verb form_of suit first_of first_list_of next_of are_bounds is_prefix is_xml_text lib.Utf8.encode
+pub carried_a : commands_in worked_config own_a ≡ worked_commands
+unfolding line_of json_in shape_of has_members deposit_shape deletion_shape text_at texts_at elements_at elements_of records_at records_of record_of given_read field_list_of elements_read asked_change have_xml_texts is_identifier is_scheme serde_json_on_literals str.is_utf8 str.chars decoded_pairs form_urlencoded_on_literals lossy.utf8_lossy lossy.utf8_valid_len request_of request_in arguments_in given values_of has_only_keys has_xml_values asked_verb form_of suit first_of first_list_of next_of are_bounds is_prefix is_xml_text lib.Utf8.encode
 carried_a = refl
 
 -- ---- the second repository
@@ -106,11 +106,11 @@ carried_with passes_5 since_5 passes_7 since_7 =
     ∷ after 8 (records_from passes_7 since_7)
     ∷ []
 
-read_b : commands_in Second own_b ≡ carried_with (is_from text_5) text_5 (is_from text_7) text_7
-unfolding line_of json_in shape_of has_members deposit_shape deletion_shape text_at texts_at elements_at elements_of records_at records_of record_of field_list_of asked_change have_xml_texts is_identifier is_scheme serde_json_on_literals str.is_utf8 str.chars decoded_pairs form_urlencoded_on_literals lossy.utf8_lossy lossy.utf8_valid_len request_of request_in arguments_in given values_of has_only_keys has_xml_values asked_verb form_of suit first_of first_list_of next_of are_bounds is_prefix is_xml_text lib.Utf8.encode
+read_b : commands_in beside.archive_b own_b ≡ carried_with (is_from text_5) text_5 (is_from text_7) text_7
+unfolding line_of json_in shape_of has_members deposit_shape deletion_shape text_at texts_at elements_at elements_of records_at records_of record_of given_read field_list_of elements_read asked_change have_xml_texts is_identifier is_scheme serde_json_on_literals str.is_utf8 str.chars decoded_pairs form_urlencoded_on_literals lossy.utf8_lossy lossy.utf8_valid_len request_of request_in arguments_in given values_of has_only_keys has_xml_values asked_verb form_of suit first_of first_list_of next_of are_bounds is_prefix is_xml_text lib.Utf8.encode
 read_b = refl
 
-pub carried_b : commands_in Second own_b ≡ beside.harvest_commands
+pub carried_b : commands_in beside.archive_b own_b ≡ beside.harvest_commands
 carried_b =
     read_b
     ∙ ap (λ (text : List ℕ). carried_with (is_from text) text (is_from text_7) text_7) dated_5
@@ -124,8 +124,8 @@ carried_b =
 abbrev pub last_calls : List Call
 last_calls = post 124 (codes "/deposit/a") (deposit_line (codes "oai:a:6") ++ deposit_line (codes "oai:a:7")) ∷ []
 
-pub carried_last : commands_in Second last_calls ≡ last_commands
-unfolding line_of json_in shape_of has_members deposit_shape deletion_shape text_at texts_at elements_at elements_of records_at records_of record_of field_list_of asked_change have_xml_texts is_identifier is_scheme serde_json_on_literals str.is_utf8 str.chars decoded_pairs form_urlencoded_on_literals lossy.utf8_lossy lossy.utf8_valid_len request_of request_in arguments_in given values_of has_only_keys has_xml_values asked_verb form_of suit first_of first_list_of next_of are_bounds is_prefix is_xml_text lib.Utf8.encode
+pub carried_last : commands_in worked_config last_calls ≡ last_commands
+unfolding line_of json_in shape_of has_members deposit_shape deletion_shape text_at texts_at elements_at elements_of records_at records_of record_of given_read field_list_of elements_read asked_change have_xml_texts is_identifier is_scheme serde_json_on_literals str.is_utf8 str.chars decoded_pairs form_urlencoded_on_literals lossy.utf8_lossy lossy.utf8_valid_len request_of request_in arguments_in given values_of has_only_keys has_xml_values asked_verb form_of suit first_of first_list_of next_of are_bounds is_prefix is_xml_text lib.Utf8.encode
 carried_last = refl
 
 -- the second repository behind a checkpoint: a token comes again, an item is deposited, and what was deposited since is harvested
@@ -154,11 +154,11 @@ later_with passes since =
     ∷ after 10 (records_from passes since)
     ∷ []
 
-read_later : commands_in Second later_calls ≡ later_with (is_from text_8) text_8
-unfolding line_of json_in shape_of has_members deposit_shape deletion_shape text_at texts_at elements_at elements_of records_at records_of record_of field_list_of asked_change have_xml_texts is_identifier is_scheme serde_json_on_literals str.is_utf8 str.chars decoded_pairs form_urlencoded_on_literals lossy.utf8_lossy lossy.utf8_valid_len request_of request_in arguments_in given values_of has_only_keys has_xml_values asked_verb form_of suit first_of first_list_of next_of are_bounds is_prefix is_xml_text lib.Utf8.encode
+read_later : commands_in beside.archive_b later_calls ≡ later_with (is_from text_8) text_8
+unfolding line_of json_in shape_of has_members deposit_shape deletion_shape text_at texts_at elements_at elements_of records_at records_of record_of given_read field_list_of elements_read asked_change have_xml_texts is_identifier is_scheme serde_json_on_literals str.is_utf8 str.chars decoded_pairs form_urlencoded_on_literals lossy.utf8_lossy lossy.utf8_valid_len request_of request_in arguments_in given values_of has_only_keys has_xml_values asked_verb form_of suit first_of first_list_of next_of are_bounds is_prefix is_xml_text lib.Utf8.encode
 read_later = refl
 
-pub carried_later : commands_in Second later_calls ≡ later_commands
+pub carried_later : commands_in beside.archive_b later_calls ≡ later_commands
 carried_later =
     read_later
     ∙ ap (λ (text : List ℕ). later_with (is_from text) text) dated_8

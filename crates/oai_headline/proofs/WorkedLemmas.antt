@@ -119,7 +119,7 @@ formats_kept = record { first = refl; declared = refl; apart = refl; few = omega
 abbrev pub IsWorkedRun : Type 0
 IsWorkedRun = (first : Visit) × (waiting : Visit) × (second : Visit) × (last : Visit) × IsWorkedList first waiting second last
 
-four_visits : commands_in Second own_a ≡ worked_commands → (some : List Visit) → AllZip (IsStepOf worked_config) some four_steps → IsPart some (own_visits first_entry worked_calls) → IsWorkedRun
+four_visits : commands_in worked_config own_a ≡ worked_commands → (some : List Visit) → AllZip (IsStepOf worked_config) some four_steps → IsPart some (own_visits first_entry worked_calls) → IsWorkedRun
 four_visits carried [] each part = absurd each
 four_visits carried (v1 ∷ []) each part = absurd each.1
 four_visits carried (v1 ∷ v2 ∷ []) each part = absurd each.1.1
@@ -149,7 +149,7 @@ four_visits carried (v1 ∷ v2 ∷ v3 ∷ v4 ∷ []) each part = (
   },
 )
 
-pub worked_list : commands_in Second own_a ≡ worked_commands → IsWorkedRun
+pub worked_list : commands_in worked_config own_a ≡ worked_commands → IsWorkedRun
 worked_list carried =
     let steps : worked_run ≡ flat_map (steps_of worked_config) (own_visits first_entry worked_calls) =
     ap (run worked_config (empty_state worked_config)) (sym carried) ∙ sym (steps_run worked_config (empty_state worked_config) own_a) in
@@ -162,7 +162,7 @@ worked_list carried =
 abbrev pub own_b : List Call
 own_b = own_calls (codes "b") worked_calls
 
-beside_of : commands_in Second own_b ≡ beside.harvest_commands → (first second third : Harvest) → AreWorkedHarvests first second third → AreMadeBeside first second third
+beside_of : commands_in beside.archive_b own_b ≡ beside.harvest_commands → (first second third : Harvest) → AreWorkedHarvests first second third → AreMadeBeside first second third
 beside_of carried first second third h =
     let steps : beside.harvest_run ≡ own_steps second_entry worked_calls =
     ap (run archive_b (empty_state archive_b)) (sym carried) ∙ sym (steps_run archive_b (empty_state archive_b) own_b) in
@@ -174,7 +174,7 @@ beside_of carried first second third h =
       copied = h.copied;
     }
 
-pub worked_beside : commands_in Second own_b ≡ beside.harvest_commands → (first : Harvest) × (second : Harvest) × (third : Harvest) × AreMadeBeside first second third
+pub worked_beside : commands_in beside.archive_b own_b ≡ beside.harvest_commands → (first : Harvest) × (second : Harvest) × (third : Harvest) × AreMadeBeside first second third
 worked_beside carried = let h = harvests_worked in (h.0, h.1, h.2, beside_of carried h.0 h.1 h.2 h.3)
 
 -- ---- the host

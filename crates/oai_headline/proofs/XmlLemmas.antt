@@ -2,7 +2,6 @@
 use Rattle.std.proofs.Common.{◌≡◌, ◌≢◌, ◌∙◌, ◌≤◌, ℕ, ℤ, true, List, [], ◌∷◌, map, Option, None, Some, refl, sym, ap, subst}
 use Rattle.std.specs.List.{AllByRecursion}
 use Rattle.std.proofs.lemmas.List.Folds.{list_all-append}
-use Rattle.oai_time.specs.declared.granularity.Granularity.{Granularity}
 use Rattle.oai_lists.specs.declared.lists.TheConstants.{LAST_NUMBER}
 use Rattle.oai_item.specs.declared.faults.Fault.{Fault}
 use Rattle.oai_item.specs.declared.faults.Fault.TheVariants.{Damaged, Device, NoMemory, TooManyPages}
@@ -62,19 +61,19 @@ is_fit entry rules texts all = record {
 
 -- ---- what calls carry, and leave
 
-lines_legal : (g : Granularity) (moment : ℤ) (lines : List (List ℕ)) → are_legal_commands (map (λ (text : List ℕ). timed_input g moment (line (line_of text))) lines) ≡ true
-lines_legal g moment [] = refl
-lines_legal g moment (text ∷ lines) = both (line_command g text) (lines_legal g moment lines)
+lines_legal : (config : RepositoryConfig) (moment : ℤ) (lines : List (List ℕ)) → are_legal_commands (map (λ (text : List ℕ). timed_input config.granularity moment (line (line_of config.forms text))) lines) ≡ true
+lines_legal config moment [] = refl
+lines_legal config moment (text ∷ lines) = both (line_command config.granularity config.forms text) (lines_legal config moment lines)
 
-task_legal : (g : Granularity) (moment : ℤ) (task : Task) → are_legal_commands (commands_of g moment task) ≡ true
-task_legal g moment (refusing status) = refl
-task_legal g moment (asking arguments) = both (query_command g arguments) refl
-task_legal g moment (depositing lines) = lines_legal g moment lines
+task_legal : (config : RepositoryConfig) (moment : ℤ) (task : Task) → are_legal_commands (commands_of config moment task) ≡ true
+task_legal config moment (refusing status) = refl
+task_legal config moment (asking arguments) = both (query_command config.granularity arguments) refl
+task_legal config moment (depositing lines) = lines_legal config moment lines
 
-calls_legal : (g : Granularity) (calls : List Call) → are_legal_commands (commands_in g calls) ≡ true
-calls_legal g [] = refl
-calls_legal g (call ∷ calls) =
-    list_all-append (λ (timed : Timed). is_legal_command timed.command) (commands_by g call) (commands_in g calls) ∙ both (task_legal g call.moment (task_of call)) (calls_legal g calls)
+calls_legal : (config : RepositoryConfig) (calls : List Call) → are_legal_commands (commands_in config calls) ≡ true
+calls_legal config [] = refl
+calls_legal config (call ∷ calls) =
+    list_all-append (λ (timed : Timed). is_legal_command timed.command) (commands_by config call) (commands_in config calls) ∙ both (task_legal config call.moment (task_of call)) (calls_legal config calls)
 
 record Holds (config : RepositoryConfig) (state : RepoState) : Type 0 where
   pub sound : IsSound config state
@@ -92,8 +91,8 @@ holds_left : (config : RepositoryConfig) (state : RepoState) (calls : List Call)
 holds_left config state calls fit held =
     subst (Holds config) (calls_behind config state calls)
     (record {
-      sound = sound_behind config state (commands_in config.granularity calls) held.sound;
-      texts = legal_behind config state (commands_in config.granularity calls) fit.texts (calls_legal config.granularity calls) held.texts;
+      sound = sound_behind config state (commands_in config calls) held.sound;
+      texts = legal_behind config state (commands_in config calls) fit.texts (calls_legal config calls) held.texts;
     })
 
 holds_ended : (config : RepositoryConfig) (raise : ℕ) (state : RepoState) → (ended raise state).open_lists.next ≤ LAST_NUMBER → Holds config state → Holds config (ended raise state)
@@ -105,7 +104,7 @@ holds_ended config raise state few held =
 in_xml : (config : RepositoryConfig) (d : Document) → IsGivenDocument may_be_default d → (have_namespaces is_foreign config ≡ true → IsGivenDocument is_foreign d) → IsLegalDocument d → IsXmlDocument config (document d)
 in_xml config d given other texts =
     let its = is_read d given texts in
-    record { tree = document_tree d; written = document_written d; whole = given_whole d given; text = its.0; read = its.1; schema = λ none. given_of_schema d (other none) }
+    record { document = d; tree = document_tree d; shows = refl; written = document_written d given.regular; whole = given_whole d given; text = its.0; read = its.1; schema = λ none. given_of_schema d (other none) }
 
 not_unavailable : status.ServiceUnavailable ≢ status.Ok
 not_unavailable same = cc

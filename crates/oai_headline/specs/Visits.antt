@@ -22,18 +22,18 @@ abbrev pub timed_input : Granularity → ℤ → RepoInput → Timed
 timed_input granularity moment input = record { moment = moment; command = command_of granularity input }
 
 -- none if nothing is asked; one for a request; one for each line of a deposit
-abbrev pub commands_of : Granularity → ℤ → Task → List Timed
-commands_of granularity moment (refusing status) = []
-commands_of granularity moment (asking arguments) = timed_input granularity moment (query arguments) ∷ []
-commands_of granularity moment (depositing lines) = map (λ (text : List ℕ). timed_input granularity moment (line (line_of text))) lines
+abbrev pub commands_of : RepositoryConfig → ℤ → Task → List Timed
+commands_of config moment (refusing status) = []
+commands_of config moment (asking arguments) = timed_input config.granularity moment (query arguments) ∷ []
+commands_of config moment (depositing lines) = map (λ (text : List ℕ). timed_input config.granularity moment (line (line_of config.forms text))) lines
 
 -- of an exchange
-abbrev pub commands_by : Granularity → Call → List Timed
-commands_by granularity call = commands_of granularity call.moment (task_of call)
+abbrev pub commands_by : RepositoryConfig → Call → List Timed
+commands_by config call = commands_of config call.moment (task_of call)
 
 -- of exchanges, one after the other
-abbrev pub commands_in : Granularity → List Call → List Timed
-commands_in granularity calls = flat_map (commands_by granularity) calls
+abbrev pub commands_in : RepositoryConfig → List Call → List Timed
+commands_in config calls = flat_map (commands_by config) calls
 
 -- ---- visits
 
@@ -49,7 +49,7 @@ found_by visit = moved visit.call.moment visit.before
 
 -- what the machine does then: a step for each command
 abbrev pub steps_of : RepositoryConfig → Visit → List Transition
-steps_of config visit = run config visit.before (commands_by config.granularity visit.call)
+steps_of config visit = run config visit.before (commands_by config visit.call)
 
 -- the exchange, with the repository in that state
 abbrev pub visit_in : RepositoryConfig → RepoState → Call → Visit
@@ -68,17 +68,17 @@ lines_written granularity steps = flat_map (λ (step : Transition). with_end (ou
 
 -- the answer is what the steps made: a status if nothing is asked; for a request, which is one step, a document or a
 -- time to wait; for a deposit, which is a step for each line, a line for each
-abbrev pub IsWritten : Granularity → Task → List Transition → Answer → Type 0
-IsWritten granularity (refusing status) steps answer = (steps ≡ []) × (answer ≡ answered status)
-IsWritten granularity (asking arguments) steps answer =
+abbrev pub IsWritten : RepositoryConfig → Task → List Transition → Answer → Type 0
+IsWritten config (refusing status) steps answer = (steps ≡ []) × (answer ≡ answered status)
+IsWritten config (asking arguments) steps answer =
     (step : Transition)
     × (steps ≡ step ∷ [])
-    × (step.command ≡ command_of granularity (query arguments))
-    × (answer ≡ answer_of (outcome_output granularity step.outcome))
-IsWritten granularity (depositing lines) steps answer =
-    (map (λ (step : Transition). step.command) steps ≡ map (λ (text : List ℕ). command_of granularity (line (line_of text))) lines)
-    × (answer ≡ answered_with (lines_written granularity steps))
+    × (step.command ≡ command_of config.granularity (query arguments))
+    × (answer ≡ answer_of (outcome_output config.granularity step.outcome))
+IsWritten config (depositing lines) steps answer =
+    (map (λ (step : Transition). step.command) steps ≡ map (λ (text : List ℕ). command_of config.granularity (line (line_of config.forms text))) lines)
+    × (answer ≡ answered_with (lines_written config.granularity steps))
 
 -- the same, of the visit
 abbrev pub IsWrittenVisit : RepositoryConfig → Visit → Type 0
-IsWrittenVisit config visit = IsWritten config.granularity (task_of visit.call) (steps_of config visit) visit.answer
+IsWrittenVisit config visit = IsWritten config (task_of visit.call) (steps_of config visit) visit.answer

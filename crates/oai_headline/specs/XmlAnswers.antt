@@ -4,6 +4,7 @@ use Rattle.std.specs.Prelude.{◌≡◌, ℕ, true, List, [], ◌∷◌, ◌++�
 use Rattle.std.specs.List.{All, AllByRecursion}
 use Rattle.std.specs.Str.{is_utf8}
 use Rattle.oai_names.specs.Names.{may_be_prefix}
+use Rattle.oai_answers.specs.Answers.{Document}
 use Rattle.oai_item.specs.declared.formats.Format.{Format}
 use Rattle.oai_xml.specs.Documents.{tree_in}
 use Rattle.oai_xml.specs.LegalTexts.{is_legal_text}
@@ -12,10 +13,10 @@ use Rattle.oai_xml.specs.Whole.{is_whole}
 use Rattle.oai_settings.specs.Config.{RepositoryConfig}
 use Rattle.oai_repo.specs.State.{RepoState}
 use Rattle.oai_documents.specs.Answering.{have_namespaces}
-use Rattle.oai_documents.specs.DocumentTrees.{line_end, xml_declaration}
+use Rattle.oai_documents.specs.DocumentTrees.{document_tree, line_end, xml_declaration}
 use Rattle.oai_documents.specs.Schema.{IsOfSchema}
 use Rattle.oai_documents.specs.Texts.{is_legal_config}
-use Rattle.oai_documents.specs.WellFormed.{is_foreign}
+use Rattle.oai_documents.specs.WellFormed.{HasFittingElements, is_foreign}
 use Rattle.oai_config.specs.Configs.{HostConfig, NamedConfig}
 use Rattle.oai_http.specs.declared.statuses.Status.TheVariants as status
 use Rattle.oai_host.specs.Tasks.{asking, task_of}
@@ -46,13 +47,15 @@ pub record HasUtf8Texts (format : Format) : Type 0 where
 
 -- the bytes are an XML document: the XML declaration and one element, whose tree is whole, in UTF-8, of XML's
 -- characters; and an XML parser reads that tree. It has the elements that the schema of OAI-PMH asks for, if no format
--- of the repository has OAI-PMH's own namespace
+-- of the repository has OAI-PMH's own namespace. Of records that are elements, whole is what has room in a document
 pub record IsXmlDocument (config : RepositoryConfig) (body : List ℕ) : Type 0 where
+  pub document : Document
   pub tree : Tree
+  pub shows : tree ≡ document_tree document
   pub written : body ≡ xml_declaration ++ (spelled tree ++ line_end)
-  pub whole : is_whole tree ≡ true
+  pub whole : HasFittingElements document.answer → is_whole tree ≡ true
   pub text : is_legal_text body ≡ true
-  pub read : tree_in body ≡ Some tree
+  pub read : HasFittingElements document.answer → tree_in body ≡ Some tree
   pub schema : have_namespaces is_foreign config ≡ true → IsOfSchema tree
 
 -- if the visit is a request of OAI-PMH, by GET or by POST, and is answered with status 200, the body is such a document

@@ -21,7 +21,8 @@ ghost use Rattle.oai_headline.specs.XmlAnswers.{AreAnsweredInXml, HasLegalTexts,
 ///
 /// The texts of the configuration are UTF-8 of such characters, as those of each accepted one are
 /// ([`texts_law`](crate::texts_law)). None of the repository's formats has one of the two namespaces that Namespaces in
-/// XML reserves; and for the schema, none has that of OAI-PMH. The function is empty.
+/// XML reserves; and for the schema, none has that of OAI-PMH. Of records that are elements: each has at most 124 levels,
+/// with at most 126 declarations in force (`HasFittingElements`). The function is empty.
 pub fn documents_law()
     ensures answered { (calls : List Call) (answers : List Answer) (entry : NamedConfig) (left : RepoState)
         → HasRules entry → HasLegalTexts entry → have_namespaces may_be_default entry.config ≡ true

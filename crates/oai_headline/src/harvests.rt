@@ -54,7 +54,7 @@ pub fn client_harvests_law()
         (some : List Visit) (harvest : Harvest) → IsConfig config → AreRepositoryFormats config.formats
         → IsPart some (visits config (empty_state config) calls)
         → AllZip (IsStepOf config) some (requests_of harvest)
-        → IsHarvest config (run config (empty_state config) (commands_in config.granularity calls))
+        → IsHarvest config (run config (empty_state config) (commands_in config calls))
         (records_since prefix from) harvest
         → IsSomeClientHarvest config (visits config (empty_state config) calls) prefix from some }
 {}

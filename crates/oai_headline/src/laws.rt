@@ -34,7 +34,7 @@ pub fn carried_law()
         → map (λ (visit : Visit). visit.answer) (visits config state calls) ≡ answers_alone config state calls }
     ensures steps { (config : RepositoryConfig) (state : RepoState) (calls : List Call)
         → flat_map (steps_of config) (visits config state calls)
-        ≡ run config state (commands_in config.granularity calls) }
+        ≡ run config state (commands_in config calls) }
     ensures written { (config : RepositoryConfig) (state : RepoState) (calls : List Call)
         → AllByRecursion (IsWrittenVisit config) (visits config state calls) }
 {}
@@ -56,7 +56,7 @@ pub fn visits_law()
         → AreRepositoryFormats config.formats
         → IsPart (first ∷ others) (visits config (empty_state config) calls)
         → AllZip (IsStepOf config) (first ∷ others) (step ∷ steps)
-        → IsChain config (run config (empty_state config) (commands_in config.granularity calls))
+        → IsChain config (run config (empty_state config) (commands_in config calls))
         list_request step steps
         → IsFollowing config (visits config (empty_state config) calls) list_request first others }
 {}

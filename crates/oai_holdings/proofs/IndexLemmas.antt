@@ -15,7 +15,7 @@ use Rattle.std.specs.declared.string.String.{String}
 use Rattle.std.proofs.lemmas.Bool.{cases_Bool, cond-true, cond-false}
 use Rattle.std.proofs.lemmas.Map.Text.{btree_map_updates_text, is_eq-slice_cmp}
 use Rattle.std.proofs.lemmas.Slice.Eq.{bytes_eq-Decides}
-use Rattle.oai_item.specs.Item.{ItemState}
+use Rattle.oai_item.specs.Item.{IsStamp, ItemState}
 use Rattle.oai_item.specs.Items.{are_apart, is_named, item_at, item_named, with_item, without, without_at}
 use Rattle.oai_item.proofs.Named.{found_name, item_at-named, item_named-new, item_named-without, length-without, with_item-moved, with_item-new, with_item-same, without-none, without_at-named}
 use Rattle.oai_item.proofs.OrderLemmas.{apart-changed, apart-filter}
@@ -25,7 +25,7 @@ use Rattle.oai_holdings.specs.Changes.{with_new}
 use Rattle.oai_settings.specs.Config.{RepositoryConfig}
 use Rattle.oai_holdings.specs.Index.{IndexAgrees, IsIndexed, has_writable_stamp}
 use Rattle.oai_holdings.specs.Kept.{AreKept}
-use Rattle.oai_holdings.specs.Entries.{ForgetsSome, Restamps, SetsStamp, IndexEntries, stamp_in, entries_in}
+use Rattle.oai_holdings.specs.Entries.{AreDated, ForgetsSome, Restamps, SetsStamp, IndexEntries, stamp_in, entries_in}
 use Rattle.oai_holdings.specs.Indexing.{IsMoved, is_one_named}
 use Rattle.oai_holdings.proofs.KeptLemmas.{kept-none, length-placed}
 
@@ -123,6 +123,21 @@ undone {Y} old put out key text stamp is none putting taking =
     taking ∙ ap (remove_entry (is_at (λ (k : String Y). slice_cmp nat_cmp text (string_bytes k)))) putting ∙ taken_back key text stamp old.entries is missing
     in
     ap (λ (es : List (String Y × ℤ)). map {B = List ℕ × ℤ} (λ e. (string_bytes e.0, e.1)) es) back
+
+-- ---- the datestamps of the entries
+
+-- none are there
+pub dated_none : AreDated []
+unfolding stamp_in
+dated_none q = tt
+
+-- each can be written after one is set that can
+pub dated_set : (identifier : List ℕ) (stamp : Option ℤ) (old new : IndexEntries) → SetsStamp identifier stamp old new → IfSome stamp IsStamp → AreDated old → AreDated new
+dated_set identifier stamp old new set is dated q = by_test (bytes_eq identifier q) (set q)
+  where
+    by_test : (b : Bool) → stamp_in q new ≡ cond b stamp (stamp_in q old) → IfSome (stamp_in q new) IsStamp
+    by_test true same = subst (λ (o : Option ℤ). IfSome o IsStamp) (sym same) is
+    by_test false same = subst (λ (o : Option ℤ). IfSome o IsStamp) (sym same) (dated q)
 
 -- ---- the entries, beside the items
 

@@ -4,7 +4,7 @@ use Rattle.std.specs.Prelude.{filter, find, nat_lt, nat_le}
 use Rattle.std.specs.List.{flat_map, list_all, list_any}
 use Rattle.std.specs.Option.{option_or}
 use Rattle.std.specs.Str.{bytes_eq}
-use Rattle.std.proofs.lemmas.Bool.{and_parts, or_left}
+use Rattle.std.proofs.lemmas.Bool.{and_parts, or_left, or_right}
 use Rattle.std.proofs.lemmas.Bool.Decides.{nat_tests}
 use Rattle.std.proofs.lemmas.List.Elements.{All-filter}
 use Rattle.std.proofs.lemmas.List.Folds.{list_all-map, list_any-append}
@@ -15,21 +15,25 @@ use Rattle.oai_item.specs.Items.{is_named, item_named, without, placed}
 use Rattle.oai_item.specs.Order.{precedes}
 use Rattle.oai_item.specs.Formats.{format_named}
 use Rattle.oai_item.specs.Encoding.{IsMeasure, encoded, encoded_field, encoded_record}
-use Rattle.oai_item.specs.Known.{are_fields_of, has_format, has_known_fields}
+use Rattle.oai_item.specs.Givens.{GivenRecord, kept as as_kept, kept_fields}
+use Rattle.oai_item.specs.Known.{are_fields_of, are_given_in, are_listed_in, has_format, has_known_fields, has_listed_fields, is_given_in, is_of_format}
+use Rattle.oai_item.specs.Elements.{element_field, is_element_of}
 use Rattle.oai_item.specs.Membership.{reduced, distinct, is_above}
-use Rattle.oai_item.specs.declared.changes.Change.{Change}
-use Rattle.oai_item.specs.declared.changes.Change.TheVariants as change
+use Rattle.oai_item.specs.declared.givens.Given.{Given}
+use Rattle.oai_item.specs.declared.givens.Given.TheVariants.{Listed, Whole}
+use Rattle.oai_deposit.specs.declared.changes.Change.{Change}
+use Rattle.oai_deposit.specs.declared.changes.Change.TheVariants as change
 use Rattle.oai_item.specs.declared.fields.Field.{Field}
 use Rattle.oai_item.specs.declared.formats.Format.{Format}
 use Rattle.oai_item.specs.declared.refusals.ChangeRefusal.{ChangeRefusal}
 use Rattle.oai_item.specs.declared.sizes.TheConstants.{MAX_ITEM_BYTES}
 use Rattle.oai_item.specs.declared.sizes.TooLarge.{TooLarge as LengthFault}
-use Rattle.oai_item.specs.declared.refusals.ChangeRefusal.TheVariants.{UnknownSet, UnknownFormat, NoDc, UnknownField, DropsFormat, TooLarge, TooManyItems}
+use Rattle.oai_item.specs.declared.refusals.ChangeRefusal.TheVariants.{UnknownSet, UnknownFormat, NoDc, UnknownField, NotOfFormat, DropsFormat, TooLarge, TooManyItems}
 use Rattle.oai_item.proofs.Lengths.{length-encoded, length-encoded_list, length-encoded_record}
 use Rattle.oai_item.proofs.Named.{found_name, of_found}
 use Rattle.oai_names.proofs.Lists.{all-filter, all-weaker}
 use Rattle.oai_item.proofs.OrderLemmas.{all-placed, placed-cons, placed-nil, in_order-changed, apart-changed, in_order-filter, apart-filter}
-use Rattle.oai_holdings.specs.Changes.{after_deletion, after_purge, with_tombstone, deposit_refusal, item_refusal, is_past, limit_of, purged, refusal_of, changed, drops_format, is_one_too_many, with_new}
+use Rattle.oai_holdings.specs.Changes.{after_deletion, after_purge, with_tombstone, deposit_refusal, item_refusal, is_past, limit_of, purged, refusal_of, changed, drops_format, is_held_so, is_one_too_many, with_new}
 use Rattle.oai_item.specs.declared.deleted_record.DeletedRecord.{DeletedRecord}
 use Rattle.oai_item.specs.declared.deleted_record.DeletedRecord.TheVariants.{No, Transient, Persistent}
 use Rattle.oai_settings.specs.Config.{RepositoryConfig}
@@ -68,26 +72,42 @@ few_put config None None old new there one many few = let more : old < config.it
 
 -- ---- a deposit that is not refused
 
--- what the first tests of a deposit say
-pub record Stands (config : RepositoryConfig) (sets : List NamedSet) (specs : List (List ℕ)) (records : List Metadata) : Type 0 where
-  pub in_sets : list_all (has_set sets) specs ≡ true
-  pub known : list_all (has_format config.formats) records ≡ true
-  pub core : has_record (codes "oai_dc") records ≡ true
-  pub fields : list_all (has_known_fields config.formats) records ≡ true
+-- what is given may be kept in the format, if there is one: a list has fields of it, or the element is one of it
+known_given : (format : Option Format) (given : Given) → are_given_in format given ≡ true → is_given_in format given ≡ true → are_fields_of format (kept_fields given) ≡ true
+known_given None given listed own = refl
+known_given (Some format) (Listed fields) listed own = or_left (are_listed_in format fields) _ listed
+known_given (Some format) (Whole text) listed own = or_right (are_listed_in format (element_field text ∷ [])) (is_element_of format text) own
 
-pub stands : (config : RepositoryConfig) (sets : List NamedSet) (specs : List (List ℕ)) (records : List Metadata)
+known_all : (formats : List Format) (records : List GivenRecord) → list_all (has_listed_fields formats) records ≡ true → list_all (is_of_format formats) records ≡ true
+    → list_all (has_known_fields formats) (map as_kept records) ≡ true
+known_all formats [] listed own = refl
+known_all formats (r ∷ records) listed own =
+    let one = and_parts (has_listed_fields formats r) (list_all (has_listed_fields formats) records) listed in
+    let other = and_parts (is_of_format formats r) (list_all (is_of_format formats) records) own in
+    rw (known_given (format_named r.0 formats) r.1 one.0 other.0, known_all formats records one.1 other.1) refl
+
+-- what the first tests of a deposit say
+pub record Stands (config : RepositoryConfig) (sets : List NamedSet) (specs : List (List ℕ)) (records : List GivenRecord) : Type 0 where
+  pub in_sets : list_all (has_set sets) specs ≡ true
+  pub known : list_all (has_format config.formats) (map as_kept records) ≡ true
+  pub core : has_record (codes "oai_dc") (map as_kept records) ≡ true
+  pub fields : list_all (has_known_fields config.formats) (map as_kept records) ≡ true
+
+pub stands : (config : RepositoryConfig) (sets : List NamedSet) (specs : List (List ℕ)) (records : List GivenRecord)
     → deposit_refusal config sets specs records ≡ None → Stands config sets specs records
 unfolding deposit_refusal
 stands config sets specs records h =
     let after_sets = passed (not (list_all (has_set sets) specs)) UnknownSet _ h in
-    let after_formats = passed (not (list_all (has_format config.formats) records)) UnknownFormat _ after_sets.1 in
-    let after_core = passed (not (has_record (codes "oai_dc") records)) NoDc _ after_formats.1 in
-    let after_fields = passed (not (list_all (has_known_fields config.formats) records)) UnknownField _ after_core.1 in
+    let after_formats = passed (not (list_all (has_format config.formats) (map as_kept records))) UnknownFormat _ after_sets.1 in
+    let after_core = passed (not (has_record (codes "oai_dc") (map as_kept records))) NoDc _ after_formats.1 in
+    let after_fields = passed (not (list_all (has_listed_fields config.formats) records)) UnknownField _ after_core.1 in
+    let after_roots = passed (not (list_all (is_of_format config.formats) records)) NotOfFormat _ after_fields.1 in
     record {
       in_sets = is_true (list_all (has_set sets) specs) after_sets.0;
-      known = is_true (list_all (has_format config.formats) records) after_formats.0;
-      core = is_true (has_record (codes "oai_dc") records) after_core.0;
-      fields = is_true (list_all (has_known_fields config.formats) records) after_fields.0;
+      known = is_true (list_all (has_format config.formats) (map as_kept records)) after_formats.0;
+      core = is_true (has_record (codes "oai_dc") (map as_kept records)) after_core.0;
+      fields = known_all config.formats records (is_true (list_all (has_listed_fields config.formats) records) after_fields.0)
+          (is_true (list_all (is_of_format config.formats) records) after_roots.0);
     }
 
 -- and what the later ones say
@@ -183,17 +203,17 @@ unfolding without
 well-without p identifier items h = all-filter p (λ item. not (is_named identifier item)) items h
 
 -- the item of a deposit is as a repository keeps its items
-pub well-deposited : (config : RepositoryConfig) (holdings : Holdings) (identifier : List ℕ) (stamp : ℤ) (specs : List (List ℕ)) (records : List Metadata)
-    → Stands config holdings.sets specs records → Fits config (item_named identifier holdings.items) (length holdings.items) (live_item identifier stamp (reduced specs) records)
-    → is_well_kept config holdings.sets (live_item identifier stamp (reduced specs) records) ≡ true
+pub well-deposited : (config : RepositoryConfig) (holdings : Holdings) (identifier : List ℕ) (stamp : ℤ) (specs : List (List ℕ)) (records : List GivenRecord)
+    → Stands config holdings.sets specs records → Fits config (item_named identifier holdings.items) (length holdings.items) (live_item identifier stamp (reduced specs) (map as_kept records))
+    → is_well_kept config holdings.sets (live_item identifier stamp (reduced specs) (map as_kept records)) ≡ true
 well-deposited config holdings identifier stamp specs records s f =
     all_five _ _ _ _ _ s.core s.known s.fields (all_of_reduced (has_set holdings.sets) specs s.in_sets) (ap not f.small)
 
-deposited : (config : RepositoryConfig) (holdings : Holdings) (identifier : List ℕ) (stamp : ℤ) (specs : List (List ℕ)) (records : List Metadata)
-    → Stands config holdings.sets specs records → Fits config (item_named identifier holdings.items) (length holdings.items) (live_item identifier stamp (reduced specs) records) → AreKept config holdings
-    → AreKept config (record holdings { items = with_new (live_item identifier stamp (reduced specs) records) holdings.items })
+deposited : (config : RepositoryConfig) (holdings : Holdings) (identifier : List ℕ) (stamp : ℤ) (specs : List (List ℕ)) (records : List GivenRecord)
+    → Stands config holdings.sets specs records → Fits config (item_named identifier holdings.items) (length holdings.items) (live_item identifier stamp (reduced specs) (map as_kept records)) → AreKept config holdings
+    → AreKept config (record holdings { items = with_new (live_item identifier stamp (reduced specs) (map as_kept records)) holdings.items })
 deposited config holdings identifier stamp specs records s f kept =
-    let item : ItemState = live_item identifier stamp (reduced specs) records in
+    let item : ItemState = live_item identifier stamp (reduced specs) (map as_kept records) in
     record {
       ordered = in_order-changed item holdings.items kept.ordered;
       apart = apart-changed item holdings.items kept.apart;
@@ -360,9 +380,19 @@ pub kept-changed : (config : RepositoryConfig) (stamp : ℤ) (holdings : Holding
     → refusal_of config stamp holdings asked ≡ None → AreKept config holdings → AreKept config (changed config stamp holdings asked)
 unfolding refusal_of changed
 kept-changed config stamp holdings (change.Deposit identifier sets records) none kept =
-    let item : ItemState = live_item identifier stamp (reduced sets) records in
+    let item : ItemState = live_item identifier stamp (reduced sets) (map as_kept records) in
     let causes = no_cause (deposit_refusal config holdings.sets sets records) (item_refusal config (item_named identifier holdings.items) (length holdings.items) item) none in
     deposited config holdings identifier stamp sets records (stands config holdings.sets sets records causes.0) (fits config (item_named identifier holdings.items) (length holdings.items) item causes.1) kept
+kept-changed config stamp holdings (change.Put identifier sets records) none kept = by_test (is_held_so item (item_named identifier holdings.items))
+  where
+    item : ItemState
+    item = live_item identifier stamp (reduced sets) (map as_kept records)
+
+    by_test : (b : Bool) → AreKept config (record holdings { items = cond b holdings.items (with_new item holdings.items) })
+    by_test true = record { ordered = kept.ordered; apart = kept.apart; few = kept.few; well = kept.well }
+    by_test false =
+        let causes = no_cause (deposit_refusal config holdings.sets sets records) (item_refusal config (item_named identifier holdings.items) (length holdings.items) item) none in
+        deposited config holdings identifier stamp sets records (stands config holdings.sets sets records causes.0) (fits config (item_named identifier holdings.items) (length holdings.items) item causes.1) kept
 kept-changed config stamp holdings (change.Delete identifier) none kept = deleted config holdings identifier stamp config.deleted kept
 kept-changed config stamp holdings (change.Purge before) none kept = after_purge_kept config holdings (limit_of config.granularity before) kept
 kept-changed config stamp holdings (change.AddSet spec name) none kept = set_kept config holdings (spec, name) kept

@@ -1,10 +1,11 @@
 -- The index of a repository's items: the datestamp of each in its store. This repository's own.
-use Rattle.std.specs.Prelude.{◌≡◌, ◌+◌, ◌≤◌, ℕ, ℤ, List, length, if◌then◌else◌, Option, None, Some, IsSome, find, map}
+use Rattle.std.specs.Prelude.{◌≡◌, ◌+◌, ◌≤◌, ℕ, ℤ, List, length, if◌then◌else◌, Option, None, Some, IsSome, IfSome, find, map}
 use Rattle.std.specs.BTreeMap.{BTreeMap}
 use Rattle.std.specs.Option.{option_map}
 use Rattle.std.specs.Str.{bytes_eq}
 use Rattle.std.specs.String.{string_bytes}
 use Rattle.std.specs.declared.string.String.{String}
+use Rattle.oai_item.specs.Item.{IsStamp}
 
 -- identifiers, each with a datestamp in seconds from 1970 on
 abbrev pub IndexEntries : Type 0
@@ -13,6 +14,10 @@ IndexEntries = List (List ℕ × ℤ)
 -- the datestamp that the entries have for an identifier
 unfoldable pub stamp_in : List ℕ → IndexEntries → Option ℤ
 stamp_in identifier entries = option_map (λ (entry : List ℕ × ℤ). entry.1) (find (λ (entry : List ℕ × ℤ). bytes_eq identifier entry.0) entries)
+
+-- each datestamp lies in the years 0000 to 9999
+abbrev pub AreDated : IndexEntries → Type 0
+AreDated entries = (identifier : List ℕ) → IfSome (stamp_in identifier entries) IsStamp
 
 -- the entries of a map from identifiers to datestamps
 abbrev pub entries_in : {Y : Type 0} → BTreeMap (String Y) ℤ → IndexEntries

@@ -1,14 +1,16 @@
 -- What is done to the items of a repository, in the store and in the index: this repository's own.
-use Rattle.std.specs.Prelude.{◌≡◌, ◌⊎◌, ℕ, ℤ, Bool, true, false, not, List, Option, None, Some, Result, Ok, Err, IsSome, IsTrue, OnErr}
+use Rattle.std.specs.Prelude.{◌≡◌, ◌⊎◌, ℕ, ℤ, Bool, true, false, not, List, map, Option, None, Some, Result, Ok, Err, IsSome, IsTrue, OnErr}
 use Rattle.std.specs.Option.{option_or}
-use Rattle.oai_item.specs.declared.changes.Change.{Change}
+use Rattle.oai_deposit.specs.declared.changes.Change.{Change}
 use Rattle.oai_item.specs.declared.refusals.ChangeRefusal.{ChangeRefusal}
-use Rattle.oai_item.specs.Item.{ItemState}
+use Rattle.oai_item.specs.Givens.{GivenRecord, kept}
+use Rattle.oai_item.specs.Item.{ItemState, live_item}
+use Rattle.oai_item.specs.Membership.{reduced}
 use Rattle.oai_item.specs.Items.{is_named, item_named}
 use Rattle.oai_catalogue.specs.Store.{VersionLists, list_at, with_list, without_list}
 use Rattle.oai_catalogue.specs.declared.versions.Versions.{Ghosts}
 use Rattle.oai_holdings.specs.Calls.{early_refusal}
-use Rattle.oai_holdings.specs.Changes.{changed, refusal_of}
+use Rattle.oai_holdings.specs.Changes.{changed, deposit_refusal, refusal_of}
 use Rattle.oai_settings.specs.Config.{RepositoryConfig}
 use Rattle.oai_holdings.specs.Entries.{stamp_in}
 use Rattle.oai_holdings.specs.Kept.{is_too_large}
@@ -23,6 +25,12 @@ abbrev pub MakesChange : RepositoryConfig → ℤ → Holdings → Change → Re
 MakesChange config stamp old change (Ok _) new = (refusal_of config stamp old change ≡ None) × (new ≡ changed config stamp old change)
 MakesChange config stamp old change (Err (refusal.Refused cause)) new = (refusal_of config stamp old change ≡ Some cause) × (new ≡ old)
 MakesChange config stamp old change (Err (refusal.Fault fault)) new = (early_refusal config old change ≡ None) × (new ≡ old)
+
+-- a deposit into these sets, with that datestamp, is refused by itself, or makes the item
+abbrev pub IsDeposited : RepositoryConfig → ℤ → List NamedSet → List ℕ → List (List ℕ) → List GivenRecord → Result ItemState ChangeRefusal → Type 0
+IsDeposited config stamp sets identifier specs records (Ok item) =
+    (deposit_refusal config sets specs records ≡ None) × (item ≡ live_item identifier stamp (reduced specs) (map kept records))
+IsDeposited config stamp sets identifier specs records (Err cause) = deposit_refusal config sets specs records ≡ Some cause
 
 -- a part of what is held after a change that neither an early cause nor a late one refuses, that the first of them
 -- refuses, or that fails if there is no early one

@@ -3,7 +3,7 @@ ghost use Rattle.std.specs.Prelude.{◌≡◌, ◌≤◌, ◌++◌, [], ◌∷�
 ghost use Rattle.oai_item.specs.Item.{IsStamp};
 ghost use Rattle.oai_item.specs.declared.faults.Fault.TheVariants as fault;
 ghost use Rattle.oai_catalogue.specs.Store.{Spends};
-ghost use Rattle.oai_holdings.specs.Accepted.{KeepsChange};
+ghost use Rattle.oai_holdings.specs.Accepted.{KeepsChange, noted_stamp};
 ghost use Rattle.oai_holdings.specs.Calls.{fault_in, room_to_change};
 ghost use Rattle.oai_holdings.specs.Changes.{set_refusal};
 ghost use Rattle.oai_holdings.specs.Indexing.{HoldsItems, IsAfterChange, IsMadeIn, Moves};
@@ -11,13 +11,15 @@ ghost use Rattle.oai_holdings.specs.Indexing.{HoldsItems, IsAfterChange, IsMadeI
 mod deletions;
 mod deposits;
 mod purges;
+mod sameness;
 
 use crate::item_index::ItemIndex;
 use deletions::delete;
-use deposits::{Deposit, put_deposit};
+use deposits::{Deposit, put_deposit, put_if_new};
 pub(crate) use deposits::{have_sets, is_among};
 use oai_catalogue::Versions;
-use oai_item::{Change, ChangeRefusal, Fault, Refusal};
+use oai_deposit::Change;
+use oai_item::{ChangeRefusal, Fault, Refusal};
 use oai_names::{SetFault, SetSpec, SetTree};
 use oai_settings::RepoConfig;
 pub(crate) use purges::deleted_below;
@@ -69,9 +71,36 @@ pub fn make_change<V: Versions>(
             };
             put_deposit(context, sets, store, index, &deposit)
         }
+        Change::Put {
+            identifier,
+            sets: specs,
+            records,
+        } => {
+            let deposit = Deposit {
+                identifier,
+                sets: specs.as_slice(),
+                records,
+            };
+            put_if_new(context, sets, store, index, &deposit)
+        }
         Change::Delete { identifier } => delete(context, store, index, identifier),
         Change::Purge { before } => purge(context, store, index, before.as_str()),
         Change::AddSet { spec, name } => add_set(sets, spec, name.as_str()),
+    }
+}
+
+/// The datestamp that answers the change after it is made, if `stamp` is the change's: of a put, that of its item.
+pub fn told_stamp(index: &ItemIndex, stamp: i64, change: &Change) -> i64
+    requires { IsStamp stamp }
+    ensures told { result ≡ noted_stamp stamp change.now index.now.entries }
+    ensures in_range { IsStamp result }
+{
+    match change {
+        Change::Put { identifier, .. } => index.stamp_or(identifier.as_str(), stamp),
+        Change::Deposit { .. } => stamp,
+        Change::Delete { .. } => stamp,
+        Change::Purge { .. } => stamp,
+        Change::AddSet { .. } => stamp,
     }
 }
 

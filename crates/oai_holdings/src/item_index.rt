@@ -1,7 +1,7 @@
 //! The index of the items of a repository, and their version in a store, in which they are found by their datestamps.
 ghost use Rattle.std.specs.Prelude.{◌≡◌, ◌≤◌, ◌+◌, ℕ, List, [], if◌then◌else◌, None, Some, true, length, IfOk, IfSome, IsSome, IsTrue, OnErr, OnOk};
 ghost use Rattle.std.specs.BTreeMap.{get_by_text};
-ghost use Rattle.std.specs.Option.{option_copied};
+ghost use Rattle.std.specs.Option.{option_copied, unwrap_or};
 ghost use Rattle.std.specs.Str.{bytes_eq};
 ghost use Rattle.oai_item.specs.Encoding.{encoded};
 ghost use Rattle.oai_item.specs.Items.{item_named, without};
@@ -12,7 +12,7 @@ ghost use Rattle.oai_holdings.specs.Changes.{purged, with_new};
 ghost use Rattle.oai_holdings.specs.Index.{IndexAgrees, has_writable_stamp, stored_items};
 ghost use Rattle.oai_holdings.specs.Purges.{AreFoundInTurn, is_in_core};
 ghost use Rattle.oai_time.specs.Stamp.{IsWritable};
-ghost use Rattle.oai_item.specs.Item.{ItemState};
+ghost use Rattle.oai_item.specs.Item.{IsStamp, ItemState};
 ghost use Rattle.std.specs.List.{list_all};
 ghost use Rattle.oai_holdings.specs.Entries.{Forgets, SetsStamp, count_with, stamp_in};
 ghost use Rattle.oai_holdings.specs.Indexing.{IsMadeOn, Moves, StandsOn, is_one_named};
@@ -40,6 +40,10 @@ impl Model for ItemIndex {
     ghost Value = { spec.ItemIndex };
 
     ghost view = { λ s. record { version = s.version; entries = entries_in s.stamps } };
+
+    ghost use Rattle.oai_holdings.specs.Entries.{AreDated};
+
+    ghost invariant = { λ s. AreDated (entries_in s.stamps) };
 }
 
 impl ItemIndex {
@@ -61,7 +65,7 @@ impl ItemIndex {
     }
 
     /// How many items there are.
-    pub(crate) fn len(&self) -> u64
+    pub fn len(&self) -> u64
         ensures { result ≡ length self.now.entries }
     {
         self.stamps.len() as u64
@@ -72,6 +76,19 @@ impl ItemIndex {
         ensures { result ≡ stamp_in identifier.now self.now.entries }
     {
         self.stamps.get(identifier).copied()
+    }
+
+    /// The datestamp of the item with that identifier, if there is one, and otherwise `other`.
+    pub(crate) fn stamp_or(&self, identifier: &str, other: i64) -> i64
+        requires { IsStamp other }
+        ensures stamp { result ≡ unwrap_or (stamp_in identifier.now self.now.entries) other }
+        ensures in_range { IsStamp result }
+    {
+        let _ = &self.version;
+        match self.stamp_of(identifier) {
+            Some(stamp) => stamp,
+            None => other,
+        }
     }
 
     /// The item with that identifier, if there is one. Any fault but `TooManyPages` may come if it exists, and
@@ -213,7 +230,8 @@ impl ItemIndex {
 
     /// Changes the datestamp of an identifier that has one. Allocates nothing.
     fn restamp(&mut self, identifier: &str, stamp: i64)
-        requires { IsSome (stamp_in identifier.now self.old.entries) }
+        requires there { IsSome (stamp_in identifier.now self.old.entries) }
+        requires in_range { IsStamp stamp }
         ensures version { self.new.version ≡ self.old.version }
         ensures entries { SetsStamp identifier.now (Some stamp) self.old.entries self.new.entries }
         ensures many { length self.new.entries ≡ length self.old.entries }

@@ -6,7 +6,7 @@ mod item_index;
 mod restores;
 mod saves;
 
-pub use changes::{ChangeContext, make_change};
+pub use changes::{ChangeContext, make_change, told_stamp};
 pub use item_index::ItemIndex;
 pub use restores::{restore_item, restore_set};
 pub use saves::read_behind;

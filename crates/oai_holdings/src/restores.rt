@@ -1,10 +1,11 @@
 //! Restores a part of what was saved: a set or an item is added.
-ghost use Rattle.std.specs.Prelude.{◌≡◌, ◌≤◌, ◌++◌, ◌∷◌, [], if◌then◌else◌, not, false, true, Some, Ok, Err, length, IfErr, IsTrue, OnErr, OnOk};
-ghost use Rattle.std.specs.List.{list_all};
+ghost use Rattle.std.specs.Prelude.{◌≡◌, ◌≤◌, ◌++◌, ◌∷◌, [], if◌then◌else◌, not, false, true, Some, Ok, Err, length, is_some, IfErr, IfOk, IsTrue, OnErr, OnOk};
+ghost use Rattle.std.specs.List.{list_all, list_any};
 ghost use Rattle.std.specs.Option.{option_copied};
 ghost use Rattle.oai_item.specs.Encoding.{encoded};
 ghost use Rattle.oai_item.specs.Item.{IsStamp};
-ghost use Rattle.oai_item.specs.Known.{are_fields_of, has_format, has_known_fields};
+ghost use Rattle.oai_item.specs.Elements.{element_in};
+ghost use Rattle.oai_item.specs.Known.{are_fields_of, are_listed_in, has_format, has_known_fields};
 ghost use Rattle.oai_item.specs.declared.faults.Fault.TheVariants as fault;
 ghost use Rattle.oai_item.specs.declared.sizes.TheConstants.{MAX_ITEM_BYTES};
 ghost use Rattle.oai_catalogue.specs.Store.{Spends};
@@ -12,15 +13,15 @@ ghost use Rattle.oai_holdings.specs.Changes.{with_new};
 ghost use Rattle.oai_holdings.specs.Index.{IsIndexed, stored_items};
 ghost use Rattle.oai_holdings.specs.Indexing.{HoldsItems, Moves};
 ghost use Rattle.oai_holdings.specs.Kept as spec;
-ghost use Rattle.oai_holdings.specs.Saved.{fault_of_store, may_have_item, may_have_set};
+ghost use Rattle.oai_holdings.specs.Saved.{IsDamagedOrShort, fault_of_store, has_element, keeps_element, may_have_item, may_have_set};
 
 use crate::changes::{add_set, have_sets, is_among};
 use crate::item_index::ItemIndex;
 use oai_catalogue::Versions;
-use oai_item::{Fault, Fields, Format, Formats, Item, ItemRecords, Refusal};
+use oai_item::{Fault, Fields, Format, Formats, Item, ItemRecords, Refusal, is_element_of};
 use oai_names::{SetSpec, SetTree};
 use oai_settings::RepoConfig;
-use std::alloc::Global;
+use std::alloc::{AllocError, Global};
 
 /// Adds the set as the last one. The error is `Damaged` if a change that adds it would be refused, otherwise out of
 /// memory. After an error the sets are unchanged.
@@ -39,8 +40,8 @@ pub fn restore_set(sets: &mut SetTree, set: &SetSpec, name: &str) -> Result<(), 
 }
 
 /// Adds the item, in place of the one with its identifier, if there is one. `Damaged` if it violates the repository's
-/// invariants, or there are as many items as there may be; otherwise any fault may come. After an error everything is
-/// unchanged.
+/// invariants, or there are as many items as there may be; of an item with an element, out of memory may come in its
+/// place. Otherwise any fault may come. After an error everything is unchanged.
 pub fn restore_item<V: Versions>(
     alloc: Global,
     config: &RepoConfig,
@@ -58,38 +59,56 @@ pub fn restore_item<V: Versions>(
     ensures few { length index.old.entries ≤ config.now.items
         → length index.new.entries ≤ config.now.items }
     ensures damaged { may_have_item config.now sets.now (length index.old.entries) item.now ≡ false
-        → result ≡ Err fault.Damaged }
+        → IsDamagedOrShort (has_element item.now) result }
     ensures moves { Moves V.Versions result index.old store.old index.new store.new }
     ensures store { Spends V.room V.failures V.honest 1
         (fault_of_store (may_have_item config.now sets.now (length index.old.entries) item.now)
         result) store.old store.new }
 {
-    if !may_have_item(config, sets, index.len(), item) {
+    if !may_have_item(alloc, config, sets, index.len(), item)? {
         return Err(Fault::Damaged);
     }
     index.put(alloc, store, item)
 }
 
 /// Whether the item satisfies the repository's invariants, and the repository, which has `count` items, may have one
-/// more.
-fn may_have_item(config: &RepoConfig, sets: &SetTree, count: u64, item: &Item) -> bool
-    ensures may { result ≡ may_have_item config.now sets.now count item.now }
+/// more. The error is out of memory, as an element is read.
+fn may_have_item(
+    alloc: Global,
+    config: &RepoConfig,
+    sets: &SetTree,
+    count: u64,
+    item: &Item,
+) -> Result<bool, AllocError>
+    ensures may { IfOk result (λ may. may ≡ may_have_item config.now sets.now count item.now) }
+    ensures short { OnErr result (has_element item.now ≡ true) }
     ensures stamped { IsStamp item.now.stamp }
 {
-    is_well_kept(config, sets, item) && count < config.items()
+    let kept = is_well_kept(alloc, config, sets, item)?;
+    Ok(kept && count < config.items())
 }
 
 /// Whether the item satisfies the repository's invariants: it has a record in oai_dc, each of its records is in a
-/// format of the repository and has no other fields than that format's, its sets exist, and it is not too large.
-fn is_well_kept(config: &RepoConfig, sets: &SetTree, item: &Item) -> bool
-    ensures kept { result ≡ spec.is_well_kept config.now sets.now item.now }
+/// format of the repository and has no other fields than that format's, or keeps an element of it, its sets exist, and it
+/// is not too large. The error is out of memory, as an element is read.
+fn is_well_kept(
+    alloc: Global,
+    config: &RepoConfig,
+    sets: &SetTree,
+    item: &Item,
+) -> Result<bool, AllocError>
+    ensures kept { IfOk result (λ is. is ≡ spec.is_well_kept config.now sets.now item.now) }
+    ensures short { OnErr result (has_element item.now ≡ true) }
     ensures stamped { IsStamp item.now.stamp }
 {
-    have_formats(config.formats(), item.formats())
-        && item.has_record("oai_dc")
-        && have_known_fields(config.formats(), item.formats())
-        && have_sets(sets, item.sets())
-        && is_storable(item)
+    let known = have_known_fields(alloc, config.formats(), item.formats())?;
+    Ok(
+        have_formats(config.formats(), item.formats())
+            && item.has_record("oai_dc")
+            && known
+            && have_sets(sets, item.sets())
+            && is_storable(item),
+    )
 }
 
 /// Whether the item can be stored.
@@ -112,31 +131,65 @@ fn have_formats(formats: &Formats, mut records: ItemRecords<'_>) -> bool
     true
 }
 
-/// Whether each field of each record is one of its format's.
-fn have_known_fields(formats: &Formats, mut records: ItemRecords<'_>) -> bool
-    ensures { result ≡ list_all (has_known_fields formats.now) records.entry }
+/// Whether each record may be kept in its format. The error is out of memory, as an element is read.
+fn have_known_fields(
+    alloc: Global,
+    formats: &Formats,
+    mut records: ItemRecords<'_>,
+) -> Result<bool, AllocError>
+    ensures known { IfOk result (λ known. known ≡ list_all (has_known_fields formats.now) records.entry) }
+    ensures short { OnErr result (list_any keeps_element records.entry ≡ true) }
 {
     while let Some(made) = records.next() {
-        if !are_known(formats.find_named(made.prefix), made.fields) {
-            return false;
+        if !are_known(alloc, formats.find_named(made.prefix), made.fields)? {
+            return Ok(false);
         }
     }
-    true
+    Ok(true)
 }
 
-/// Whether each field is one of the format's, if there is one.
-fn are_known(format: Option<&Format>, fields: Fields<'_>) -> bool
-    ensures { result ≡ are_fields_of (option_copied format.entry) fields.entry }
+/// Whether the fields may be kept in the format, if there is one. The error is out of memory, as an element is read.
+fn are_known(alloc: Global, format: Option<&Format>, fields: Fields<'_>) -> Result<bool, AllocError>
+    ensures known { IfOk result (λ known. known ≡ are_fields_of (option_copied format.entry) fields.entry) }
+    ensures short { OnErr result (is_some (element_in fields.entry) ≡ true) }
 {
     match format {
-        Some(format) => are_fields_of(format, fields),
-        None => true,
+        Some(format) => are_fields_of(alloc, format, fields),
+        None => Ok(true),
     }
+}
+
+/// Whether each field is one of the format's, or they keep an element of it. The error is out of memory, as the element
+/// is read.
+fn are_fields_of(alloc: Global, format: &Format, fields: Fields<'_>) -> Result<bool, AllocError>
+    ensures known { IfOk result (λ are. are ≡ are_fields_of (Some format.now) fields.entry) }
+    ensures short { OnErr result (is_some (element_in fields.entry) ≡ true) }
+{
+    match fields.element() {
+        Some(element) => is_kept_in(alloc, format, element, fields),
+        None => Ok(are_listed_in(format, fields)),
+    }
+}
+
+/// Whether the element that the fields keep is one of the format, or they are fields of it. The error is out of memory.
+fn is_kept_in(
+    alloc: Global,
+    format: &Format,
+    element: &str,
+    fields: Fields<'_>,
+) -> Result<bool, AllocError>
+    requires { element_in fields ≡ Some element.now }
+    ensures { IfOk result (λ is. is ≡ are_fields_of (Some format.now) fields.entry) }
+{
+    if are_listed_in(format, fields) {
+        return Ok(true);
+    }
+    is_element_of(alloc, format, element)
 }
 
 /// Whether each field is one of the format's.
-fn are_fields_of(format: &Format, mut fields: Fields<'_>) -> bool
-    ensures { result ≡ are_fields_of (Some format.now) fields.entry }
+fn are_listed_in(format: &Format, mut fields: Fields<'_>) -> bool
+    ensures { result ≡ are_listed_in format.now fields.entry }
 {
     while let Some(field) = fields.next() {
         if !is_among(format.fields.as_slice(), field.name) {

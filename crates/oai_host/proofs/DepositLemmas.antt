@@ -4,13 +4,16 @@ use Rattle.oai_deposit.specs.Lines.{line_of}
 use Rattle.oai_time.specs.Clock.{tick}
 use Rattle.oai_time.specs.TimeTexts.{datestamp_text}
 use Rattle.oai_item.specs.Refusals.{in_repository, refusal_line}
-use Rattle.oai_item.specs.declared.changes.Change.{Change}
+use Rattle.oai_deposit.specs.declared.changes.Change.{Change}
+use Rattle.oai_deposit.specs.declared.changes.Change.TheVariants as change
 use Rattle.oai_item.specs.declared.faults.Fault.{Fault}
 use Rattle.oai_item.specs.declared.refusals.ChangeRefusal.{ChangeRefusal}
 use Rattle.oai_catalogue.specs.Store.{VersionLists}
 use Rattle.oai_settings.specs.Config.{RepositoryConfig}
 use Rattle.oai_repo.specs.Calls.{IsAccepted, IsRefusedAt}
+use Rattle.oai_holdings.specs.Accepted.{noted_stamp}
 use Rattle.oai_holdings.specs.Changes.{stamp_at}
+use Rattle.oai_holdings.specs.Entries.{IndexEntries}
 use Rattle.oai_repo.specs.Fields.{HasNumbersIn, IsStored, Keeps, RepoFields, numbers_of, state_of}
 use Rattle.oai_repo.specs.Machine.{Outcome, act_at, changing, outcome_output}
 use Rattle.oai_repo.specs.State.{RepoState}
@@ -18,7 +21,7 @@ use Rattle.oai_repo.proofs.NumberLemmas.{kept_same, kept_twice}
 use Rattle.oai_host.specs.Alone.{after_lines, after_read, with_end}
 use Rattle.oai_http.specs.Answers.{answered_with, failed}
 use Rattle.oai_host.specs.Tasks.{depositing}
-use Rattle.oai_host.specs.Performed.{AreLinesPerformed, HasStopped, IsDone, IsLineAnswered, IsLinePerformed}
+use Rattle.oai_host.specs.Performed.{AreLinesPerformed, HasStopped, IsDone, IsLineAnswered, IsLinePerformed, IsStampOf}
 
 -- a change that was performed or refused is a step, of which this is told
 pub told_line : (config : RepositoryConfig) (moment : ℤ) (change : Change) (outcome : Outcome) (before after : RepoState) (text : List ℕ)
@@ -30,11 +33,22 @@ told_line config moment change outcome before after text acted told =
 abbrev IsAnsweredSo : RepoFields → VersionLists → ℤ → Change → List ℕ → RepoFields → VersionLists → Type 0
 IsAnsweredSo old before moment change text new after = IsLineAnswered old.config moment (Ok change) (state_of old before) text (state_of new after)
 
+-- the datestamp by the entries of the index
+stamp_of : (its : Change) (now stamp : ℤ) (entries : IndexEntries) → stamp ≡ noted_stamp now its entries → IsStampOf its now stamp
+stamp_of (change.Deposit identifier sets records) now stamp entries is = is
+stamp_of (change.Put identifier sets records) now stamp entries is = tt
+stamp_of (change.Delete identifier) now stamp entries is = is
+stamp_of (change.Purge before) now stamp entries is = is
+stamp_of (change.AddSet spec name) now stamp entries is = is
+
 -- a change that was accepted, over every store
 pub accepted_line : (old : RepoFields) (before : VersionLists) (moment stamp : ℤ) (change : Change) (new : RepoFields) (after : VersionLists) → IsAccepted moment stamp change old before new after
     → new.clock ≡ tick old.clock moment → new.config ≡ old.config → IsAnsweredSo old before moment change ((codes "ok " ++ datestamp_text old.config.granularity stamp) ++ 10 ∷ []) new after
-accepted_line old before moment stamp change new after accepted clock config = inl (record {
-  told = ap (λ (s : ℤ). (codes "ok " ++ datestamp_text old.config.granularity s) ++ 10 ∷ []) (accepted.stamped ∙ ap (λ (c : RepositoryConfig). stamp_at c new.clock) config);
+accepted_line old before moment stamp its new after accepted clock config = inl (record {
+  stamp = stamp;
+  stamped = stamp_of its (stamp_at old.config new.clock) stamp new.index.entries
+      (subst (λ (c : RepositoryConfig). stamp ≡ noted_stamp (stamp_at c new.clock) its new.index.entries) config accepted.stamped);
+  told = refl;
   clock = clock;
   sets = accepted.kept.sets;
   open_lists = accepted.open_lists;
@@ -71,13 +85,13 @@ nothing_behind (x ∷ xs) = ap (λ (all : List ℕ). x ∷ all) (nothing_behind 
 module _ (honest : Bool) (config : RepositoryConfig) (moment : ℤ) where
   -- the last of some lines
   lines_last : (front : List (List ℕ)) (text told line : List ℕ) (before between after : RepoState) → AreLinesPerformed honest config moment front before told between
-      → IsLinePerformed honest config moment (line_of text) between line after → AreLinesPerformed honest config moment (front ++ text ∷ []) before (told ++ line) after
+      → IsLinePerformed honest config moment (line_of config.forms text) between line after → AreLinesPerformed honest config moment (front ++ text ∷ []) before (told ++ line) after
   lines_last [] text told line before between after none last = (
     line,
     [],
     after,
     ap (λ (t : List ℕ). t ++ line) none.0 ∙ sym (nothing_behind line),
-    subst (λ (s : RepoState). IsLinePerformed honest config moment (line_of text) s line after) none.1 last,
+    subst (λ (s : RepoState). IsLinePerformed honest config moment (line_of config.forms text) s line after) none.1 last,
     (refl, refl),
   )
   lines_last (one ∷ front) text told line before between after all last = (
@@ -120,14 +134,14 @@ one_more (one ∷ front) text = ap suc (one_more front text)
 
 pub one_done : (honest : Bool) (old mid new : RepoFields) (before between after : VersionLists) (moment : ℤ) (all left : List (List ℕ)) (text told line tells : List ℕ) (done : ℕ)
     → AreDone honest old before moment all (text ∷ left) told done mid between → tells ≡ told ++ line
-    → IsLinePerformed honest mid.config moment (line_of text) (state_of mid between) line (state_of new after) → Keeps honest mid between new after
+    → IsLinePerformed honest mid.config moment (line_of mid.config.forms text) (state_of mid between) line (state_of new after) → Keeps honest mid between new after
     → AreDone honest old before moment all left tells (done + 1) new after
 one_done honest old mid new before between after moment all left text told line tells done so_far is line_done kept = record {
   front = so_far.front ++ text ∷ [];
   whole = so_far.whole ∙ join_lines so_far.front left text;
   many = (let many = so_far.many in omega (arith, many)) ∙ one_more so_far.front text;
   performed =
-      let this = subst (λ (config : RepositoryConfig). IsLinePerformed honest config moment (line_of text) (state_of mid between) line (state_of new after)) so_far.kept.config line_done in
+      let this = subst (λ (config : RepositoryConfig). IsLinePerformed honest config moment (line_of config.forms text) (state_of mid between) line (state_of new after)) so_far.kept.config line_done in
       subst (λ (t : List ℕ). AreLinesPerformed honest old.config moment (so_far.front ++ text ∷ []) (state_of old before) t (state_of new after)) (sym is)
       (lines_last honest old.config moment so_far.front text told line (state_of old before) (state_of mid between) (state_of new after) so_far.performed this);
   kept = kept_on honest old mid new before between after so_far.kept kept;

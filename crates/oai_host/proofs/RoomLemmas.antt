@@ -1,7 +1,7 @@
 -- Room: what a line, the lines of a deposit and an exchange with one of many repositories need.
 use Rattle.std.proofs.Common.{◌≡◌, ◌≤◌, ℕ, ◌+◌, List, [], ◌∷◌, length, Option, Some, Result, Ok, Err, refl, sym, subst, arith}
-use Rattle.oai_item.specs.declared.changes.Change.{Change}
-use Rattle.oai_item.specs.declared.changes.Change.TheVariants as change
+use Rattle.oai_deposit.specs.declared.changes.Change.{Change}
+use Rattle.oai_deposit.specs.declared.changes.Change.TheVariants as change
 use Rattle.oai_item.specs.declared.faults.Fault.{Fault}
 use Rattle.oai_item.specs.declared.faults.Fault.TheVariants.{Damaged, Device, NoMemory, TooManyPages}
 use Rattle.oai_catalogue.specs.Store.{NeedsRoom, Spares, Spends}
@@ -38,6 +38,7 @@ spends_none g old new frees =
 -- a change of a repository that has no more entries than items may be
 pub room_of_change : (old : RepoFields) (made : Change) → length old.index.entries ≤ old.config.items → room_to_change (length old.index.entries) made ≤ room_to_change old.config.items made
 room_of_change old (change.Deposit identifier sets records) few = omega arith
+room_of_change old (change.Put identifier sets records) few = omega arith
 room_of_change old (change.Delete identifier) few = omega arith
 room_of_change old (change.Purge before) few = omega (arith, few)
 room_of_change old (change.AddSet spec name) few = omega arith
@@ -49,8 +50,8 @@ one_on was this rest mid all is so_far used = omega (arith, so_far, used)
 
 -- a line more was done
 pub room_on : (config : RepositoryConfig) (text : List ℕ) (left all : List (List ℕ)) (was mid is : ℕ) → was + room_for_lines config (text ∷ left) ≤ mid + room_for_lines config all
-    → mid ≤ is + room_for_line config (line_of text) → was + room_for_lines config left ≤ is + room_for_lines config all
-room_on config text left all was mid is so_far used = one_on was (room_for_line config (line_of text)) (room_for_lines config left) mid (room_for_lines config all) is so_far used
+    → mid ≤ is + room_for_line config (line_of config.forms text) → was + room_for_lines config left ≤ is + room_for_lines config all
+room_on config text left all was mid is so_far used = one_on was (room_for_line config (line_of config.forms text)) (room_for_lines config left) mid (room_for_lines config all) is so_far used
 
 -- all lines were done
 pub room_done : (config : RepositoryConfig) (all left : List (List ℕ)) (was is : ℕ) → left ≡ [] → was + room_for_lines config left ≤ is + room_for_lines config all
@@ -73,7 +74,7 @@ one_failed this rest all was mid is fault so_far need =
 
 -- a line failed
 pub room_failed : (config : RepositoryConfig) (text : List ℕ) (left all : List (List ℕ)) (was mid is done : ℕ) (fault : Fault) → was + room_for_lines config (text ∷ left) ≤ mid + room_for_lines config all
-    → NeedsRoom {A = Unit {0}} (room_for_line config (line_of text)) (Err fault) mid is → NeedsRoom (room_for_lines config all) (failure_in (failed fault (Some done))) was is
+    → NeedsRoom {A = Unit {0}} (room_for_line config (line_of config.forms text)) (Err fault) mid is → NeedsRoom (room_for_lines config all) (failure_in (failed fault (Some done))) was is
 room_failed config text left all was mid is done fault so_far need =
     subst (λ (result : Result (Unit {0}) Fault). NeedsRoom (room_for_lines config all) result was is) (sym (fault_told fault (Some done)))
-    (one_failed (room_for_line config (line_of text)) (room_for_lines config left) (room_for_lines config all) was mid is fault so_far need)
+    (one_failed (room_for_line config (line_of config.forms text)) (room_for_lines config left) (room_for_lines config all) was mid is fault so_far need)

@@ -3,7 +3,7 @@
 use Rattle.std.specs.Prelude.{ℕ, ℤ, List, [], ◌∷◌, ◌++◌, filter, map, Result}
 use Rattle.std.specs.List.{zip}
 use Rattle.oai_deposit.specs.Lines.{line_of}
-use Rattle.oai_item.specs.declared.changes.Change.{Change}
+use Rattle.oai_deposit.specs.declared.changes.Change.{Change}
 use Rattle.oai_item.specs.declared.refusals.LineRefusal.{LineRefusal}
 use Rattle.oai_settings.specs.Config.{RepositoryConfig}
 use Rattle.oai_repo.specs.Machine.{Output, bytes, line, query, step, wait}
@@ -27,7 +27,7 @@ abbrev pub after_read : RepositoryConfig → ℤ → RepoState → Result Change
 after_read config moment state read = let done = step config state moment (line read) in (with_end done.0, done.1)
 
 abbrev pub after_line : RepositoryConfig → ℤ → RepoState → List ℕ → List ℕ × RepoState
-after_line config moment state text = after_read config moment state (line_of text)
+after_line config moment state text = after_read config moment state (line_of config.forms text)
 
 -- lines, one after the other, at one moment
 abbrev pub after_lines : RepositoryConfig → ℤ → RepoState → List (List ℕ) → List ℕ × RepoState

@@ -2,7 +2,7 @@
 use Rattle.std.specs.Prelude.{◌≡◌, ◌++◌, ℕ, ℤ, List, Result, OnErr, OnOk}
 use Rattle.oai_catalogue.specs.Store.{Spends}
 use Rattle.oai_catalogue.specs.declared.versions.Versions.{Ghosts}
-use Rattle.oai_item.specs.declared.changes.Change.{Change}
+use Rattle.oai_deposit.specs.declared.changes.Change.{Change}
 use Rattle.oai_item.specs.declared.faults.Fault.{Fault}
 use Rattle.oai_item.specs.declared.refusals.LineRefusal.{LineRefusal}
 use Rattle.oai_repo.specs.Fields.{Keeps, RepoFields, state_of}

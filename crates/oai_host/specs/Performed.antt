@@ -4,7 +4,8 @@ use Rattle.std.specs.Prelude.{◌≡◌, ◌⊎◌, ◌<◌, ℕ, ℤ, Bool, IsT
 use Rattle.oai_time.specs.Clock.{tick}
 use Rattle.oai_time.specs.TimeTexts.{datestamp_text}
 use Rattle.oai_item.specs.Refusals.{Cause, in_line, in_repository, refusal_line}
-use Rattle.oai_item.specs.declared.changes.Change.{Change}
+use Rattle.oai_deposit.specs.declared.changes.Change.{Change}
+use Rattle.oai_deposit.specs.declared.changes.Change.TheVariants as change
 use Rattle.oai_item.specs.declared.faults.Fault.{Fault}
 use Rattle.oai_item.specs.declared.refusals.ChangeRefusal.{ChangeRefusal}
 use Rattle.oai_item.specs.declared.refusals.LineRefusal.{LineRefusal}
@@ -30,10 +31,20 @@ pub record IsRefusedLine (moment : ℤ) (cause : Cause) (before : RepoState) (li
   pub told : line ≡ refusal_line cause ++ 10 ∷ []
   pub state : after ≡ moved moment before
 
--- it was accepted: its answer has the datestamp, which is the clock's; a new set is the last one; the clock and the
--- open lists are those at the moment. Nothing is said of the items
+-- the datestamp that answers a change is that one, unless it is a put
+abbrev pub IsStampOf : Change → ℤ → ℤ → Type 0
+IsStampOf (change.Deposit identifier sets records) now stamp = stamp ≡ now
+IsStampOf (change.Put identifier sets records) now stamp = Unit {0}
+IsStampOf (change.Delete identifier) now stamp = stamp ≡ now
+IsStampOf (change.Purge before) now stamp = stamp ≡ now
+IsStampOf (change.AddSet spec name) now stamp = stamp ≡ now
+
+-- it was accepted: its answer has the datestamp, which is the clock's, or of a put any; a new set is the last one; the clock
+-- and the open lists are those at the moment. Nothing is said of the items
 pub record IsAcceptedLine (config : RepositoryConfig) (moment : ℤ) (change : Change) (before : RepoState) (line : List ℕ) (after : RepoState) : Type 0 where
-  pub told : line ≡ (codes "ok " ++ datestamp_text config.granularity (stamp_at config after.clock)) ++ 10 ∷ []
+  pub stamp : ℤ
+  pub stamped : IsStampOf change (stamp_at config after.clock) stamp
+  pub told : line ≡ (codes "ok " ++ datestamp_text config.granularity stamp) ++ 10 ∷ []
   pub clock : after.clock ≡ tick before.clock moment
   pub sets : after.holdings.sets ≡ sets_with change before.holdings.sets
   pub open_lists : after.open_lists ≡ (moved moment before).open_lists
@@ -57,7 +68,7 @@ AreLinesPerformed honest config moment (text ∷ lines) before told after =
     × (others : List ℕ)
     × (between : RepoState)
     × (told ≡ line ++ others)
-    × IsLinePerformed honest config moment (line_of text) before line between
+    × IsLinePerformed honest config moment (line_of config.forms text) before line between
     × AreLinesPerformed honest config moment lines between others after
 
 -- ---- an exchange

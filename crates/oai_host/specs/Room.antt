@@ -3,7 +3,7 @@ use Rattle.std.specs.Prelude.{◌+◌, ℕ, List, [], ◌∷◌, Result, Ok, Err
 use Rattle.oai_args.specs.Pairs.{decoded_pairs}
 use Rattle.oai_args.specs.Requests.{request_of}
 use Rattle.oai_deposit.specs.Lines.{line_of}
-use Rattle.oai_item.specs.declared.changes.Change.{Change}
+use Rattle.oai_deposit.specs.declared.changes.Change.{Change}
 use Rattle.oai_item.specs.declared.refusals.LineRefusal.{LineRefusal}
 use Rattle.oai_settings.specs.Config.{RepositoryConfig}
 use Rattle.oai_holdings.specs.Calls.{room_to_change}
@@ -19,7 +19,7 @@ room_for_line config (Err cause) = 0
 -- the lines of a deposit
 abbrev pub room_for_lines : RepositoryConfig → List (List ℕ) → ℕ
 room_for_lines config [] = 0
-room_for_lines config (line ∷ lines) = room_for_line config (line_of line) + room_for_lines config lines
+room_for_lines config (line ∷ lines) = room_for_line config (line_of config.forms line) + room_for_lines config lines
 
 -- what an exchange asks of a repository
 abbrev pub room_for_task : RepositoryConfig → Task → ℕ

@@ -6,16 +6,18 @@ ghost use Rattle.oai_host.specs.DepositLines.{AreTaken, bytes_left, from_line, l
 ghost use Rattle.oai_host.specs.Exchanged.{PerformsIn, PerformsLine};
 ghost use Rattle.oai_host.specs.Tasks.{depositing};
 ghost use Rattle.oai_host.specs.declared.deposits.TheConstants.{MAX_LINE};
+ghost use Rattle.oai_item.specs.Refusals.{in_line, refusal_line};
 ghost use Rattle.oai_repo.specs.Fields.{Owns};
 ghost use Rattle.oai_time.specs.Stamp.{IsWritable};
 ghost use Rattle.oai_time.specs.TimeTexts.{datestamp_text};
 ghost use Rattle.std.specs.Option.{option_copied};
 ghost use Rattle.std.specs.Prelude.{Err, MatchOption, Ok, Some, [], codes, drop, if◌then◌else◌, length, ℕ, vec_capacity, vec_len, ◌++◌, ◌+◌, ◌<◌, ◌∷◌, ◌≡◌, ◌≤◌};
 
+use itoa::Buffer;
 use oai_catalogue::Versions;
-use oai_deposit::{LineFault, read_line};
+use oai_deposit::{Change, LineFault, read_line};
 use oai_http::{Answer, len_before, put};
-use oai_item::{Change, Fault, LineRefusal};
+use oai_item::{Fault, LineRefusal};
 use oai_names::Sequence;
 use oai_repo::{Refusal, Repo};
 use oai_time::{Granularity, write_datestamp};
@@ -23,7 +25,7 @@ use std::alloc::Global;
 use std::marker::Model;
 
 /// The maximum length in bytes of the line that answers a line, with its line end.
-const MAX_LINE: usize = 32;
+const MAX_LINE: usize = 40;
 
 /// Performs the lines of a deposit at the moment, in seconds from 1970 on, one after the other, and answers them; a
 /// fault ends them. Space for the answer to a line is reserved before the line is performed, so a line that was
@@ -61,11 +63,11 @@ fn perform_line<V: Versions>(
     told: &mut Vec<u8>,
 ) -> Result<(), Fault>
     requires owns { Owns (V.honest store.old) repo.old (V.lists store.old) }
-    ensures { PerformsLine V.Versions moment (line_of text.now) result repo.old store.old
+    ensures { PerformsLine V.Versions moment (line_of repo.old.config.forms text.now) result repo.old store.old
         told.old.items repo.new store.new told.new.items }
 {
     told.reserve(MAX_LINE)?;
-    match read_line(alloc, text) {
+    match read_line(alloc, repo.config().forms(), text) {
         Ok(change) => perform_change(repo, store, moment, &change, told),
         Err(LineFault::Refused(cause)) => {
             refuse_line(repo, store, moment, cause, told);
@@ -112,7 +114,22 @@ fn refuse_line<V: Versions>(
         repo.new store.new told.new.items }
 {
     repo.advance(store, moment);
-    put_line(cause.answer(), told);
+    put_cause(cause, told);
+}
+
+/// Writes the line that reports the cause, and a line end.
+fn put_cause(cause: LineRefusal, out: &mut Vec<u8>)
+    requires { vec_len out.old + MAX_LINE ≤ vec_capacity out.old }
+    ensures { out.new.items ≡ out.old.items ++ (refusal_line (in_line cause) ++ 10 ∷ []) }
+{
+    match cause.byte() {
+        Some(at) => {
+            let mut digits = Buffer::new();
+            put(cause.answer().as_bytes(), out);
+            put_line(digits.format(at), out);
+        }
+        None => put_line(cause.answer(), out),
+    }
 }
 
 /// Writes `ok`, the datestamp and a line end.

@@ -22,6 +22,7 @@ use crate::repositories::Repositories;
 use crate::routes::Routes;
 use oai_catalogue::Versions;
 use oai_config::Config;
+use oai_figures::{Exposition, Figures};
 use oai_http::{Answer, Call, Endpoint, Exchange, Handler, Status, is_rooted, path_of};
 use oai_item::Fault;
 use oai_names::Sequence;
@@ -304,5 +305,12 @@ impl<V: Versions + Drop> Replayed for Host<V> {
 
     fn save<S: Sink>(&mut self, raise: u32, sink: &mut S) -> Result<(), SaveFault> {
         self.save(raise, sink)
+    }
+}
+
+impl<V: Versions + Figures + Drop> Figures for Host<V> {
+    fn report(&self, page: &mut Exposition) {
+        self.repositories.report(page);
+        self.store.report(page);
     }
 }

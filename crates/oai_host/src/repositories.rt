@@ -27,6 +27,7 @@ use crate::restores::restore;
 use crate::saves::save;
 use oai_catalogue::Versions;
 use oai_config::NamedConfig;
+use oai_figures::Exposition;
 use oai_http::{Endpoint, Exchange};
 use oai_item::Fault;
 use oai_names::Text;
@@ -225,6 +226,20 @@ impl Repositories {
             save(self.alloc, one, store, raise, sink)?;
         }
         Ok(())
+    }
+
+    /// Adds the figures of each to the page.
+    pub(crate) fn report(&self, page: &mut Exposition) {
+        page.begin("items", "Items of the repository, deleted ones among them.");
+        for one in &self.repos {
+            let items = one.repo.items();
+            page.add_for("items", "repository", one.name.as_str(), items);
+        }
+        page.begin("open_lists", "Lists that the repository holds open.");
+        for one in &self.repos {
+            let lists = one.repo.open_lists() as u64;
+            page.add_for("open_lists", "repository", one.name.as_str(), lists);
+        }
     }
 }
 

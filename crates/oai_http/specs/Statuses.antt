@@ -7,6 +7,7 @@ use Rattle.oai_http.specs.declared.statuses.Status.TheVariants as status
 abbrev pub number_of : Status → ℕ
 number_of status.Ok = 200
 number_of status.BadRequest = 400
+number_of status.Unauthorized = 401
 number_of status.NotFound = 404
 number_of status.MethodNotAllowed = 405
 number_of status.ContentTooLarge = 413
@@ -19,6 +20,7 @@ number_of status.ServiceUnavailable = 503
 abbrev pub phrase_of : Status → List ℕ
 phrase_of status.Ok = codes "OK"
 phrase_of status.BadRequest = codes "Bad Request"
+phrase_of status.Unauthorized = codes "Unauthorized"
 phrase_of status.NotFound = codes "Not Found"
 phrase_of status.MethodNotAllowed = codes "Method Not Allowed"
 phrase_of status.ContentTooLarge = codes "Content Too Large"

@@ -20,11 +20,14 @@ pub struct Exchange<'a> {
     pub target: &'a [u8],
     /// The value of the field Content-Type, if there is one.
     pub content_type: Option<&'a [u8]>,
+    /// The value of the field Authorization, if there is one (RFC 9110, section 11.6.2).
+    pub authorization: Option<&'a [u8]>,
     /// The body, empty if there is none.
     pub body: &'a [u8],
 }
 
-/// An exchange that owns its bytes, and the moment at which it comes.
+/// An exchange that owns its bytes, and the moment at which it comes. It has no authorization: what a call does depends
+/// on none.
 #[derive(Debug, Drop)]
 pub struct Call {
     /// The moment, in seconds from 1970 on; it may also lie before those of earlier calls.
@@ -56,7 +59,7 @@ pub struct Answer {
 }
 
 impl Call {
-    /// The exchange, without the moment.
+    /// The exchange, without the moment, and with no authorization.
     pub fn exchange(&self) -> Exchange<'_>
         ensures { call_of self.now.moment result ≡ self.now }
     {
@@ -67,6 +70,7 @@ impl Call {
                 Some(value) => Some(value.as_slice()),
                 None => None,
             },
+            authorization: None,
             body: self.body.as_slice(),
         }
     }

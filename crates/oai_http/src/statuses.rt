@@ -8,6 +8,8 @@ pub enum Status {
     Ok,
     /// The message, or its target, is malformed.
     BadRequest,
+    /// The message has no key of those that its target asks for.
+    Unauthorized,
     /// No repository has that path.
     NotFound,
     /// The target does not allow the method.
@@ -32,6 +34,7 @@ impl Status {
         match self {
             Status::Ok => 200,
             Status::BadRequest => 400,
+            Status::Unauthorized => 401,
             Status::NotFound => 404,
             Status::MethodNotAllowed => 405,
             Status::ContentTooLarge => 413,
@@ -49,6 +52,7 @@ impl Status {
         match self {
             Status::Ok => "OK",
             Status::BadRequest => "Bad Request",
+            Status::Unauthorized => "Unauthorized",
             Status::NotFound => "Not Found",
             Status::MethodNotAllowed => "Method Not Allowed",
             Status::ContentTooLarge => "Content Too Large",

@@ -7,7 +7,7 @@ use Rattle.std.proofs.lemmas.Cmp.{nat_list_eq_equiv}
 use Rattle.std.proofs.lemmas.List.{map-append}
 use Rattle.std.proofs.lemmas.List.Folds.{list_all-append}
 use Rattle.oai_item.specs.Formats.{AreRepositoryFormats, dublin_core, format_named}
-use Rattle.oai_item.specs.Rules.{are_names, are_uris, has_fields, has_repeat, is_allowed}
+use Rattle.oai_item.specs.Rules.{are_names, are_uris, has_few_fields, has_repeat, is_allowed}
 use Rattle.oai_item.specs.Declaring.{HasGoodTexts, IsDeclaring, declare_fault, has_room}
 use Rattle.oai_item.specs.declared.formats.Format.{Format}
 use Rattle.oai_item.specs.declared.formats.FormatFault.{FormatFault}
@@ -59,7 +59,7 @@ is_allowed-from : (old : List Format) (format : Format) → declare_fault old fo
 unfolding is_allowed
 is_allowed-from old format none =
     let fits = admitted old format none in
-    let fields : has_fields format ≡ true = (and_parts (nat_lt (length old) 64) (has_fields format) fits.4).1 in
+    let fields : has_few_fields format ≡ true = (and_parts (nat_lt (length old) 64) (has_few_fields format) fits.4).1 in
     and_from _ _ (and_from _ _ (and_from _ _ fits.1 fits.2) fields) (not_from_false _ fits.3)
 
 -- one more format that keeps the rules, after the first
@@ -74,7 +74,7 @@ AreRepositoryFormats-push old format valid none =
       first = first_kept old (format ∷ []) dublin_core valid.first;
       declared = allowed_kept old format valid.first valid.declared (is_allowed-from old format none);
       apart = ap has_repeat (prefixes-push old format) ∙ has_repeat-push (prefixes old) format.prefix ∙ or_from _ _ (sym (is_some-format_named format.prefix old) ∙ fits.0) valid.apart;
-      few = let below : length old < 64 = ltb-true (length old) 64 (and_parts (nat_lt (length old) 64) (has_fields format) fits.4).0 in simp length-append (omega arith);
+      few = let below : length old < 64 = ltb-true (length old) 64 (and_parts (nat_lt (length old) 64) (has_few_fields format) fits.4).0 in simp length-append (omega arith);
     }
 
 -- declaring keeps what is true of the formats

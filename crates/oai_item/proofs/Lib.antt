@@ -26,3 +26,5 @@ pub mod OrderLemmas
 pub mod Selecting
 pub mod Around
 pub mod Named
+pub mod GivenLemmas
+pub mod ElementLemmas

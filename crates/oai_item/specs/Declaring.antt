@@ -1,14 +1,14 @@
 -- Declaring a metadata format beside others. OAI-PMH 2.0, section 3.4.
 use Rattle.std.specs.Prelude.{◌≡◌, Bool, true, false, ◌&&◌, not, if◌then◌else◌, nat_lt, List, [], ◌∷◌, ◌++◌, length, is_some, Option, Some, None, Result, Ok, Err}
 use Rattle.oai_item.specs.Formats.{format_named}
-use Rattle.oai_item.specs.Rules.{are_names, are_uris, has_fields, has_repeat}
+use Rattle.oai_item.specs.Rules.{are_names, are_uris, has_few_fields, has_repeat}
 use Rattle.oai_item.specs.declared.formats.Format.{Format}
 use Rattle.oai_item.specs.declared.formats.FormatFault.{FormatFault}
 use Rattle.oai_item.specs.declared.formats.FormatFault.TheVariants.{Duplicate, BadName, BadUri, FieldTwice, TooMany, NoMemory}
 
--- there is room for one more format, of at most 64, and it has 1 to 256 fields
+-- there is room for one more format, of at most 64, and it has at most 256 fields
 abbrev pub has_room : List Format → Format → Bool
-has_room formats format = nat_lt (length formats) 64 && has_fields format
+has_room formats format = nat_lt (length formats) 64 && has_few_fields format
 
 -- why the format may not be added to these: the first cause that applies
 unfoldable pub declare_fault : List Format → Format → Option FormatFault

@@ -27,8 +27,8 @@ pub record ItemState : Type 0 where
 abbrev pub is_before : List ℕ → List ℕ → Bool
 is_before a b = is_lt (slice_cmp nat_cmp a b)
 
--- each prefix precedes the next
-abbrev pub are_rising : List Metadata → Bool
+-- each prefix precedes the next, whatever stands under them
+abbrev pub are_rising : {A : Type 0} → List (List ℕ × A) → Bool
 are_rising [] = true
 are_rising (a ∷ []) = true
 are_rising (a ∷ b ∷ formats) = is_before a.0 b.0 && are_rising (b ∷ formats)

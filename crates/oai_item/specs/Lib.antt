@@ -6,6 +6,8 @@ pub mod Items
 pub mod Selection
 pub mod Rules
 pub mod Formats
+pub mod Elements
+pub mod Givens
 pub mod Known
 pub mod Declaring
 pub mod Encoding

@@ -1,5 +1,5 @@
 -- What the description of a metadata format may say. OAI-PMH 2.0, section 3.4, and XML 1.0.
-use Rattle.std.specs.Prelude.{ℕ, Bool, false, ◌==◌, ◌||◌, ◌&&◌, not, nat_lt, nat_le, List, [], ◌∷◌, length, codes}
+use Rattle.std.specs.Prelude.{ℕ, Bool, false, ◌==◌, ◌||◌, ◌&&◌, not, nat_le, List, [], ◌∷◌, length, codes}
 use Rattle.std.specs.List.{list_all, list_any}
 use Rattle.std.specs.Char.{is_ascii_alphabetic, is_ascii_alphanumeric}
 use Rattle.std.specs.Str.{bytes_eq}
@@ -48,11 +48,12 @@ abbrev pub has_repeat : List (List ℕ) → Bool
 has_repeat [] = false
 has_repeat (text ∷ texts) = list_any (bytes_eq text) texts || has_repeat texts
 
--- the format has 1 to 256 fields
-abbrev pub has_fields : Format → Bool
-has_fields format = nat_lt 0 (length format.fields) && nat_le (length format.fields) 256
+-- the format has at most 256 fields. Whether it may have none is decided where the forms of records are known (`have_forms` of
+-- oai_settings)
+abbrev pub has_few_fields : Format → Bool
+has_few_fields format = nat_le (length format.fields) 256
 
--- a declared format satisfies these rules: names and URIs as above, 1 to 256 fields, and no field twice
+-- a declared format satisfies these rules: names and URIs as above, at most 256 fields, and no field twice
 unfoldable pub is_allowed : Format → Bool
 is_allowed format =
-    are_names format && are_uris format && has_fields format && not (has_repeat format.fields)
+    are_names format && are_uris format && has_few_fields format && not (has_repeat format.fields)

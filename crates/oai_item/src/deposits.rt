@@ -1,5 +1,6 @@
-ghost use Rattle.std.specs.Prelude.{◌≡◌, ◌≢◌, [], true, IfOk};
+ghost use Rattle.std.specs.Prelude.{◌≡◌, ◌≢◌, [], true, map, IfOk};
 ghost use Rattle.std.specs.List.{list_all};
+ghost use Rattle.oai_item.specs.Givens.{kept};
 ghost use Rattle.oai_item.specs.Item.{IsStamp, are_prefixed, live_item};
 ghost use Rattle.oai_item.specs.Known.{has_format};
 ghost use Rattle.oai_item.specs.Membership.{reduced};
@@ -16,7 +17,7 @@ use std::alloc::{AllocError, Global};
 impl Item {
     /// A live item with copies of these parts. The datestamp is in seconds from 1970 on, in the years 0000 to 9999;
     /// there is at least one record, and each is in one of the formats. The item keeps the sets that decide its
-    /// membership, as in `live`. The error is out of memory.
+    /// membership, as in `live`, and an element as the text of a field without a name. The error is out of memory.
     pub fn deposited(
         alloc: Global,
         formats: &Formats,
@@ -27,9 +28,9 @@ impl Item {
     ) -> Result<Item, AllocError>
         requires stamped { IsStamp stamp }
         requires carries { records.now ≢ [] }
-        requires known { list_all (has_format formats.now) records.now ≡ true }
+        requires known { list_all (has_format formats.now) (map kept records.now) ≡ true }
         ensures { IfOk result
-            (λ item. item ≡ live_item identifier.now stamp (reduced sets.now) records.now) }
+            (λ item. item ≡ live_item identifier.now stamp (reduced sets.now) (map kept records.now)) }
     {
         Item::with_prefixed(
             alloc,

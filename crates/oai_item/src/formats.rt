@@ -44,7 +44,7 @@ pub struct Format {
     pub namespace: Text,
     /// The name of the element that holds the fields.
     pub root: Text,
-    /// The names of the fields that a record may have.
+    /// The names of the fields that a record may have; none, if its records are elements.
     pub fields: Sequence<Text>,
 }
 
@@ -73,8 +73,8 @@ pub enum FormatFault {
     /// The name of a field occurs twice.
     #[error("a field stands twice")]
     FieldTwice,
-    /// There are 64 formats already, including oai_dc; or the format has no field, or more than 256.
-    #[error("too many formats, too many fields, or no field")]
+    /// There are 64 formats already, including oai_dc; or the format has more than 256 fields.
+    #[error("too many formats, or too many fields")]
     TooMany,
     /// Out of memory: the format could not be stored, or not be tested.
     #[error("out of memory")]

@@ -1,7 +1,9 @@
 //! Iterators over the records of an item and their fields, in memory or encoded.
 
 ghost use Rattle.std.specs.Prelude.{◌≡◌, ◌==◌, true, [], ◌∷◌, length, IfSome, MatchOption};
+ghost use Rattle.std.specs.Option.{option_copied};
 ghost use Rattle.oai_names.specs.Names.{may_be_prefix};
+ghost use Rattle.oai_item.specs.Elements.{element_in, nameless_text};
 
 use crate::fields::Field;
 use crate::walks::{FieldTexts, SpelledFields, SpelledRecords};
@@ -75,6 +77,27 @@ impl<'a> Fields<'a> {
         self.len() == 0
     }
 
+    /// A copy of the iterator at its current position.
+    pub(crate) fn copy(&self) -> Fields<'a>
+        ensures { result ≡ self.now }
+    {
+        match &self.left {
+            FieldsLeft::Typed(fields) => Fields::typed(fields),
+            FieldsLeft::Spelled(fields) => Fields::spelled(fields.copy()),
+        }
+    }
+
+    /// The element that the fields keep, if they keep one: the text of the one field, which has no name.
+    pub fn element(&self) -> Option<&'a str>
+        ensures { option_copied result ≡ element_in self.now }
+    {
+        if self.len() != 1 {
+            return None;
+        }
+        let mut fields = self.copy();
+        nameless_text(fields.next()?)
+    }
+
     /// Takes the next field, if there is one.
     pub fn next(&mut self) -> Option<FieldTexts<'a>>
         ensures { MatchOption result (self.old ≡ [])
@@ -92,6 +115,17 @@ impl<'a> Fields<'a> {
             }
             FieldsLeft::Spelled(fields) => fields.next(),
         }
+    }
+}
+
+/// The text of the field, if it has no name.
+fn nameless_text<'a>(field: FieldTexts<'a>) -> Option<&'a str>
+    ensures { option_copied result ≡ nameless_text (record { name = field.entry.name.now; text = field.entry.text.now }) }
+{
+    if field.name.is_empty() {
+        Some(field.text)
+    } else {
+        None
     }
 }
 

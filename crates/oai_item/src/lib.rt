@@ -1,21 +1,25 @@
 //! Items, their records, and metadata formats; what deposits request; what list requests select.
 #![tactic(auto)]
 
-mod changes;
 mod copies;
 mod covering;
 mod decodings;
 mod deleted_record;
 mod deposits;
+mod elements;
 mod encodings;
 mod faults;
 mod fields;
 mod formats;
+mod forms;
 mod fronts;
+mod given_records;
+mod givens;
 mod held_records;
 mod in_place;
 mod item_records;
 mod items;
+mod keys;
 mod memory_records;
 mod order;
 mod records;
@@ -27,15 +31,19 @@ mod sizes;
 mod untested;
 mod walks;
 
-pub use changes::Change;
 pub use decodings::DecodeFault;
 pub use deleted_record::DeletedRecord;
+pub use elements::{is_element_of, is_root_of};
 pub use faults::Fault;
 pub use fields::Field;
 pub use formats::{Format, FormatFault, Formats};
+pub use forms::Forms;
+pub use given_records::{GivenRecord, GivenRecords};
+pub use givens::Given;
 pub use in_place::{Spelling, is_spelling, spelling_law};
 pub use item_records::{Fields, ItemRecord, ItemRecords};
 pub use items::{Item, encoding_law, is_in, set_law};
+pub use keys::ItemKey;
 pub use order::{items_after, order_law, place_of};
 pub use records::Records;
 pub use refusals::{ChangeRefusal, LineRefusal, Refusal};

@@ -1,42 +1,70 @@
-ghost use Rattle.std.specs.Prelude.{◌≡◌, true};
+ghost use Rattle.std.specs.Prelude.{◌≡◌, true, map};
+ghost use Rattle.oai_item.specs.Givens.{AreNoted, all_given, kept, listed_record};
 ghost use Rattle.oai_item.specs.Item.{are_rising};
 
 use crate::fields::Field;
+use crate::given_records::GivenRecords;
 use oai_names::{Sequence, Text};
+use oai_xml::Root;
+use std::alloc::Global;
 use std::marker::Model;
 
-/// The records of a deposit: under each metadataPrefix its fields. The prefixes are in strictly rising byte order, so
-/// they are distinct.
+/// The records of a deposit: under each metadataPrefix its fields, or its element. The prefixes are in strictly rising
+/// byte order, so they are distinct. An element is held as an item keeps it, as the text of one field without a name, and
+/// beside it its root.
 #[derive(Debug, Drop)]
 pub struct Records {
     records: Sequence<(Text, Sequence<Field>)>,
+    roots: Sequence<Option<Root>>,
 }
 
 impl Model for Records {
-    ghost use Rattle.std.specs.Prelude.{◌≡◌, true, List};
-    ghost use Rattle.oai_item.specs.Item.{Metadata, are_rising};
+    ghost use Rattle.std.specs.Prelude.{List};
+    ghost use Rattle.oai_item.specs.Givens.{AreRecords, GivenRecord, all_given};
 
-    ghost Value = { List Metadata };
+    ghost Value = { List GivenRecord };
 
-    ghost view = { λ r. r.records };
+    ghost view = { λ r. all_given r.records r.roots };
 
-    ghost invariant = { λ r. are_rising r.records ≡ true };
+    ghost invariant = { λ r. AreRecords r.records r.roots };
 }
 
 impl Records {
-    /// Records with prefixes in rising order. Allocates nothing.
-    pub fn new(records: Sequence<(Text, Sequence<Field>)>) -> Records
+    /// Records that are lists of fields, with prefixes in rising order. Allocates nothing.
+    #[tactic(auto, using(crate::proofs::GivenLemmas::all_listed, crate::proofs::GivenLemmas::none_noted))]
+    pub fn listed(alloc: Global, records: Sequence<(Text, Sequence<Field>)>) -> Records
         requires { are_rising records ≡ true }
-        ensures { result ≡ records }
+        ensures { result ≡ map listed_record records }
     {
-        Records { records }
+        Records {
+            records,
+            roots: Sequence::new(Vec::new(alloc)),
+        }
     }
 
-    /// The records, in the order of their prefixes.
+    /// Records as an item keeps them, with prefixes in rising order, and of each of the first ones the root of its element
+    /// if it is one, in canonical text. Allocates nothing.
+    pub fn new(records: Sequence<(Text, Sequence<Field>)>, roots: Sequence<Option<Root>>) -> Records
+        requires rising { are_rising records ≡ true }
+        requires noted { AreNoted records roots }
+        ensures { result ≡ all_given records roots }
+    {
+        Records { records, roots }
+    }
+
+    /// The records as an item keeps them, in the order of their prefixes.
+    #[tactic(auto, using(crate::proofs::GivenLemmas::kept_again, crate::proofs::GivenLemmas::rising_kept))]
     pub fn as_slice(&self) -> &[(Text, Sequence<Field>)]
-        ensures records { result.now ≡ self.now }
-        ensures rising { are_rising self.now ≡ true }
+        ensures records { result.now ≡ map kept self.now }
+        ensures rising { are_rising (map kept self.now) ≡ true }
     {
         self.records.as_slice()
+    }
+
+    /// Iterates over the records as they are given, in the order of their prefixes.
+    pub fn walk(&self) -> GivenRecords<'_>
+        ensures { result ≡ self.now }
+    {
+        GivenRecords::new(self.records.as_slice(), self.roots.as_slice())
     }
 }

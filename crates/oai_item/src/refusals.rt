@@ -1,5 +1,5 @@
-ghost use Rattle.std.specs.Prelude.{◌≡◌, ◌≤◌, length};
-ghost use Rattle.oai_item.specs.Refusals.{in_line, in_repository, refusal_line};
+ghost use Rattle.std.specs.Prelude.{◌≡◌, ◌≤◌, length, IfSome};
+ghost use Rattle.oai_item.specs.Refusals.{byte_of, cause_text, in_line, in_repository, refusal_line};
 ghost use Rattle.oai_item.specs.declared.faults.Fault.TheVariants as fault;
 ghost use Rattle.oai_item.specs.declared.refusals.Refusal.TheVariants as refusal;
 
@@ -16,6 +16,9 @@ pub enum LineRefusal {
     /// The line is JSON, but has none of the shapes of a command. Number 2.
     #[error("the line is no command")]
     BadCommand,
+    /// The text of a record is no XML element, as is found at that byte of it, counted from 0. Number 20.
+    #[error("the text of a record is no XML element, as is found at its byte {0}")]
+    BadXml(usize),
     /// The identifier has invalid syntax, or is too long. Number 3.
     #[error("the identifier is of illegal syntax or too long")]
     BadIdentifier,
@@ -29,17 +32,34 @@ pub enum LineRefusal {
 }
 
 impl LineRefusal {
-    /// The line that reports it, such as `refused 1 bad-json`, without a line end.
+    /// The line that reports it, such as `refused 1 bad-json`, without a line end, and up to the number of a byte if it
+    /// ends with one (`byte`).
     pub fn answer(self) -> &'static str
-        ensures line { result.now ≡ refusal_line (in_line self) }
+        ensures line { result.now ≡ cause_text (in_line self) }
         ensures short { length result.now ≤ 31 }
+        ensures numbered { IfSome (byte_of (in_line self)) (λ at. length result.now ≤ 19) }
     {
         match self {
             LineRefusal::BadJson => "refused 1 bad-json",
             LineRefusal::BadCommand => "refused 2 bad-command",
+            LineRefusal::BadXml(_) => "refused 20 bad-xml ",
             LineRefusal::BadIdentifier => "refused 3 bad-identifier",
             LineRefusal::BadSetSpec => "refused 4 bad-set-spec",
             LineRefusal::BadText => "refused 5 bad-text",
+        }
+    }
+
+    /// The number of the byte with which the line ends that reports it, if it ends with one.
+    pub fn byte(self) -> Option<usize>
+        ensures { result ≡ byte_of (in_line self) }
+    {
+        match self {
+            LineRefusal::BadXml(at) => Some(at),
+            LineRefusal::BadJson => None,
+            LineRefusal::BadCommand => None,
+            LineRefusal::BadIdentifier => None,
+            LineRefusal::BadSetSpec => None,
+            LineRefusal::BadText => None,
         }
     }
 }
@@ -60,6 +80,10 @@ pub enum ChangeRefusal {
     /// A record has a field that its format does not have. Number 9.
     #[error("the format does not have the field")]
     UnknownField,
+    /// The root of an element is not in its format's namespace, or has not the local part of the name of the format's
+    /// root; or a record is a list of fields, and its format has none. Number 21.
+    #[error("the record is not one of its format")]
+    NotOfFormat,
     /// The item has, or had when it was deleted, a format in which the deposit has no record. Number 10.
     #[error("the item has a format of which there is no record")]
     DropsFormat,
@@ -103,6 +127,7 @@ impl ChangeRefusal {
             ChangeRefusal::UnknownFormat => "refused 7 unknown-format",
             ChangeRefusal::NoDc => "refused 8 no-dc",
             ChangeRefusal::UnknownField => "refused 9 unknown-field",
+            ChangeRefusal::NotOfFormat => "refused 21 not-of-format",
             ChangeRefusal::DropsFormat => "refused 10 drops-format",
             ChangeRefusal::TooLarge => "refused 11 too-large",
             ChangeRefusal::TooManyItems => "refused 12 too-many-items",

@@ -111,6 +111,16 @@ impl<'a> SpelledFields<'a> {
         self.left
     }
 
+    /// A copy of the iterator at its current position.
+    pub fn copy(&self) -> SpelledFields<'a>
+        ensures { result ≡ self.now }
+    {
+        SpelledFields {
+            left: self.left,
+            rest: self.rest,
+        }
+    }
+
     /// Whether no field remains.
     pub fn is_empty(&self) -> bool
         ensures { result ≡ (length self.now == 0) }

@@ -5,7 +5,7 @@ ghost use Rattle.oai_journal.specs.declared.frames.TheConstants.{FRONT_ROOM};
 
 use crate::groups::{FURTHER_GATE, OPEN_GATE};
 use crate::journals::JournalFault;
-use crate::readings::{read_frame, read_gate};
+use crate::readings::{FramePlace, read_frame, read_gate};
 use sqlite_disk::Disk;
 
 /// How much is known about whether bytes continue the chain.
@@ -65,7 +65,12 @@ fn take_turn<D: Disk>(
     ensures crash { (c : List ℕ) → D.Disk.may_leave disk.new c → D.Disk.may_leave disk.old c }
     ensures clean { IsTrue (D.Disk.is_clean disk.new) → IsTrue (D.Disk.is_clean disk.old) }
 {
-    let Some(last) = read_frame(disk, len, at, false, digest, frame, out)? else {
+    let place = FramePlace {
+        at,
+        first: false,
+        before: digest,
+    };
+    let Some(last) = read_frame(disk, len, place, frame, out)? else {
         return Ok(ChainProgress::Done(false));
     };
     let gate = at + frame.len();
@@ -99,7 +104,12 @@ fn begins_with_frame<D: Disk>(
     ensures crash { (c : List ℕ) → D.Disk.may_leave disk.new c → D.Disk.may_leave disk.old c }
     ensures clean { IsTrue (D.Disk.is_clean disk.new) → IsTrue (D.Disk.is_clean disk.old) }
 {
-    match read_frame(disk, len, at, false, digest, frame, out)? {
+    let place = FramePlace {
+        at,
+        first: false,
+        before: digest,
+    };
+    match read_frame(disk, len, place, frame, out)? {
         Some(_) => Ok(true),
         None => Ok(false),
     }

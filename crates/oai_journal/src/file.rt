@@ -126,6 +126,11 @@ impl<D: Disk + Drop> FileJournal<D> {
         self.disk
     }
 
+    /// The length in bytes of what counts of the file, once all records are durable.
+    pub fn len(&self) -> usize {
+        self.end.saturating_add(self.pending.len())
+    }
+
     /// A journal on that disk that ends at `end`, whose last frame has that digest.
     pub(crate) fn at_end(alloc: Global, disk: D, end: usize, digest: u64) -> FileJournal<D>
         ensures { IsAtEnd result disk end digest }

@@ -10,6 +10,17 @@ use crate::journals::JournalFault;
 use crate::records::LogRecord;
 use sqlite_disk::Disk;
 
+/// Where a frame is looked for.
+#[derive(Clone, Copy)]
+pub(crate) struct FramePlace {
+    /// Its position.
+    pub(crate) at: usize,
+    /// Whether it is that of the first record of a journal.
+    pub(crate) first: bool,
+    /// The digest of the frame before it; 0 if there is none.
+    pub(crate) before: u64,
+}
+
 /// Reads the commit byte at that position; None if the file ends there.
 pub(crate) fn read_gate<D: Disk>(
     disk: &mut D,
@@ -31,33 +42,30 @@ pub(crate) fn read_gate<D: Disk>(
     Ok(Some(frame[0]))
 }
 
-/// Reads the frame at that position after the digest `before`, of the first record of a journal or of another one;
-/// returns its digest, or None if there is none. Its bytes are then in `frame`. `out` needs capacity for what precedes
-/// a record's bytes. Of a frame that is cut short, whose head is malformed or whose length is too great, only the head
-/// is read.
+/// Reads the frame at that place; returns its digest, or None if there is none. Its bytes are then in `frame`. `out`
+/// needs capacity for what precedes a record's bytes. Of a frame that is cut short, whose head is malformed or whose
+/// length is too great, only the head is read.
 pub(crate) fn read_frame<D: Disk>(
     disk: &mut D,
     len: usize,
-    at: usize,
-    first: bool,
-    before: u64,
+    place: FramePlace,
     frame: &mut Vec<u8>,
     out: &mut Vec<u8>,
 ) -> Result<Option<u64>, JournalFault>
     requires room { FRONT_ROOM ≤ vec_capacity out.old }
     ensures found { IfOk result (λ found. IsTrue (D.Disk.is_clean disk.new) → len ≡ length (D.Disk.seen disk.old)
-        → FindsFrame first before (drop at (D.Disk.seen disk.old)) frame.new.items found) }
-    ensures within { IfOk result (λ found. IfSome found (λ digest. at + length frame.new.items ≤ len)) }
+        → FindsFrame place.first place.before (drop place.at (D.Disk.seen disk.old)) frame.new.items found) }
+    ensures within { IfOk result (λ found. IfSome found (λ digest. place.at + length frame.new.items ≤ len)) }
     ensures room { vec_capacity out.old ≤ vec_capacity out.new }
     ensures seen { D.Disk.seen disk.new ≡ D.Disk.seen disk.old }
     ensures crash { (c : List ℕ) → D.Disk.may_leave disk.new c → D.Disk.may_leave disk.old c }
     ensures clean { IsTrue (D.Disk.is_clean disk.new) → IsTrue (D.Disk.is_clean disk.old) }
 {
-    match read_len(disk, len, at, frame, out)? {
+    match read_len(disk, len, place.at, frame, out)? {
         None => Ok(None),
         Some(size) => {
-            read_bytes(disk, at, size, frame)?;
-            Ok(check_frame(first, before, frame, out))
+            read_bytes(disk, place.at, size, frame)?;
+            Ok(check_frame(place.first, place.before, frame, out))
         }
     }
 }

@@ -12,7 +12,7 @@ use crate::file::FileJournal;
 use crate::frames::{FRONT_ROOM, record_in};
 use crate::groups::{OPEN_GATE, is_open};
 use crate::journals::JournalFault;
-use crate::readings::{open_len, read_frame, read_gate};
+use crate::readings::{FramePlace, open_len, read_frame, read_gate};
 use crate::records::LogRecord;
 use sqlite_disk::{Crash, Disk};
 use std::alloc::Global;
@@ -200,7 +200,12 @@ fn read_first<D: Disk>(
     match read_gate(disk, len, 0, frame)? {
         Some(gate) if gate == OPEN_GATE => {
             let mut out = Vec::with_capacity(alloc, FRONT_ROOM)?;
-            read_frame(disk, len, 1, true, 0, frame, &mut out)
+            let place = FramePlace {
+                at: 1,
+                first: true,
+                before: 0,
+            };
+            read_frame(disk, len, place, frame, &mut out)
         }
         _ => Ok(None),
     }
@@ -253,7 +258,12 @@ fn read_step<D: Disk>(
         let on = goes_on(disk, len, at + 1, digest, frame, &mut out)?;
         return Ok(closed_step(on));
     }
-    match read_frame(disk, len, at + 1, false, digest, frame, &mut out)? {
+    let place = FramePlace {
+        at: at + 1,
+        first: false,
+        before: digest,
+    };
+    match read_frame(disk, len, place, frame, &mut out)? {
         Some(digest) => Ok(Step::Frame(digest)),
         None => Ok(Step::Damage),
     }

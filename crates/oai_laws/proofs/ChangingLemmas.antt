@@ -1,5 +1,5 @@
 -- What a change makes of what is held, where nothing refuses it; and that nothing is made of it where something does.
-use Rattle.std.proofs.Common.{◌≡◌, ◌≢◌, ◌∙◌, ◌↔◌, ◌⊎◌, inl, inr, ℕ, ℤ, ◌≤ℤ◌, Bool, true, false, not, ◌&&◌, cond, List, Option, None, Some, is_none, refl, sym, ap, subst, arith}
+use Rattle.std.proofs.Common.{◌≡◌, ◌≢◌, ◌∙◌, ◌↔◌, ◌⊎◌, inl, inr, ℕ, ℤ, ◌≤ℤ◌, Bool, true, false, not, ◌&&◌, cond, List, map, Option, None, Some, is_none, refl, sym, ap, subst, arith}
 use Rattle.std.specs.Prelude.{filter, int_lt, option_and_then}
 use Rattle.std.specs.List.{Contains}
 use Rattle.std.specs.Str.{bytes_eq}
@@ -10,12 +10,13 @@ use Rattle.oai_time.specs.Bound.{IsBound, bound_of, is_no_finer_than, lower_of}
 use Rattle.oai_time.specs.declared.bound.Bound.{Bound}
 use Rattle.oai_time.specs.declared.granularity.Granularity.{Granularity}
 use Rattle.oai_time.proofs.ReadingLemmas.{bound_of_is}
+use Rattle.oai_item.specs.Givens.{kept}
 use Rattle.oai_item.specs.Item.{ItemState, live_item, tombstone_of}
 use Rattle.oai_item.specs.Items.{item_named, without}
 use Rattle.oai_item.specs.Membership.{reduced}
 use Rattle.oai_item.specs.Refusals.{Cause}
-use Rattle.oai_item.specs.declared.changes.Change.{Change}
-use Rattle.oai_item.specs.declared.changes.Change.TheVariants as change
+use Rattle.oai_deposit.specs.declared.changes.Change.{Change}
+use Rattle.oai_deposit.specs.declared.changes.Change.TheVariants as change
 use Rattle.oai_item.specs.declared.refusals.ChangeRefusal.{ChangeRefusal}
 use Rattle.oai_item.specs.declared.refusals.ChangeRefusal.TheVariants.{AlreadyDeleted, BadDate, NotTransient}
 use Rattle.oai_item.proofs.Members.{Member-filter, contains_from, member_from}
@@ -25,13 +26,14 @@ use Rattle.oai_item.specs.declared.deleted_record.DeletedRecord.{DeletedRecord}
 use Rattle.oai_item.specs.declared.deleted_record.DeletedRecord.TheVariants.{No, Transient, Persistent}
 use Rattle.oai_settings.specs.Config.{RepositoryConfig}
 use Rattle.oai_repo.specs.Answers.{arguments_of_request}
-use Rattle.oai_holdings.specs.Changes.{after_deletion, after_purge, changed, dead_refusal, is_transient, limit_in, limit_of, missing_refusal, purge_refusal, purged, refusal_of, stamp_at, with_new, with_tombstone}
+use Rattle.oai_holdings.specs.Changes.{after_deletion, after_purge, changed, dead_refusal, is_held_so, is_transient, limit_in, limit_of, missing_refusal, purge_refusal, purged, refusal_of, stamp_at, told_stamp, with_new, with_put, with_tombstone}
 use Rattle.oai_repo.specs.Listing.{Response, request_response, with_answer, retry_after}
 use Rattle.oai_repo.specs.Machine.{Command, accepted, act, act_on_change, requesting, changing, outcome_of, refused_with, rejecting}
 use Rattle.oai_holdings.specs.Holdings.{Holdings}
 use Rattle.oai_repo.specs.State.{RepoState}
-use Rattle.oai_laws.specs.Changing.{DoesChange, IsDeleted, IsPurged, IsReplaced, Makes, left_over}
+use Rattle.oai_laws.specs.Changing.{DoesChange, IsDeleted, IsFound, IsPurged, IsReplaced, Makes, left_over}
 use Rattle.oai_holdings.proofs.KeptLemmas.{no_cause}
+use Rattle.oai_holdings.proofs.PutLemmas.{same_held}
 use Rattle.oai_laws.proofs.EffectLemmas.{not_not, of_transient, passed, was_live}
 
 -- what is held, with other items
@@ -55,6 +57,26 @@ put_replaced item holdings = record {
       ∙ cond-false (bytes_eq item.identifier other) (Some item) (item_named other holdings.items) (other_bytes item.identifier other apart);
   same_sets = refl;
 }
+
+-- or is found there
+put_makes : (item : ItemState) (holdings : Holdings) → item.live ≡ true
+    → IsFound item holdings (with_items holdings (with_put item holdings.items)) ⊎ IsReplaced item.identifier (Some item) holdings (with_items holdings (with_put item holdings.items))
+put_makes item holdings live = by_test (is_held_so item (item_named item.identifier holdings.items)) refl
+  where
+    found : (o : Option ItemState) → item_named item.identifier holdings.items ≡ o → is_held_so item o ≡ true → IsFound item holdings holdings
+    found None is so = cc
+    found (Some held) is so = record {
+      held = held;
+      there = is;
+      same = same_held item held live (found_name item.identifier holdings.items held is) so;
+      unchanged = refl;
+    }
+
+    by_test : (b : Bool) → is_held_so item (item_named item.identifier holdings.items) ≡ b
+        → IsFound item holdings (with_items holdings (cond b holdings.items (with_new item holdings.items)))
+        ⊎ IsReplaced item.identifier (Some item) holdings (with_items holdings (cond b holdings.items (with_new item holdings.items)))
+    by_test true is = inl (found (item_named item.identifier holdings.items) refl is)
+    by_test false is = inr (put_replaced item holdings)
 
 -- the item of an identifier is taken out
 out_replaced : (identifier : List ℕ) (holdings : Holdings) → IsReplaced identifier None holdings (with_items holdings (without identifier holdings.items))
@@ -153,7 +175,8 @@ purge_makes config text holdings none =
 
 makes : (config : RepositoryConfig) (stamp : ℤ) (asked : Change) (holdings : Holdings) → refusal_of config stamp holdings asked ≡ None → Makes config stamp asked holdings (changed config stamp holdings asked)
 unfolding refusal_of changed
-makes config stamp (change.Deposit identifier sets records) holdings none = put_replaced (live_item identifier stamp (reduced sets) records) holdings
+makes config stamp (change.Deposit identifier sets records) holdings none = put_replaced (live_item identifier stamp (reduced sets) (map kept records)) holdings
+makes config stamp (change.Put identifier sets records) holdings none = put_makes (live_item identifier stamp (reduced sets) (map kept records)) holdings refl
 makes config stamp (change.Delete identifier) holdings none =
     let found : Option ItemState = item_named identifier holdings.items in
     let causes = no_cause (missing_refusal found) (dead_refusal found) none in
@@ -168,8 +191,9 @@ accepted_by : (config : RepositoryConfig) (state : RepoState) (asked : Change) (
 accepted_by config state asked (Some cause) told is h = cc
 accepted_by config state asked None told is h =
     let stamp : ℤ = stamp_at config state.clock in
-    let same : stamp ≡ told = cc in
-    subst (λ (t : ℤ). DoesChange config asked state (record state { holdings = changed config stamp state.holdings asked }) t) same
+    let new : Holdings = changed config stamp state.holdings asked in
+    let same : told_stamp stamp asked new.items ≡ told = cc in
+    subst (λ (t : ℤ). DoesChange config asked state (record state { holdings = new }) t) same
     (record { dated = refl; made = makes config stamp asked state.holdings is })
 
 pub accepted_is : (config : RepositoryConfig) (state : RepoState) (asked : Change) (told : ℤ)

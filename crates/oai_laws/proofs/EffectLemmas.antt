@@ -14,12 +14,13 @@ use Rattle.oai_lists.specs.Tokens.{token_of}
 use Rattle.oai_names.specs.Sets.{has_set}
 use Rattle.oai_item.specs.Known.{has_format, has_known_fields}
 use Rattle.oai_item.specs.Formats.{format_named}
+use Rattle.oai_item.specs.Givens.{GivenRecord, kept as as_kept}
 use Rattle.oai_item.specs.Item.{ItemState, Metadata, emptied, has_record, live_item, record_named, tombstone_of}
 use Rattle.oai_item.specs.Items.{item_named, without}
 use Rattle.oai_item.specs.Membership.{reduced}
 use Rattle.oai_item.specs.Selection.{Filter, passes, selected}
-use Rattle.oai_item.specs.declared.changes.Change.{Change}
-use Rattle.oai_item.specs.declared.changes.Change.TheVariants as change
+use Rattle.oai_deposit.specs.declared.changes.Change.{Change}
+use Rattle.oai_deposit.specs.declared.changes.Change.TheVariants as change
 use Rattle.oai_item.specs.declared.formats.Format.{Format}
 use Rattle.oai_item.specs.declared.refusals.ChangeRefusal.{ChangeRefusal}
 use Rattle.oai_item.specs.declared.refusals.ChangeRefusal.TheVariants.{AlreadyDeleted, NotTransient, BadDate}
@@ -31,7 +32,7 @@ use Rattle.oai_args.specs.declared.requests.Ask.TheVariants as ask
 use Rattle.oai_item.specs.declared.deleted_record.DeletedRecord.{DeletedRecord}
 use Rattle.oai_item.specs.declared.deleted_record.DeletedRecord.TheVariants.{No, Transient, Persistent}
 use Rattle.oai_repo.specs.Answers.{filter_of}
-use Rattle.oai_holdings.specs.Changes.{after_deletion, after_purge, changed, dead_refusal, deposit_refusal, drops_format, is_one_too_many, is_transient, item_refusal, limit_of, missing_refusal, purge_refusal, purged, refusal_of, stamp_at, with_new, with_tombstone}
+use Rattle.oai_holdings.specs.Changes.{after_deletion, after_purge, changed, dead_refusal, deposit_refusal, drops_format, is_held_so, is_one_too_many, is_transient, item_refusal, limit_of, missing_refusal, purge_refusal, purged, refusal_of, stamp_at, with_new, with_tombstone}
 use Rattle.oai_settings.specs.Config.{RepositoryConfig}
 use Rattle.oai_laws.specs.Effects.{Effect, is_formed, is_frozen_of_format, has_known_records, is_live, IsEffected, IsLeftOver, IsPossible, IsPut, IsSound, effected, goes_below, holding, is_given, item_put, item_taken, items_purged, list_opened, list_carried_on, set_added, unchanged}
 use Rattle.oai_holdings.specs.Kept.{AreKept, is_too_large, is_well_kept}
@@ -381,13 +382,13 @@ deleted_by config state identifier No is dead kept = record { effect = item_take
 deleted_by config state identifier Transient is dead kept = buried_by config state identifier (item_named identifier state.holdings.items) (λ none. keeps_transient (sym is ∙ none)) refl dead kept
 deleted_by config state identifier Persistent is dead kept = buried_by config state identifier (item_named identifier state.holdings.items) (λ none. keeps_persistent (sym is ∙ none)) refl dead kept
 
-deposited_by : (config : RepositoryConfig) (state : RepoState) (identifier : List ℕ) (sets : List (List ℕ)) (records : List Metadata)
+deposited_by : (config : RepositoryConfig) (state : RepoState) (identifier : List ℕ) (sets : List (List ℕ)) (records : List GivenRecord)
     → deposit_refusal config state.holdings.sets sets records ≡ None
-    → item_refusal config (item_named identifier state.holdings.items) (length state.holdings.items) (live_item identifier (stamp_at config state.clock) (reduced sets) records) ≡ None
-    → IsPut config state (live_item identifier (stamp_at config state.clock) (reduced sets) records)
+    → item_refusal config (item_named identifier state.holdings.items) (length state.holdings.items) (live_item identifier (stamp_at config state.clock) (reduced sets) (map as_kept records)) ≡ None
+    → IsPut config state (live_item identifier (stamp_at config state.clock) (reduced sets) (map as_kept records))
 deposited_by config state identifier sets records first later =
     let stamp : ℤ = stamp_at config state.clock in
-    let fit = fits config (item_named identifier state.holdings.items) (length state.holdings.items) (live_item identifier stamp (reduced sets) records) later in
+    let fit = fits config (item_named identifier state.holdings.items) (length state.holdings.items) (live_item identifier stamp (reduced sets) (map as_kept records)) later in
     record {
       dated = refl;
       well = well-deposited config state.holdings identifier stamp sets records (stands config state.holdings.sets sets records first) fit;
@@ -423,9 +424,19 @@ changed_by : (config : RepositoryConfig) (state : RepoState) (asked : Change) �
     → IsChangedBy config state (changed config (stamp_at config state.clock) state.holdings asked)
 unfolding refusal_of changed
 changed_by config state (change.Deposit identifier sets records) none kept =
-    let item : ItemState = live_item identifier (stamp_at config state.clock) (reduced sets) records in
+    let item : ItemState = live_item identifier (stamp_at config state.clock) (reduced sets) (map as_kept records) in
     let causes = no_cause (deposit_refusal config state.holdings.sets sets records) (item_refusal config (item_named identifier state.holdings.items) (length state.holdings.items) item) none in
     record { effect = item_put item; possible = deposited_by config state identifier sets records causes.0 causes.1; done = refl }
+changed_by config state (change.Put identifier sets records) none kept = by_test (is_held_so item (item_named identifier state.holdings.items))
+  where
+    item : ItemState
+    item = live_item identifier (stamp_at config state.clock) (reduced sets) (map as_kept records)
+
+    by_test : (b : Bool) → IsChangedBy config state (record state.holdings { items = cond b state.holdings.items (with_new item state.holdings.items) })
+    by_test true = record { effect = unchanged; possible = tt; done = refl }
+    by_test false =
+        let causes = no_cause (deposit_refusal config state.holdings.sets sets records) (item_refusal config (item_named identifier state.holdings.items) (length state.holdings.items) item) none in
+        record { effect = item_put item; possible = deposited_by config state identifier sets records causes.0 causes.1; done = refl }
 changed_by config state (change.Delete identifier) none kept =
     let found : Option ItemState = item_named identifier state.holdings.items in
     deleted_by config state identifier config.deleted refl (no_cause (missing_refusal found) (dead_refusal found) none).1 kept

@@ -15,7 +15,7 @@ use Rattle.oai_item.specs.Items.{item_named}
 use Rattle.oai_item.specs.Selection.{selected}
 use Rattle.oai_item.specs.declared.formats.Format.{Format}
 use Rattle.oai_item.specs.declared.refusals.ChangeRefusal.{ChangeRefusal}
-use Rattle.oai_item.specs.declared.changes.Change.{Change}
+use Rattle.oai_deposit.specs.declared.changes.Change.{Change}
 use Rattle.oai_lists.specs.Tokens.{is_full_stop, token_numbers, token_of, token_text}
 use Rattle.oai_lists.specs.declared.lists.TheConstants.{LAST_NUMBER}
 use Rattle.oai_lists.specs.declared.tokens.Token.{Token}

@@ -32,7 +32,7 @@ use Rattle.oai_holdings.specs.Changes.{refusal_of, stamp_at}
 use Rattle.oai_laws.specs.Shown.{IsRegularOutcome}
 use Rattle.oai_holdings.specs.Holdings.{NamedSet}
 use Rattle.oai_repo.specs.State.{FrozenList, OpenLists, RepoState}
-use Rattle.oai_item.specs.declared.changes.Change.{Change}
+use Rattle.oai_deposit.specs.declared.changes.Change.{Change}
 use Rattle.oai_item.specs.declared.refusals.ChangeRefusal.{ChangeRefusal}
 use Rattle.oai_laws.proofs.EffectLemmas.{named, kept_formed, selected_formed}
 use Rattle.oai_laws.proofs.FollowLemmas.{part_items}

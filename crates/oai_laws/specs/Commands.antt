@@ -1,7 +1,7 @@
 -- What commands do to a state, and what holds of every state, as the fields of a law. This repository's own.
 use Rattle.std.specs.Prelude.{◌≡◌, ℕ, ℤ, true, List, Some}
 use Rattle.oai_names.specs.declared.list_verbs.ListVerb.{ListVerb}
-use Rattle.oai_item.specs.declared.changes.Change.{Change}
+use Rattle.oai_deposit.specs.declared.changes.Change.{Change}
 use Rattle.oai_args.specs.Asks.{AskOrError}
 use Rattle.oai_answers.specs.Answers.{fails}
 use Rattle.oai_answers.specs.declared.errors.ErrorCode.TheVariants.{BadResumptionToken}

@@ -5,7 +5,9 @@ use Rattle.oai_names.specs.declared.list_verbs.ListVerb.TheVariants as list
 use Rattle.oai_time.specs.declared.granularity.Granularity.TheVariants.{Second}
 use Rattle.oai_item.specs.Formats.{dublin_core}
 use Rattle.oai_item.specs.Item.{ItemState}
-use Rattle.oai_item.specs.declared.changes.Change.TheVariants as change
+use Rattle.oai_deposit.specs.declared.changes.Change.TheVariants as change
+use Rattle.oai_item.specs.declared.forms.Forms.TheVariants.{Elements}
+use Rattle.oai_item.specs.declared.givens.Given.TheVariants.{Listed}
 use Rattle.oai_answers.specs.Answers.{Page}
 use Rattle.oai_item.specs.declared.deleted_record.DeletedRecord.TheVariants.{Persistent}
 use Rattle.oai_settings.specs.Config.{RepositoryConfig}
@@ -28,6 +30,7 @@ worked_config = record {
   lists = 1;
   items = 1_000;
   formats = dublin_core ∷ [];
+  forms = Elements;
 }
 
 -- that many seconds after 2024-01-01T00:00:00Z
@@ -36,7 +39,7 @@ after seconds command = record { moment = pos (1_704_067_200 + seconds); command
 
 -- an item with an empty record in Dublin Core
 abbrev pub deposit : List ℕ → Command
-deposit identifier = changing (change.Deposit identifier [] ((codes "oai_dc", []) ∷ []))
+deposit identifier = changing (change.Deposit identifier [] ((codes "oai_dc", Listed []) ∷ []))
 
 abbrev pub delete : List ℕ → Command
 delete identifier = changing (change.Delete identifier)

@@ -5,7 +5,7 @@ ghost use Rattle.std.specs.Prelude.{◌≡◌, ◌≢◌, ◌≤◌, ℕ, ℤ, L
 ghost use Rattle.std.specs.List.{list_all};
 ghost use Rattle.oai_names.specs.declared.list_verbs.ListVerb.{ListVerb};
 ghost use Rattle.oai_item.specs.Refusals.{Cause};
-ghost use Rattle.oai_item.specs.declared.changes.Change.{Change};
+ghost use Rattle.oai_deposit.specs.declared.changes.Change.{Change};
 ghost use Rattle.oai_answers.specs.Answers.{Document, Page};
 ghost use Rattle.oai_answers.specs.Documents.{document};
 ghost use Rattle.oai_answers.specs.Seen.{document_seen};
@@ -44,10 +44,11 @@ pub fn effect_law()
 {}
 
 /// An accepted change does what it asks for, and nothing else (OAI-PMH 2.0, sections 2.3 to 2.6). It is answered with
-/// the datestamp of the clock. With that datestamp a deposit puts a live item with the given parts in place of the item
-/// with its identifier, if there is one; a deletion removes a live item, or puts its tombstone in its place, by the
-/// policy on deleted records; a purge removes exactly the deleted items with earlier datestamps than its bound; and a
-/// set is added. Nothing else is changed; a refused line changes nothing. A theorem, proved by an empty function.
+/// the datestamp of the clock, and a put with that of its item. With the datestamp of the clock a deposit puts a live item
+/// with the given parts in place of the item with its identifier, if there is one; a put does so too, or finds that item
+/// but for its datestamp; a deletion removes a live item, or puts its tombstone in its place, by the policy on deleted
+/// records; a purge removes exactly the deleted items with earlier datestamps than its bound; and a set is added. Nothing
+/// else is changed; a refused line changes nothing. A theorem, proved by an empty function.
 pub fn change_law()
     ensures accepted { (config : RepositoryConfig) (state : RepoState) (change : Change) (stamp : ℤ)
         → (let done = act config state (changing change) in

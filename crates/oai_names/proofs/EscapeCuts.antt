@@ -63,10 +63,14 @@ byte_read Attribute b rest = attribute_read b rest
 byte_cut : (place : Place) → Cuts anything any (spelling place) (λ b. b)
 byte_cut place = read_back first_spelled (λ b rest _ _. byte_read place b rest)
 
+-- a byte of the text of an element
+pub text_byte_cut : Cuts anything any text_spelling (λ b. b)
+text_byte_cut = byte_cut Element
+
 -- ---- a text, as it is escaped
 
 -- no text of an element begins with `<`
-text_goes_on : (b : ℕ) (rest : List ℕ) → at 60 (text_spelling b ++ rest) ≡ false
+pub text_goes_on : (b : ℕ) (rest : List ℕ) → at 60 (text_spelling b ++ rest) ≡ false
 text_goes_on b rest = by_tests (eqb b 38) (eqb b 60) (eqb b 62) (eqb b 13) refl
   where
     by_tests : (a l g r : Bool) → eqb b 60 ≡ l → at 60 (cond a (codes "&amp;") (cond l (codes "&lt;") (cond g (codes "&gt;") (cond r (codes "&#13;") (b ∷ [])))) ++ rest) ≡ false

@@ -13,11 +13,12 @@ ghost use Rattle.oai_places.specs.Places.{have_records, named_in};
 ghost use Rattle.oai_places.specs.Recounts.{AddsNumbers, Recounts};
 ghost use Rattle.oai_places.specs.Sums.{AreGroups};
 
+use crate::directories::DirectoryLeaves;
 use crate::exchanges::{exchange, reserve};
 use oai_device::PAGE_BYTES;
 use oai_item::Fault;
 use oai_names::{Prefix, Sequence};
-use oai_places::{Cuts, Entries, Groups, SharedPlace, drop_all, drop_numbers, fault_of};
+use oai_places::{Cuts, Entries, SharedPlace, Statistics, drop_all, drop_numbers, fault_of};
 use oai_pool::{PageKind, PageNo, PagePool};
 use oai_sums::SetNames;
 use std::alloc::{AllocError, Global};
@@ -38,94 +39,110 @@ pub(crate) struct Changed {
     pub(crate) gone: Vec<SharedPlace>,
 }
 
-/// Adds pages of the entries, split at these cuts, and swaps their leaves in for `len` leaves from `at` on, at most
-/// three: at most three pages and the overflow pages of one item, and at most one if the entries fit on one. Any fault
-/// but `Damaged` may come; directory and pages are then unchanged.
-pub(crate) fn change<P: PagePool>(
-    alloc: Global,
-    pages: &mut P,
-    names: &mut SetNames,
-    places: &mut Vec<SharedPlace>,
-    groups: &mut Groups,
-    at: usize,
-    len: usize,
-    entries: &Entries,
-    cuts: Cuts,
-) -> Result<Changed, Fault>
-    requires within { IsRunWithin at len (vec_len places.old) }
-    requires stands { StandsIn P.PagePool pages.old places.old.items }
-    requires cuts { AreCuts entries.now cuts.first cuts.second }
-    requires may_stand { MayStand (P.pages pages.old) places.old.items at len entries.now }
-    ensures ok { IfOk result (λ changed. IsDirectoryChanged P.PagePool entries.now at len changed.at changed.len changed.gone.items
-        places.old.items places.new.items pages.old pages.new) }
-    ensures back { IfOk result (λ changed. HasWayBack changed.at changed.len
-        (vec_len places.new) (vec_capacity places.new) (vec_len changed.gone) (vec_capacity changed.gone)) }
-    ensures capacity { vec_capacity places.old ≤ vec_capacity places.new }
-    ensures err { OnErr result (ChangesNothing P.PagePool places.old.items places.new.items pages.old pages.new) }
-    ensures pool { AddsPages P.PagePool entries.now result pages.old pages.new }
-    ensures groups { AreGroups places.old.items groups.old → AreGroups places.new.items groups.new }
-{
-    let mut others = add_all(alloc, pages, names, entries, cuts, places.get(at))?;
-    match reserve(places, &mut others) {
-        Ok(()) => {
-            let count = others.len();
-            exchange(places, at, len, &mut others);
-            groups.exchange(at, len, count);
-            Ok(Changed {
-                at,
-                len: count,
-                gone: others,
-            })
+/// Consecutive leaves of a directory: `len` from `at` on.
+#[derive(Clone, Copy)]
+pub(crate) struct LeafRun {
+    pub(crate) at: usize,
+    pub(crate) len: usize,
+}
+
+/// Entries, and where they are split, to be put on pages.
+#[derive(Clone, Copy)]
+pub(crate) struct CutEntries<'a> {
+    pub(crate) entries: &'a Entries,
+    pub(crate) cuts: Cuts,
+}
+
+/// Entries from one position up to another one.
+#[derive(Clone, Copy)]
+struct EntryRange<'a> {
+    entries: &'a Entries,
+    from: usize,
+    to: usize,
+}
+
+impl DirectoryLeaves {
+    /// Adds pages of the new entries, and swaps their leaves in for those of the run, at most three: at most three
+    /// pages and the overflow pages of one item, and at most one if the entries fit on one. Any fault but `Damaged` may
+    /// come; directory and pages are then unchanged.
+    pub(crate) fn change<P: PagePool>(
+        &mut self,
+        alloc: Global,
+        pages: &mut P,
+        names: &mut SetNames,
+        run: LeafRun,
+        cut: CutEntries<'_>,
+    ) -> Result<Changed, Fault>
+        requires within { IsRunWithin run.at run.len (vec_len self.old.places) }
+        requires stands { StandsIn P.PagePool pages.old self.old.places.items }
+        requires cuts { AreCuts cut.entries.now cut.cuts.first cut.cuts.second }
+        requires may_stand { MayStand (P.pages pages.old) self.old.places.items run.at run.len cut.entries.now }
+        ensures ok { IfOk result (λ changed. IsDirectoryChanged P.PagePool cut.entry.entries.now run.at run.len changed.at changed.len changed.gone.items
+            self.old.places.items self.new.places.items pages.old pages.new) }
+        ensures back { IfOk result (λ changed. HasWayBack changed.at changed.len
+            (vec_len self.new.places) (vec_capacity self.new.places) (vec_len changed.gone) (vec_capacity changed.gone)) }
+        ensures capacity { vec_capacity self.old.places ≤ vec_capacity self.new.places }
+        ensures err { OnErr result (ChangesNothing P.PagePool self.old.places.items self.new.places.items pages.old pages.new) }
+        ensures pool { AddsPages P.PagePool cut.entry.entries.now result pages.old pages.new }
+        ensures groups { AreGroups self.old.places.items self.old.groups → AreGroups self.new.places.items self.new.groups }
+    {
+        let LeafRun { at, len } = run;
+        let mut others = add_all(alloc, pages, names, cut, self.places.get(at))?;
+        match reserve(&mut self.places, &mut others) {
+            Ok(()) => {
+                let count = others.len();
+                exchange(&mut self.places, at, len, &mut others);
+                self.groups.exchange(at, len, count);
+                Ok(Changed {
+                    at,
+                    len: count,
+                    gone: others,
+                })
+            }
+            Err(_) => {
+                drop_all(pages, others);
+                Err(Fault::NoMemory)
+            }
         }
-        Err(_) => {
-            drop_all(pages, others);
-            Err(Fault::NoMemory)
-        }
+    }
+
+    /// Undoes a change: the replaced leaves are back, the new ones are gone, and the references of their pages are
+    /// dropped. It allocates nothing and cannot fail.
+    pub(crate) fn undo<P: PagePool>(&mut self, pages: &mut P, changed: Changed)
+        requires back { HasWayBack changed.at changed.len
+            (vec_len self.old.places) (vec_capacity self.old.places) (vec_len changed.gone) (vec_capacity changed.gone) }
+        requires named { (n : ℕ) → named_in (take changed.len (drop changed.at self.old.places.items)) n ≤ count_of (P.counts pages.old) n }
+        ensures places { self.new.places.items ≡ take changed.at self.old.places.items
+            ++ (changed.gone.items ++ drop (changed.at + changed.len) self.old.places.items) }
+        ensures names { Renames P.PagePool (take changed.len (drop changed.at self.old.places.items)) [] pages.old pages.new }
+        ensures pool { Spares P.room P.failures P.honest pages.old pages.new }
+        ensures groups { AreGroups self.old.places.items self.old.groups → AreGroups self.new.places.items self.new.groups }
+    {
+        let mut others = changed.gone;
+        let count = others.len();
+        exchange(&mut self.places, changed.at, changed.len, &mut others);
+        self.groups.exchange(changed.at, changed.len, count);
+        drop_all(pages, others);
     }
 }
 
-/// Undoes a change: the replaced leaves are back, the new ones are gone, and the references of their pages are dropped.
-/// It allocates nothing and cannot fail.
-pub(crate) fn undo<P: PagePool>(
-    pages: &mut P,
-    places: &mut Vec<SharedPlace>,
-    groups: &mut Groups,
-    changed: Changed,
-)
-    requires back { HasWayBack changed.at changed.len
-        (vec_len places.old) (vec_capacity places.old) (vec_len changed.gone) (vec_capacity changed.gone) }
-    requires named { (n : ℕ) → named_in (take changed.len (drop changed.at places.old.items)) n ≤ count_of (P.counts pages.old) n }
-    ensures places { places.new.items ≡ take changed.at places.old.items
-        ++ (changed.gone.items ++ drop (changed.at + changed.len) places.old.items) }
-    ensures names { Renames P.PagePool (take changed.len (drop changed.at places.old.items)) [] pages.old pages.new }
-    ensures pool { Spares P.room P.failures P.honest pages.old pages.new }
-    ensures groups { AreGroups places.old.items groups.old → AreGroups places.new.items groups.new }
-{
-    let mut others = changed.gone;
-    let count = others.len();
-    exchange(places, changed.at, changed.len, &mut others);
-    groups.exchange(changed.at, changed.len, count);
-    drop_all(pages, others);
-}
-
-/// Adds the pages of the entries, split at these cuts, and returns their leaves. Any fault but `Damaged` may come; the
-/// pages are then unchanged.
+/// Adds the pages of the entries, split as they are cut, and returns their leaves. Any fault but `Damaged` may come;
+/// the pages are then unchanged.
 fn add_all<P: PagePool>(
     alloc: Global,
     pages: &mut P,
     names: &mut SetNames,
-    entries: &Entries,
-    cuts: Cuts,
+    cut: CutEntries<'_>,
     near: Option<&SharedPlace>,
 ) -> Result<Vec<SharedPlace>, Fault>
-    requires cuts { AreCuts entries.now cuts.first cuts.second }
-    requires rising { are_in_order entries.now ≡ true }
-    ensures added { IfOk result (λ added. Adds P.PagePool entries.now added.items pages.old pages.new) }
+    requires cuts { AreCuts cut.entries.now cut.cuts.first cut.cuts.second }
+    requires rising { are_in_order cut.entries.now ≡ true }
+    ensures added { IfOk result (λ added. Adds P.PagePool cut.entry.entries.now added.items pages.old pages.new) }
     ensures undone { OnErr result (Renames P.PagePool [] [] pages.old pages.new) }
-    ensures pool { AddsPages P.PagePool entries.now result pages.old pages.new }
+    ensures pool { AddsPages P.PagePool cut.entry.entries.now result pages.old pages.new }
 {
     let mut added = Vec::with_capacity(alloc, MAX_PARTS)?;
-    match add_parts(alloc, pages, names, entries, cuts, near, &mut added) {
+    match add_parts(alloc, pages, names, cut, near, &mut added) {
         Ok(()) => Ok(added),
         Err(fault) => {
             drop_all(pages, added);
@@ -134,38 +151,44 @@ fn add_all<P: PagePool>(
     }
 }
 
-/// Adds the pages of the entries, split at these cuts, and appends their leaves to the others. Any fault but `Damaged`
-/// may come; some of the pages are then added.
+/// Adds the pages of the entries, split as they are cut, and appends their leaves to the others. Any fault but
+/// `Damaged` may come; some of the pages are then added.
 fn add_parts<P: PagePool>(
     alloc: Global,
     pages: &mut P,
     names: &mut SetNames,
-    entries: &Entries,
-    cuts: Cuts,
+    cut: CutEntries<'_>,
     near: Option<&SharedPlace>,
     added: &mut Vec<SharedPlace>,
 ) -> Result<(), Fault>
     requires none { added.old.items ≡ [] }
     requires room { vec_len added.old + 3 ≤ vec_capacity added.old }
-    requires cuts { AreCuts entries.now cuts.first cuts.second }
-    requires rising { are_in_order entries.now ≡ true }
-    ensures ok { OnOk result (Adds P.PagePool entries.now added.new.items pages.old pages.new) }
+    requires cuts { AreCuts cut.entries.now cut.cuts.first cut.cuts.second }
+    requires rising { are_in_order cut.entries.now ≡ true }
+    ensures ok { OnOk result (Adds P.PagePool cut.entry.entries.now added.new.items pages.old pages.new) }
     ensures some { OnErr result ((items : List ItemState) × Adds P.PagePool items added.new.items pages.old pages.new) }
-    ensures pool { AddsPages P.PagePool entries.now result pages.old pages.new }
+    ensures pool { AddsPages P.PagePool cut.entry.entries.now result pages.old pages.new }
 {
+    let CutEntries { entries, cuts } = cut;
     let len = entries.len();
-    add_part(alloc, pages, names, entries, 0, cuts.first, near, added)?;
-    add_part(
-        alloc,
-        pages,
-        names,
+    let first = EntryRange {
         entries,
-        cuts.first,
-        cuts.second,
-        near,
-        added,
-    )?;
-    add_part(alloc, pages, names, entries, cuts.second, len, near, added)
+        from: 0,
+        to: cuts.first,
+    };
+    add_part(alloc, pages, names, first, near, added)?;
+    let second = EntryRange {
+        entries,
+        from: cuts.first,
+        to: cuts.second,
+    };
+    add_part(alloc, pages, names, second, near, added)?;
+    let third = EntryRange {
+        entries,
+        from: cuts.second,
+        to: len,
+    };
+    add_part(alloc, pages, names, third, near, added)
 }
 
 /// Adds the pages of the entries in the range, if there are any, and appends their leaf to the others. Any fault but
@@ -174,30 +197,29 @@ fn add_part<P: PagePool>(
     alloc: Global,
     pages: &mut P,
     names: &mut SetNames,
-    entries: &Entries,
-    from: usize,
-    to: usize,
+    range: EntryRange<'_>,
     near: Option<&SharedPlace>,
     added: &mut Vec<SharedPlace>,
 ) -> Result<(), Fault>
-    requires order { from ≤ to }
-    requires within { to ≤ length entries.now }
-    requires alone { FitAlone (between from to entries.now) }
-    requires rising { are_in_order entries.now ≡ true }
+    requires order { range.from ≤ range.to }
+    requires within { range.to ≤ length range.entries.now }
+    requires alone { FitAlone (between range.from range.to range.entries.now) }
+    requires rising { are_in_order range.entries.now ≡ true }
     requires room { vec_len added.old < vec_capacity added.old }
     ensures ok { (items : List ItemState) (first : P) → Adds P.PagePool items added.old.items first pages.old
-        → OnOk result (Adds P.PagePool (items ++ between from to entries.now) added.new.items first pages.new) }
+        → OnOk result (Adds P.PagePool (items ++ between range.entry.from range.entry.to range.entry.entries.now) added.new.items first pages.new) }
     ensures err { (items : List ItemState) (first : P) → Adds P.PagePool items added.old.items first pages.old
         → OnErr result (Adds P.PagePool items added.new.items first pages.new) }
     ensures left { vec_capacity added.old + vec_len added.new ≤ vec_capacity added.new + vec_len added.old + 1 }
-    ensures none { from ≡ to → Spends P.room P.failures P.honest 0 result pages.old pages.new }
-    ensures pool { Spends P.room P.failures P.honest (1 + overflow_of (between from to entries.now)) result pages.old pages.new }
+    ensures none { range.entry.from ≡ range.entry.to → Spends P.room P.failures P.honest 0 result pages.old pages.new }
+    ensures pool { Spends P.room P.failures P.honest (1 + overflow_of (between range.entry.from range.entry.to range.entry.entries.now)) result pages.old pages.new }
 {
+    let EntryRange { entries, from, to } = range;
     if from == to {
         return Ok(());
     }
     let _all = entries.len();
-    let place = add_page(alloc, pages, names, entries, from, to, near)?;
+    let place = add_page(alloc, pages, names, range, near)?;
     added.push(place).unwrap();
     Ok(())
 }
@@ -208,36 +230,34 @@ fn add_page<P: PagePool>(
     alloc: Global,
     pages: &mut P,
     names: &mut SetNames,
-    entries: &Entries,
-    from: usize,
-    to: usize,
+    range: EntryRange<'_>,
     near: Option<&SharedPlace>,
 ) -> Result<SharedPlace, Fault>
-    requires order { from < to }
-    requires within { to ≤ length entries.now }
-    requires alone { FitAlone (between from to entries.now) }
-    requires rising { are_in_order entries.now ≡ true }
-    ensures added { IfOk result (λ place. Adds P.PagePool (between from to entries.now) (place ∷ []) pages.old pages.new) }
+    requires order { range.from < range.to }
+    requires within { range.to ≤ length range.entries.now }
+    requires alone { FitAlone (between range.from range.to range.entries.now) }
+    requires rising { are_in_order range.entries.now ≡ true }
+    ensures added { IfOk result (λ place. Adds P.PagePool (between range.entry.from range.entry.to range.entry.entries.now) (place ∷ []) pages.old pages.new) }
     ensures undone { OnErr result (Renames P.PagePool [] [] pages.old pages.new) }
-    ensures pool { Spends P.room P.failures P.honest (1 + overflow_of (between from to entries.now)) result pages.old pages.new }
+    ensures pool { Spends P.room P.failures P.honest (1 + overflow_of (between range.entry.from range.entry.to range.entry.entries.now)) result pages.old pages.new }
 {
+    let EntryRange { entries, from, to } = range;
     let _all = entries.len();
     let stamp = entries.stamp(from);
     let identifier = entries.identifier(alloc, from)?;
-    let prefixes = prefixes_near(alloc, entries, from, to, near)?;
+    let prefixes = prefixes_near(alloc, range, near)?;
     let sets = entries.set_counts(alloc, names, from, to);
     let size = entries.size_between(from, to);
-    let numbers = add_numbers(alloc, pages, entries, from, to)?;
-    match SharedPlace::new(
-        alloc,
-        numbers.as_slice(),
+    let numbers = add_numbers(alloc, pages, range)?;
+    let statistics = Statistics {
         stamp,
         identifier,
-        to - from,
+        len: to - from,
         size,
         prefixes,
         sets,
-    ) {
+    };
+    match SharedPlace::new(alloc, numbers.as_slice(), statistics) {
         Ok(place) => Ok(place),
         Err(_) => {
             drop_numbers(pages, numbers.as_slice());
@@ -250,15 +270,14 @@ fn add_page<P: PagePool>(
 /// other, they are that leaf's list, shared without allocation. The error is out of memory.
 fn prefixes_near(
     alloc: Global,
-    entries: &Entries,
-    from: usize,
-    to: usize,
+    range: EntryRange<'_>,
     near: Option<&SharedPlace>,
 ) -> Result<Rc<Sequence<Prefix>>, AllocError>
-    requires some { from < to }
-    requires within { to ≤ length entries.now }
-    ensures { IfOk result (λ prefixes. have_records prefixes.value (between from to entries.now) ≡ true) }
+    requires some { range.from < range.to }
+    requires within { range.to ≤ length range.entries.now }
+    ensures { IfOk result (λ prefixes. have_records prefixes.value (between range.entry.from range.entry.to range.entry.entries.now) ≡ true) }
 {
+    let EntryRange { entries, from, to } = range;
     if let Some(place) = near {
         let known = place.prefixes();
         if entries.records(from) <= known.as_slice().len()
@@ -275,17 +294,16 @@ fn prefixes_near(
 fn add_numbers<P: PagePool>(
     alloc: Global,
     pages: &mut P,
-    entries: &Entries,
-    from: usize,
-    to: usize,
+    range: EntryRange<'_>,
 ) -> Result<Vec<PageNo>, Fault>
-    requires order { from < to }
-    requires within { to ≤ length entries.now }
-    requires alone { FitAlone (between from to entries.now) }
-    ensures added { IfOk result (λ numbers. AddsNumbers P.PagePool (pages_of (between from to entries.now)) numbers.items pages.old pages.new) }
+    requires order { range.from < range.to }
+    requires within { range.to ≤ length range.entries.now }
+    requires alone { FitAlone (between range.from range.to range.entries.now) }
+    ensures added { IfOk result (λ numbers. AddsNumbers P.PagePool (pages_of (between range.entry.from range.entry.to range.entry.entries.now)) numbers.items pages.old pages.new) }
     ensures undone { OnErr result (Recounts P.PagePool [] [] pages.old pages.new) }
-    ensures pool { Spends P.room P.failures P.honest (1 + overflow_of (between from to entries.now)) result pages.old pages.new }
+    ensures pool { Spends P.room P.failures P.honest (1 + overflow_of (between range.entry.from range.entry.to range.entry.entries.now)) result pages.old pages.new }
 {
+    let EntryRange { entries, from, to } = range;
     let _all = entries.len();
     let overflow = entries.overflow(from, to);
     let kind = kind_for(overflow);

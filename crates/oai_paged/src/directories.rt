@@ -8,21 +8,26 @@ ghost use Rattle.oai_places.specs.Recounts.{HasFull};
 ghost use Rattle.oai_places.specs.Sums.{AreGroups};
 
 use oai_item::Fault;
-use oai_places::{Groups, SharedPlace, share_all};
+use oai_places::{Groups, LeafList, SharedPlace, share_all};
 use oai_pool::PagePool;
 use std::alloc::Global;
 use std::marker::Model;
+
+/// The leaves of a directory, in the order of their items, and the statistics of consecutive ones.
+#[derive(Drop)]
+pub(crate) struct DirectoryLeaves {
+    pub(crate) places: Vec<SharedPlace>,
+    pub(crate) groups: Groups,
+}
 
 /// A page directory: the leaves of the items of the versions that refer to it, in the order of the items. A leaf is a
 /// page of items, and what is known of them without reading it.
 #[derive(Drop)]
 pub(crate) struct Directory {
-    pub(crate) places: Vec<SharedPlace>,
-    /// Statistics of consecutive leaves.
-    pub(crate) groups: Groups,
+    pub(crate) leaves: DirectoryLeaves,
     /// How many versions refer to it.
     pub(crate) versions: usize,
-    ghost sound: { AreGroups places.items groups } by { Prim.hlevel group_props },
+    ghost sound: { AreGroups leaves.places.items leaves.groups } by { Prim.hlevel group_props },
 }
 
 impl Model for Directory {
@@ -30,7 +35,7 @@ impl Model for Directory {
 
     ghost Value = { DirectoryState };
 
-    ghost view = { λ d. record { places = d.places.items; versions = d.versions } };
+    ghost view = { λ d. record { places = d.leaves.places.items; versions = d.versions } };
 }
 
 impl Directory {
@@ -39,8 +44,10 @@ impl Directory {
         ensures { result ≡ record { places = []; versions = 1 } }
     {
         Directory {
-            places: Vec::new(alloc),
-            groups: Groups::new(alloc),
+            leaves: DirectoryLeaves {
+                places: Vec::new(alloc),
+                groups: Groups::new(alloc),
+            },
             versions: 1,
         }
     }
@@ -57,35 +64,33 @@ impl Directory {
         ensures fault { IfErr result (λ cause. IsShareFault (HasFull P.PagePool (page_numbers self.now.places) pages.old) cause) }
         ensures pool { Spares P.room P.failures P.honest pages.old pages.new }
     {
-        let groups = self.groups.copy(alloc);
-        match share_all(alloc, pages, self.places.as_slice()) {
+        let groups = self.leaves.groups.copy(alloc);
+        match share_all(alloc, pages, self.leaves.places.as_slice()) {
             Ok(places) => Ok(Directory {
-                places,
-                groups,
+                leaves: DirectoryLeaves { places, groups },
                 versions: 1,
             }),
             Err(fault) => Err(fault),
         }
     }
 
-    /// The leaves.
-    pub(crate) fn places(&self) -> &[SharedPlace]
-        ensures { result.now ≡ self.now.places }
+    /// The leaves and their groups, to be read.
+    pub(crate) fn as_list(&self) -> LeafList<'_>
+        ensures places { result.places.now ≡ self.now.places }
+        ensures groups { AreGroups self.now.places result.groups.now }
     {
-        self.places.as_slice()
-    }
-
-    /// The groups of its leaves.
-    pub(crate) fn groups(&self) -> &Groups
-        ensures { AreGroups self.now.places result.now }
-    {
-        &self.groups
+        LeafList {
+            places: self.leaves.places.as_slice(),
+            groups: &self.leaves.groups,
+        }
     }
 
     /// Rebuilds the missing statistics of the groups of its leaves, as far as memory is available.
     pub(crate) fn tend(&mut self, alloc: Global)
         ensures { self.new ≡ self.old }
     {
-        self.groups.tend(alloc, self.places.as_slice());
+        self.leaves
+            .groups
+            .tend(alloc, self.leaves.places.as_slice());
     }
 }

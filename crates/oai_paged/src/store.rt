@@ -12,12 +12,12 @@ ghost use Rattle.oai_paged.specs.Shelves.{AreShelved, StandsOnPages, calls_left,
 ghost use Rattle.oai_paged.specs.Versions.{AreShared, places_in, places_of, shelf_at};
 
 use crate::directories::Directory;
-use crate::put_and_remove::{put, remove, replace};
 use oai_catalogue::{Filter, Versions};
 use oai_device::PageDevice;
-use oai_item::{Fault, Item};
+use oai_figures::{Exposition, Figures};
+use oai_item::{Fault, Item, ItemKey};
 use oai_names::{Identifier, Sequence};
-use oai_places::{count, drop_all, find, part, part_after};
+use oai_places::drop_all;
 use oai_pool::{PagePool, Pool};
 use oai_sums::SetNames;
 use slab::Slab;
@@ -80,14 +80,9 @@ impl<P: PagePool + Drop> Versions for VersionsOver<P> {
         let Some(directory) = self.directories.get_mut(number) else {
             unreachable!()
         };
-        put(
-            self.alloc,
-            &mut self.pool,
-            &mut self.names,
-            &mut directory.places,
-            &mut directory.groups,
-            item,
-        )
+        directory
+            .leaves
+            .put(self.alloc, &mut self.pool, &mut self.names, item)
     }
 
     fn remove(&mut self, v: u64, stamp: i64, identifier: &Identifier) -> Result<bool, Fault> {
@@ -95,16 +90,11 @@ impl<P: PagePool + Drop> Versions for VersionsOver<P> {
         let Some(directory) = self.directories.get_mut(number) else {
             unreachable!()
         };
-        let places = &mut directory.places;
-        remove(
-            self.alloc,
-            &mut self.pool,
-            &mut self.names,
-            places,
-            &mut directory.groups,
-            stamp,
-            identifier.as_str(),
-        )
+        let identifier = identifier.as_str();
+        let key = ItemKey { stamp, identifier };
+        directory
+            .leaves
+            .remove(self.alloc, &mut self.pool, &mut self.names, key)
     }
 
     fn replace(
@@ -118,17 +108,11 @@ impl<P: PagePool + Drop> Versions for VersionsOver<P> {
         let Some(directory) = self.directories.get_mut(number) else {
             unreachable!()
         };
-        let places = &mut directory.places;
-        replace(
-            self.alloc,
-            &mut self.pool,
-            &mut self.names,
-            places,
-            &mut directory.groups,
-            stamp,
-            identifier.as_str(),
-            item,
-        )
+        let identifier = identifier.as_str();
+        let key = ItemKey { stamp, identifier };
+        directory
+            .leaves
+            .replace(self.alloc, &mut self.pool, &mut self.names, key, item)
     }
 
     fn find(&mut self, v: u64, stamp: i64, identifier: &str) -> Result<Option<Item>, Fault> {
@@ -136,13 +120,8 @@ impl<P: PagePool + Drop> Versions for VersionsOver<P> {
         let Some(directory) = self.directories.get(number) else {
             unreachable!()
         };
-        find(
-            self.alloc,
-            &mut self.pool,
-            directory.places(),
-            stamp,
-            identifier,
-        )
+        let key = ItemKey { stamp, identifier };
+        directory.as_list().find(self.alloc, &mut self.pool, key)
     }
 
     fn count(&mut self, v: u64, filter: &Filter) -> Result<usize, Fault> {
@@ -151,13 +130,9 @@ impl<P: PagePool + Drop> Versions for VersionsOver<P> {
             unreachable!()
         };
         directory.tend(self.alloc);
-        count(
-            self.alloc,
-            &mut self.pool,
-            directory.places(),
-            directory.groups(),
-            filter,
-        )
+        directory
+            .as_list()
+            .count(self.alloc, &mut self.pool, filter)
     }
 
     fn part(
@@ -172,15 +147,9 @@ impl<P: PagePool + Drop> Versions for VersionsOver<P> {
             unreachable!()
         };
         directory.tend(self.alloc);
-        part(
-            self.alloc,
-            &mut self.pool,
-            directory.places(),
-            directory.groups(),
-            filter,
-            skip,
-            most,
-        )
+        directory
+            .as_list()
+            .part(self.alloc, &mut self.pool, filter, skip, most)
     }
 
     fn part_after(
@@ -195,18 +164,11 @@ impl<P: PagePool + Drop> Versions for VersionsOver<P> {
         let Some(directory) = self.directories.get(number) else {
             unreachable!()
         };
-        let places = directory.places();
         let identifier = identifier.as_str();
-        part_after(
-            self.alloc,
-            &mut self.pool,
-            places,
-            directory.groups(),
-            filter,
-            stamp,
-            identifier,
-            most,
-        )
+        let key = ItemKey { stamp, identifier };
+        directory
+            .as_list()
+            .part_after(self.alloc, &mut self.pool, filter, key, most)
     }
 
     fn release(&mut self, v: u64) {
@@ -220,7 +182,7 @@ impl<P: PagePool + Drop> Versions for VersionsOver<P> {
             return;
         }
         let directory = self.directories.remove(number);
-        drop_all(&mut self.pool, directory.places);
+        drop_all(&mut self.pool, directory.leaves.places);
     }
 
     ghost rising = { λ s. named_in_order (P.counts s.pool) (P.pages s.pool) s.directories.slots s.shelved s.versions.slots };
@@ -319,5 +281,11 @@ impl<P: PagePool + Drop> VersionsOver<P> {
             *named = own;
         }
         Ok(own)
+    }
+}
+
+impl<P: PagePool + Figures + Drop> Figures for VersionsOver<P> {
+    fn report(&self, page: &mut Exposition) {
+        self.pool.report(page);
     }
 }

@@ -19,7 +19,7 @@ use crate::entry_bytes::{
 };
 use crate::sizes::{FRONT_BYTES, FULL_BYTES, MAX_ENTRY_BYTES, MAX_WHOLE_BYTES, NUMBER_BYTES};
 use oai_device::PAGE_BYTES;
-use oai_item::{DecodeFault, Item, Spelling};
+use oai_item::{DecodeFault, Item, ItemKey, Spelling};
 use oai_names::{Identifier, Prefix, Sequence};
 use oai_pool::Page;
 use oai_sums::{PackedCounts, SetCounts, SetNames, Span};
@@ -135,25 +135,24 @@ impl Entries {
         self.bytes.len()
     }
 
-    /// Compares the item at that position with this datestamp, in seconds from 1970 on, and identifier.
-    pub(crate) fn order_to(&self, at: usize, stamp: i64, identifier: &str) -> Ordering
+    /// Compares the item at that position with the key.
+    pub(crate) fn order_to(&self, at: usize, key: ItemKey<'_>) -> Ordering
         requires { at < length self.now }
-        ensures { HoldsAt (λ item. result ≡ place_cmp item stamp identifier.now) self.now at }
+        ensures { HoldsAt (λ item. result ≡ place_cmp item key.entry.stamp key.entry.identifier.now) self.now at }
     {
-        self.spelled(at).order_to(stamp, identifier)
+        self.spelled(at).order_to(key.stamp, key.identifier)
     }
 
-    /// Binary search for this datestamp, in seconds from 1970 on, and identifier among the items: the position of the
-    /// item that has them, or where it would be inserted.
-    pub(crate) fn place_of(&self, stamp: i64, identifier: &str) -> Result<usize, usize>
+    /// Binary search for the key among the items: the position of the item that has it, or where it would be inserted.
+    pub(crate) fn position_of(&self, key: ItemKey<'_>) -> Result<usize, usize>
         requires { are_in_order self.now ≡ true }
-        ensures { IsPlace self.now stamp identifier.now result }
+        ensures { IsPlace self.now key.entry.stamp key.entry.identifier.now result }
     {
         let mut low = 0;
         let mut high = self.len();
         while low < high {
             let middle = low + (high - low) / 2;
-            match self.order_to(middle, stamp, identifier) {
+            match self.order_to(middle, key) {
                 Ordering::Less => low = middle + 1,
                 Ordering::Equal => return Ok(middle),
                 Ordering::Greater => high = middle,
@@ -162,20 +161,20 @@ impl Entries {
         Err(low)
     }
 
-    /// Whether the first item has this datestamp, in seconds from 1970 on, and identifier.
-    pub(crate) fn begins_at(&self, stamp: i64, identifier: &str) -> bool
-        ensures { result ≡ begins_at stamp identifier.now self.now }
+    /// Whether the first item has this key.
+    pub(crate) fn begins_at(&self, key: ItemKey<'_>) -> bool
+        ensures { result ≡ begins_at key.entry.stamp key.entry.identifier.now self.now }
     {
-        self.len() > 0 && self.order_to(0, stamp, identifier) == Ordering::Equal
+        self.len() > 0 && self.order_to(0, key) == Ordering::Equal
     }
 
-    /// Whether all items, which are in their order, precede this datestamp, in seconds from 1970 on, and identifier.
-    pub fn are_before(&self, stamp: i64, identifier: &str) -> bool
+    /// Whether all items, which are in their order, precede the key.
+    pub fn are_before(&self, key: ItemKey<'_>) -> bool
         requires { are_in_order self.now ≡ true }
-        ensures { result ≡ list_all (λ item. is_lt (place_cmp item stamp identifier.now)) self.now }
+        ensures { result ≡ list_all (λ item. is_lt (place_cmp item key.entry.stamp key.entry.identifier.now)) self.now }
     {
         let len = self.len();
-        len == 0 || self.order_to(len - 1, stamp, identifier) == Ordering::Less
+        len == 0 || self.order_to(len - 1, key) == Ordering::Less
     }
 
     /// The decoded item at that position. The error is out of memory.
@@ -202,26 +201,20 @@ impl Entries {
         ensures with { IfOk result (λ put. put.0 ≡ with_item item.now self.now) }
         ensures cuts { IfOk result (λ put. AreCuts put.0 put.1.first put.1.second) }
     {
-        match self.place_of(item.stamp(), item.identifier().as_str()) {
+        match self.position_of(item.key()) {
             Ok(at) => self.put_at(alloc, at, 1, item, fills),
             Err(at) => self.put_at(alloc, at, 0, item, fills),
         }
     }
 
-    /// The items without that with this datestamp, in seconds from 1970 on, and identifier, or None if no item has
-    /// these. The error is out of memory.
-    pub fn remove(
-        &self,
-        alloc: Global,
-        stamp: i64,
-        identifier: &str,
-    ) -> Result<Option<Entries>, AllocError>
+    /// The items without the one with this key, or None if no item has it. The error is out of memory.
+    pub fn remove(&self, alloc: Global, key: ItemKey<'_>) -> Result<Option<Entries>, AllocError>
         requires { are_in_order self.now ≡ true }
-        ensures removal { IfOk result (λ entries. IsRemoval stamp identifier.now self.now entries) }
+        ensures removal { IfOk result (λ entries. IsRemoval key.entry.stamp key.entry.identifier.now self.now entries) }
         ensures one_page { IfOk result
             (λ entries. IfSome entries (λ left. IsTrue (fit_one self.now) → IsTrue (fit_one left))) }
     {
-        match self.place_of(stamp, identifier) {
+        match self.position_of(key) {
             Ok(at) => Ok(Some(self.without(alloc, at)?)),
             Err(_) => Ok(None),
         }

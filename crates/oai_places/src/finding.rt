@@ -10,28 +10,26 @@ ghost use Rattle.oai_places.specs.Pages.{IsPage, begins_at, entry_of};
 
 use crate::entry_bytes::first_number;
 use crate::sizes::NUMBER_BYTES;
-use oai_item::{DecodeFault, Item, order_of_spelling};
+use oai_item::{DecodeFault, Item, ItemKey, order_of_spelling};
 use std::alloc::Global;
 use std::cmp::Ordering;
 
-/// The item with that datestamp, in seconds from 1970 on, and identifier on the page, or None. The entries before it
-/// are skipped by their lengths, and it alone is decoded. The errors: `Damaged` only if the bytes are not a page of
-/// items; `NoMemory`.
+/// The item with that key on the page, or None. The entries before it are skipped by their lengths, and it alone is
+/// decoded. The errors: `Damaged` only if the bytes are not a page of items; `NoMemory`.
 pub(crate) fn find_on_page(
     alloc: Global,
     page: &[u8],
-    stamp: i64,
-    identifier: &str,
+    key: ItemKey<'_>,
 ) -> Result<Option<Item>, DecodeFault>
     requires { 4 ≤ length page.now }
-    ensures { (items : List ItemState) → IsPage page.now items → IsFinding stamp identifier.now items result }
+    ensures { (items : List ItemState) → IsPage page.now items → IsFinding key.entry.stamp key.entry.identifier.now items result }
 {
     let mut rest = &page[NUMBER_BYTES..];
     'entries: for _ in 0..first_number(page) {
         let Some((spelling, behind)) = first_entry(rest) else {
             return Err(DecodeFault::Damaged);
         };
-        match order_of_spelling(spelling, stamp, identifier) {
+        match order_of_spelling(spelling, key.stamp, key.identifier) {
             Some(Ordering::Less) => {}
             Some(Ordering::Equal) => return found(alloc, spelling),
             Some(Ordering::Greater) => return Ok(None),
@@ -50,23 +48,22 @@ pub(crate) fn has_items(page: &[u8], len: usize) -> bool
     first_number(page) == len
 }
 
-/// Whether the first item of the page has this datestamp, in seconds from 1970 on, and identifier.
-pub(crate) fn begins_on_page(page: &[u8], stamp: i64, identifier: &str) -> bool
+/// Whether the first item of the page has this key.
+pub(crate) fn begins_on_page(page: &[u8], key: ItemKey<'_>) -> bool
     requires { 4 ≤ length page.now }
-    ensures { (items : List ItemState) → IsPage page.now items → result ≡ begins_at stamp identifier.now items }
+    ensures { (items : List ItemState) → IsPage page.now items → result ≡ begins_at key.entry.stamp key.entry.identifier.now items }
 {
     match first_entry(&page[NUMBER_BYTES..]) {
-        Some((spelling, _)) => is_at(spelling, stamp, identifier),
+        Some((spelling, _)) => is_at(spelling, key),
         None => false,
     }
 }
 
-/// Whether the item that the bytes encode has this datestamp, in seconds from 1970 on, and identifier. If they encode
-/// none, nothing is promised of the result.
-fn is_at(spelling: &[u8], stamp: i64, identifier: &str) -> bool
-    ensures { (item : ItemState) → item_in spelling.now ≡ Some item → result ≡ is_at stamp identifier.now item }
+/// Whether the item that the bytes encode has this key. If they encode none, nothing is promised of the result.
+fn is_at(spelling: &[u8], key: ItemKey<'_>) -> bool
+    ensures { (item : ItemState) → item_in spelling.now ≡ Some item → result ≡ is_at key.entry.stamp key.entry.identifier.now item }
 {
-    match order_of_spelling(spelling, stamp, identifier) {
+    match order_of_spelling(spelling, key.stamp, key.identifier) {
         Some(order) => order == Ordering::Equal,
         None => false,
     }

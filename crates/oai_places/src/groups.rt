@@ -4,9 +4,10 @@ ghost use Rattle.std.specs.Prelude.{◌≡◌, ◌+◌, ◌<◌, ◌≤◌, List
 ghost use Rattle.oai_places.specs.Places.{PlaceState};
 ghost use Rattle.oai_places.specs.Sums.{AreReplaced, AreGroups, IsStretch, IsSoundGroup, IsSumInside};
 
+use crate::known::ends_by;
 use crate::places::SharedPlace;
 use crate::sums::SharedSum;
-use crate::wanted::{Wanted, ends_by};
+use crate::wanted::Wanted;
 use std::alloc::{AllocError, Global};
 use std::marker::Model;
 
@@ -171,10 +172,10 @@ impl Groups {
     ) -> Option<Stretch>
         requires within { at < length places.now }
         requires groups { AreGroups places.now self.now }
-        ensures { IfSome result (λ stretch. IsStretch places.now wanted.entry.filter.now wanted.entry.stamp wanted.entry.identifier.now
+        ensures { IfSome result (λ stretch. IsStretch places.now wanted.entry.filter.now wanted.entry.key.stamp wanted.entry.key.identifier.now
             at stretch.places stretch.items) }
     {
-        let near = self.place_of(at);
+        let near = self.group_of(at);
         if near >= self.groups.len() {
             return None;
         }
@@ -182,18 +183,9 @@ impl Groups {
     }
 
     /// The position of the last group that begins at that leaf or before it, or 0.
-    fn place_of(&self, at: usize) -> usize {
-        let mut low = 0;
-        let mut high = self.groups.len();
-        'halves: while high - low > 1 {
-            let middle = low + (high - low) / 2;
-            if self.groups[middle].first > at {
-                high = middle;
-            } else {
-                low = middle;
-            }
-        }
-        low
+    fn group_of(&self, at: usize) -> usize {
+        let behind = self.groups.partition_point(|group| group.first <= at);
+        behind.saturating_sub(1)
     }
 }
 
@@ -280,7 +272,7 @@ impl Group {
     fn stretch_at(&self, places: &[SharedPlace], at: usize, wanted: Wanted<'_>) -> Option<Stretch>
         requires within { at < length places.now }
         requires group { IsSoundGroup places.now self.now }
-        ensures { IfSome result (λ stretch. IsStretch places.now wanted.entry.filter.now wanted.entry.stamp wanted.entry.identifier.now
+        ensures { IfSome result (λ stretch. IsStretch places.now wanted.entry.filter.now wanted.entry.key.stamp wanted.entry.key.identifier.now
             at stretch.places stretch.items) }
     {
         let Some(sum) = &self.sum else {
@@ -324,14 +316,14 @@ fn place_after(first: usize, at: usize, len: usize, count: usize) -> Option<usiz
 /// Whether it is known that all items of the leaves of the sum are wanted that are in the set, if one is requested. The
 /// next leaves are these.
 fn is_inside(sum: &SharedSum, next: &[SharedPlace], wanted: Wanted<'_>) -> bool
-    ensures { IsTrue result → IsSumInside sum.now next.now wanted.entry.filter.now wanted.entry.stamp wanted.entry.identifier.now }
+    ensures { IsTrue result → IsSumInside sum.now next.now wanted.entry.filter.now wanted.entry.key.stamp wanted.entry.key.identifier.now }
 {
     let filter = wanted.filter;
     let least = sum.least();
     if filter.lower > least {
         return false;
     }
-    if wanted.stamp >= least {
+    if wanted.key.stamp >= least {
         return false;
     }
     if !sum.has_prefix(filter.prefix.as_str()) {

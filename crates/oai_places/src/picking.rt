@@ -23,7 +23,7 @@ use crate::finding::{first_entry, first_text};
 use crate::places::SharedPlace;
 use crate::reading::forget_damaged;
 use crate::sizes::NUMBER_BYTES;
-use crate::wanted::{Wanted, is_item_wanted};
+use crate::wanted::{Portion, Wanted, is_item_wanted};
 use oai_catalogue::Filter;
 use oai_device::PAGE_BYTES;
 use oai_item::{DecodeFault, Fault, Item, Spelling};
@@ -34,28 +34,26 @@ use std::alloc::{AllocError, Global};
 /// The bytes before the identifier of an encoded item: whether it is live, and its datestamp.
 const STAMP_BYTES: usize = 9;
 
-/// The bytes are entries. Appends the wanted ones of their items to the part, except the first `skip` wanted ones,
-/// until the part has `most` items; returns how many remain to be skipped. The errors: `Damaged` only if the bytes are
-/// not entries; `NoMemory`.
+/// The bytes are entries. Appends the wanted ones of their items to the part, except the first ones that are to be
+/// skipped, until it has `portion.most` items; returns how many remain to be skipped. The errors: `Damaged` only if the
+/// bytes are not entries; `NoMemory`.
 pub(crate) fn pick_entries(
     alloc: Global,
     entries: &[u8],
-    wanted: Wanted<'_>,
-    skip: usize,
-    most: usize,
+    portion: Portion<'_>,
     part: &mut Vec<Item>,
 ) -> Result<usize, DecodeFault>
     ensures { (items : List ItemState) → AreStorable items → entries.now ≡ entries_of items
-        → IsPicking (is_wanted wanted.entry.filter.now wanted.entry.stamp wanted.entry.identifier.now) most
-        part.old.items part.new.items skip items result }
+        → IsPicking (is_wanted portion.entry.wanted.filter.now portion.entry.wanted.key.stamp portion.entry.wanted.key.identifier.now) portion.entry.most
+        part.old.items part.new.items portion.entry.skip items result }
 {
-    let mut left = skip;
+    let mut left = portion.skip;
     let mut rest = entries;
-    'entries: while !rest.is_empty() && part.len() < most {
+    'entries: while !rest.is_empty() && part.len() < portion.most {
         let Some((spelling, behind)) = first_entry(rest) else {
             return Err(DecodeFault::Damaged);
         };
-        match pick_next(alloc, spelling, wanted, left, part) {
+        match pick_next(alloc, spelling, portion.wanted, left, part) {
             Ok(still) => left = still,
             Err(fault) => return Err(fault),
         }
@@ -74,7 +72,7 @@ fn pick_next(
     part: &mut Vec<Item>,
 ) -> Result<usize, DecodeFault>
     ensures { (item : ItemState) (most : ℕ) → Spells spelling.now item → length part.old.items < most
-        → IsPicking (is_wanted wanted.entry.filter.now wanted.entry.stamp wanted.entry.identifier.now) most
+        → IsPicking (is_wanted wanted.entry.filter.now wanted.entry.key.stamp wanted.entry.key.identifier.now) most
         part.old.items part.new.items skip (item ∷ []) result }
 {
     match pick(alloc, spelling, wanted) {
@@ -84,8 +82,8 @@ fn pick_next(
     }
 }
 
-/// Adds the item to the part, where none is to be skipped; returns how many are still to be skipped. The error is out of
-/// memory.
+/// Adds the item to the part, where none is to be skipped; returns how many are still to be skipped. The error is out
+/// of memory.
 fn add(item: Item, skip: usize, part: &mut Vec<Item>) -> Result<usize, AllocError>
     ensures { IfOk result (λ left. (passes : ItemState → Bool) (most : ℕ) → passes item ≡ true → length part.old.items < most
         → IsPartTaken passes most part.old.items part.new.items skip left (item ∷ [])) }
@@ -100,7 +98,7 @@ fn add(item: Item, skip: usize, part: &mut Vec<Item>) -> Result<usize, AllocErro
 /// The item that the bytes encode, if it is wanted. The errors: `Damaged` only if they encode none; `NoMemory`.
 fn pick(alloc: Global, spelling: &[u8], wanted: Wanted<'_>) -> Result<Option<Item>, DecodeFault>
     ensures { (item : ItemState) → Spells spelling.now item
-        → IsPicked (is_wanted wanted.entry.filter.now wanted.entry.stamp wanted.entry.identifier.now) item result }
+        → IsPicked (is_wanted wanted.entry.filter.now wanted.entry.key.stamp wanted.entry.key.identifier.now) item result }
 {
     if !may_be_in(spelling, wanted.filter) {
         return Ok(None);
@@ -118,7 +116,7 @@ fn copy_wanted(
     wanted: Wanted<'_>,
 ) -> Result<Option<Item>, AllocError>
     ensures { IfOk result (λ found. IsFoundWanted
-        (is_wanted wanted.entry.filter.now wanted.entry.stamp wanted.entry.identifier.now) item.now found) }
+        (is_wanted wanted.entry.filter.now wanted.entry.key.stamp wanted.entry.key.identifier.now) item.now found) }
 {
     if !is_item_wanted(item, wanted) {
         return Ok(None);
@@ -195,28 +193,26 @@ pub(crate) fn sparse_span(place: &SharedPlace, wanted: Wanted<'_>) -> Option<Spa
     Some(span)
 }
 
-/// Appends the wanted items of the leaf, those of the set being within the span, after the first `skip` to the part, up
-/// to `most`; returns how many remain to be skipped. It reads only the bytes of the span, and validates what may be in
-/// the set. Any fault but `TooManyPages`. If it is `Damaged`, the page is dropped from memory.
+/// Appends the items of the portion in the leaf, those of the set being within the span, to the part; returns how many
+/// remain to be skipped. It reads only the bytes of the span, and validates what may be in the set. Any fault but
+/// `TooManyPages`. If it is `Damaged`, the page is dropped from memory.
 pub(crate) fn pick_at<P: PagePool>(
     alloc: Global,
     pages: &mut P,
     place: &SharedPlace,
     span: Span,
-    wanted: Wanted<'_>,
-    skip: usize,
-    most: usize,
+    portion: Portion<'_>,
     part: &mut Vec<Item>,
 ) -> Result<usize, Fault>
-    requires pickable { IsPickable place.now wanted.filter.now.set span }
+    requires pickable { IsPickable place.now portion.wanted.filter.now.set span }
     requires named { (n : ℕ) → 0 < times n place.now.pages → 0 < count_of (P.counts pages.old) n }
     requires sound { IsSoundPlace (P.pages pages.old) place.now }
     ensures taken { IfOk result (λ left. IsTrue (P.honest pages.old)
-        → IsPartTaken (is_wanted wanted.entry.filter.now wanted.entry.stamp wanted.entry.identifier.now) most
-        part.old.items part.new.items skip left (items_at (P.pages pages.old) place.now)) }
+        → IsPartTaken (is_wanted portion.entry.wanted.filter.now portion.entry.wanted.key.stamp portion.entry.wanted.key.identifier.now) portion.entry.most
+        part.old.items part.new.items portion.entry.skip left (items_at (P.pages pages.old) place.now)) }
     ensures pages { ReadsPages P.PagePool result pages.old pages.new }
 {
-    match pick_in(alloc, pages, place, span, wanted, skip, most, part) {
+    match pick_in(alloc, pages, place, span, portion, part) {
         Ok(left) => Ok(left),
         Err(fault) => {
             forget_damaged(pages, place, fault);
@@ -225,28 +221,26 @@ pub(crate) fn pick_at<P: PagePool>(
     }
 }
 
-/// Appends the wanted items of the leaf, those of the set being within the span, after the first `skip` to the part, up
-/// to `most`; returns how many remain to be skipped. Any fault but `TooManyPages`.
+/// Appends the items of the portion in the leaf, those of the set being within the span, to the part; returns how many
+/// remain to be skipped. Any fault but `TooManyPages`.
 fn pick_in<P: PagePool>(
     alloc: Global,
     pages: &mut P,
     place: &SharedPlace,
     span: Span,
-    wanted: Wanted<'_>,
-    skip: usize,
-    most: usize,
+    portion: Portion<'_>,
     part: &mut Vec<Item>,
 ) -> Result<usize, Fault>
-    requires pickable { IsPickable place.now wanted.filter.now.set span }
+    requires pickable { IsPickable place.now portion.wanted.filter.now.set span }
     requires named { (n : ℕ) → 0 < times n place.now.pages → 0 < count_of (P.counts pages.old) n }
     requires sound { IsSoundPlace (P.pages pages.old) place.now }
     ensures taken { IfOk result (λ left. IsTrue (P.honest pages.old)
-        → IsPartTaken (is_wanted wanted.entry.filter.now wanted.entry.stamp wanted.entry.identifier.now) most
-        part.old.items part.new.items skip left (items_at (P.pages pages.old) place.now)) }
+        → IsPartTaken (is_wanted portion.entry.wanted.filter.now portion.entry.wanted.key.stamp portion.entry.wanted.key.identifier.now) portion.entry.most
+        part.old.items part.new.items portion.entry.skip left (items_at (P.pages pages.old) place.now)) }
     ensures pages { ReadsPages P.PagePool result pages.old pages.new }
 {
     let bytes = read_span(alloc, pages, place.pages()[0], span)?;
-    match pick_entries(alloc, &bytes, wanted, skip, most, part) {
+    match pick_entries(alloc, &bytes, portion, part) {
         Ok(left) => Ok(left),
         Err(fault) => Err(decoding_fault_of(fault)),
     }

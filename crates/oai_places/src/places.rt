@@ -3,6 +3,7 @@ ghost use Rattle.oai_names.specs.Names.{is_among};
 ghost use Rattle.oai_places.specs.Places.{first_cmp, known_in, span_at};
 
 use crate::page_numbers::PageNumbers;
+use oai_item::ItemKey;
 use oai_names::{Identifier, Prefix, Sequence, SetSpec};
 use oai_pool::PageNo;
 use oai_sums::{PackedCounts, Span};
@@ -11,18 +12,29 @@ use std::cmp::Ordering;
 use std::marker::Model;
 use std::rc::Rc;
 
-/// A leaf: where consecutive items are stored, and what is known of them without reading their page.
+/// Statistics of the items of a leaf, without reading their page.
+#[derive(Drop)]
+pub struct Statistics {
+    /// The datestamp of the first item, in seconds from 1970 on.
+    pub stamp: i64,
+    /// The identifier of the first item.
+    pub identifier: Identifier,
+    /// How many items there are.
+    pub len: usize,
+    /// How many bytes their entries have.
+    pub size: usize,
+    /// Prefixes with each of which each item has a record. Many leaves have the same: these share one list, which is
+    /// then in the processor's cache when many are tested.
+    pub prefixes: Rc<Sequence<Prefix>>,
+    /// How many items are in each set; None if there were too many sets, or memory ran out.
+    pub sets: Option<PackedCounts>,
+}
+
+/// A leaf: where consecutive items are stored, and what is known of them.
 #[derive(Drop)]
 struct Place {
     pages: PageNumbers,
-    stamp: i64,
-    identifier: Identifier,
-    len: usize,
-    size: usize,
-    /// Many leaves have the same: these share one list, which is then in the processor's cache when many are tested.
-    prefixes: Rc<Sequence<Prefix>>,
-    /// None if there were too many sets, or memory ran out.
-    sets: Option<PackedCounts>,
+    items: Statistics,
 }
 
 impl Model for Place {
@@ -32,12 +44,12 @@ impl Model for Place {
 
     ghost view = { λ p. record {
       pages = p.pages;
-      stamp = p.stamp;
-      identifier = p.identifier;
-      len = p.len;
-      size = p.size;
-      prefixes = p.prefixes.value;
-      sets = p.sets;
+      stamp = p.items.stamp;
+      identifier = p.items.identifier;
+      len = p.items.len;
+      size = p.items.size;
+      prefixes = p.items.prefixes.value;
+      sets = p.items.sets;
     } };
 }
 
@@ -56,37 +68,25 @@ impl Model for SharedPlace {
 }
 
 impl SharedPlace {
-    /// The leaf of that many items on the pages with these numbers. The first item has this datestamp, in seconds from
-    /// 1970 on, and identifier, and each has a record with each of the prefixes. Their entries have `size` bytes, and
-    /// that many are in each set, if it is known. The error is out of memory.
+    /// The leaf of items on the pages with these numbers. The error is out of memory.
     pub fn new(
         alloc: Global,
         pages: &[PageNo],
-        stamp: i64,
-        identifier: Identifier,
-        len: usize,
-        size: usize,
-        prefixes: Rc<Sequence<Prefix>>,
-        sets: Option<PackedCounts>,
+        items: Statistics,
     ) -> Result<SharedPlace, AllocError>
         ensures { IfOk result (λ place. place ≡ record {
           pages = pages.now;
-          stamp = stamp;
-          identifier = identifier;
-          len = len;
-          size = size;
-          prefixes = prefixes.value;
-          sets = sets;
+          stamp = items.stamp;
+          identifier = items.identifier;
+          len = items.len;
+          size = items.size;
+          prefixes = items.prefixes.value;
+          sets = items.sets;
         }) }
     {
         let place = Place {
             pages: PageNumbers::new(alloc, pages)?,
-            stamp,
-            identifier,
-            len,
-            size,
-            prefixes,
-            sets,
+            items,
         };
         Ok(SharedPlace {
             place: Rc::new(alloc, place)?,
@@ -120,42 +120,42 @@ impl SharedPlace {
     pub fn stamp(&self) -> i64
         ensures { result ≡ self.now.stamp }
     {
-        self.place.stamp
+        self.place.items.stamp
     }
 
     /// The identifier of the first item.
     pub fn identifier(&self) -> &str
         ensures { result.now ≡ self.now.identifier }
     {
-        self.place.identifier.as_str()
+        self.place.items.identifier.as_str()
     }
 
     /// How many items there are.
     pub fn len(&self) -> usize
         ensures { result ≡ self.now.len }
     {
-        self.place.len
+        self.place.items.len
     }
 
     /// How many bytes their entries have.
     pub fn size(&self) -> usize
         ensures { result ≡ self.now.size }
     {
-        self.place.size
+        self.place.items.size
     }
 
     /// The prefixes with which each item is known to have a record: a list that other leaves may share.
     pub fn prefixes(&self) -> &Rc<Sequence<Prefix>>
         ensures { result.now.value ≡ self.now.prefixes }
     {
-        &self.place.prefixes
+        &self.place.items.prefixes
     }
 
     /// Whether the prefix is one of those with which each item is known to have a record.
     pub(crate) fn has_prefix(&self, prefix: &str) -> bool
         ensures { result ≡ is_among self.now.prefixes prefix.now }
     {
-        is_among(self.place.prefixes.as_slice(), prefix)
+        is_among(self.place.items.prefixes.as_slice(), prefix)
     }
 
     /// How many items are in the set, if one is given, or else how many there are; None if it is not known.
@@ -163,11 +163,11 @@ impl SharedPlace {
         ensures { result ≡ known_in self.now set.now }
     {
         match set {
-            Some(set) => match &self.place.sets {
+            Some(set) => match &self.place.items.sets {
                 Some(counts) => Some(counts.count(set.as_str())),
                 None => None,
             },
-            None => Some(self.place.len),
+            None => Some(self.place.items.len),
         }
     }
 
@@ -175,7 +175,7 @@ impl SharedPlace {
     pub(crate) fn span_in(&self, set: &Option<SetSpec>) -> Option<Span>
         ensures { result ≡ span_at self.now set.now }
     {
-        match (set, &self.place.sets) {
+        match (set, &self.place.items.sets) {
             (Some(set), Some(counts)) => counts.span(set.as_str()),
             _ => None,
         }
@@ -185,15 +185,26 @@ impl SharedPlace {
     pub(crate) fn sets(&self) -> Option<&PackedCounts>
         ensures { option_copied result ≡ self.now.sets }
     {
-        self.place.sets.as_ref()
+        self.place.items.sets.as_ref()
     }
 
-    /// Compares the first item with this datestamp, in seconds from 1970 on, and identifier.
-    pub fn order_to(&self, stamp: i64, identifier: &str) -> Ordering
-        ensures { result ≡ first_cmp self.now stamp identifier.now }
+    /// The key of the first item.
+    pub fn key(&self) -> ItemKey<'_>
+        ensures stamp { result.stamp ≡ self.now.stamp }
+        ensures identifier { result.identifier.now ≡ self.now.identifier }
     {
-        match self.stamp().cmp(&stamp) {
-            Ordering::Equal => self.identifier().cmp(identifier),
+        ItemKey {
+            stamp: self.stamp(),
+            identifier: self.identifier(),
+        }
+    }
+
+    /// Compares the first item with the key.
+    pub fn order_to(&self, key: ItemKey<'_>) -> Ordering
+        ensures { result ≡ first_cmp self.now key.entry.stamp key.entry.identifier.now }
+    {
+        match self.stamp().cmp(&key.stamp) {
+            Ordering::Equal => self.identifier().cmp(key.identifier),
             unequal => unequal,
         }
     }

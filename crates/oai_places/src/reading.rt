@@ -18,12 +18,13 @@ use crate::entries::Entries;
 use crate::entry_bytes::are_zeros;
 use crate::faults::{decoding_fault_of, fault_of};
 use crate::finding::{begins_on_page, find_on_page, has_items};
+use crate::leaves::LeafList;
 use crate::names::forget_all;
 use crate::places::SharedPlace;
-use crate::searches::place_of;
+use crate::searches::leaf_of;
 use crate::sizes::FRONT_BYTES;
 use oai_device::PAGE_BYTES;
-use oai_item::{DecodeFault, Fault, Item};
+use oai_item::{DecodeFault, Fault, Item, ItemKey};
 use oai_pool::{PageKind, PageNo, PagePool};
 use std::alloc::Global;
 use std::cmp::Ordering;
@@ -186,8 +187,8 @@ fn read_at<P: PagePool>(
     Ok(entries)
 }
 
-/// Whether the items, which are in their order, may be those of the place: they are as many, and of as many bytes, the first is the one that the place
-/// names, and all stand before those of the next place.
+/// Whether the items, which are in their order, may be those of the place: they are as many, and of as many bytes, the
+/// first is the one that the place names, and all stand before those of the next place.
 fn are_of(entries: &Entries, place: &SharedPlace, next: &[SharedPlace]) -> bool
     requires { are_in_order entries.now ≡ true }
     ensures { result ≡ are_of place.now next.now entries.now }
@@ -195,7 +196,7 @@ fn are_of(entries: &Entries, place: &SharedPlace, next: &[SharedPlace]) -> bool
     if !are_all(entries, place) {
         return false;
     }
-    if !entries.begins_at(place.stamp(), place.identifier()) {
+    if !entries.begins_at(place.key()) {
         return false;
     }
     are_below(entries, next)
@@ -215,58 +216,59 @@ fn are_below(entries: &Entries, places: &[SharedPlace]) -> bool
 {
     match places {
         [] => true,
-        [next, ..] => entries.are_before(next.stamp(), next.identifier()),
+        [next, ..] => entries.are_before(next.key()),
     }
 }
 
-/// The item with that datestamp, in seconds from 1970 on, and identifier, or None. It reads one page, and the overflow
-/// pages of an item that it returns, and decodes no other item. Any fault but `TooManyPages`.
-pub fn find<P: PagePool>(
-    alloc: Global,
-    pages: &mut P,
-    places: &[SharedPlace],
-    stamp: i64,
-    identifier: &str,
-) -> Result<Option<Item>, Fault>
-    requires { StandsIn P.PagePool pages.old places.now }
-    ensures found { IfOk result (λ item. IsTrue (P.honest pages.old)
-        → item ≡ item_at stamp identifier.now (items_on (P.pages pages.old) places.now)) }
-    ensures pages { ReadsPages P.PagePool result pages.old pages.new }
-{
-    if places.is_empty() {
-        return Ok(None);
-    }
-    let at = place_of(places, stamp, identifier);
-    if is_other(&places[at], stamp, identifier) {
-        return Ok(None);
-    }
-    if !places[at].is_long() {
-        return find_at(alloc, pages, &places[at], stamp, identifier);
-    }
-    let entries = read_place(alloc, pages, places, at)?;
-    match entries.place_of(stamp, identifier) {
-        Ok(at) => Ok(Some(entries.item(alloc, at)?)),
-        Err(_) => Ok(None),
+impl LeafList<'_> {
+    /// The item with that key, or None. It reads one page, and the overflow pages of an item that it returns, and
+    /// decodes no other item. Any fault but `TooManyPages`.
+    pub fn find<P: PagePool>(
+        self,
+        alloc: Global,
+        pages: &mut P,
+        key: ItemKey<'_>,
+    ) -> Result<Option<Item>, Fault>
+        requires { StandsIn P.PagePool pages.old self.places.now }
+        ensures found { IfOk result (λ item. IsTrue (P.honest pages.old)
+            → item ≡ item_at key.entry.stamp key.entry.identifier.now (items_on (P.pages pages.old) self.entry.places.now)) }
+        ensures pages { ReadsPages P.PagePool result pages.old pages.new }
+    {
+        let places = self.places;
+        if places.is_empty() {
+            return Ok(None);
+        }
+        let at = leaf_of(places, key);
+        if is_other(&places[at], key) {
+            return Ok(None);
+        }
+        if !places[at].is_long() {
+            return find_at(alloc, pages, &places[at], key);
+        }
+        let entries = read_place(alloc, pages, places, at)?;
+        match entries.position_of(key) {
+            Ok(at) => Ok(Some(entries.item(alloc, at)?)),
+            Err(_) => Ok(None),
+        }
     }
 }
 
-/// The item with that datestamp, in seconds from 1970 on, and identifier in the leaf, which has one page, or None. Any
-/// fault but `TooManyPages`. If it is `Damaged`, the page is dropped from memory.
+/// The item with that key in the leaf, which has one page, or None. Any fault but `TooManyPages`. If it is `Damaged`,
+/// the page is dropped from memory.
 fn find_at<P: PagePool>(
     alloc: Global,
     pages: &mut P,
     place: &SharedPlace,
-    stamp: i64,
-    identifier: &str,
+    key: ItemKey<'_>,
 ) -> Result<Option<Item>, Fault>
     requires one { length place.now.pages ≤ 1 }
     requires named { (n : ℕ) → 0 < times n place.now.pages → 0 < count_of (P.counts pages.old) n }
     requires sound { IsSoundPlace (P.pages pages.old) place.now }
     ensures found { IfOk result (λ item. IsTrue (P.honest pages.old)
-        → item ≡ item_at stamp identifier.now (items_at (P.pages pages.old) place.now)) }
+        → item ≡ item_at key.entry.stamp key.entry.identifier.now (items_at (P.pages pages.old) place.now)) }
     ensures pages { ReadsPages P.PagePool result pages.old pages.new }
 {
-    match find_in(alloc, pages, place, stamp, identifier) {
+    match find_in(alloc, pages, place, key) {
         Ok(found) => Ok(found),
         Err(fault) => {
             forget_damaged(pages, place, fault);
@@ -284,24 +286,22 @@ pub(crate) fn forget_damaged<P: PagePool>(pages: &mut P, place: &SharedPlace, fa
     }
 }
 
-/// The item with that datestamp, in seconds from 1970 on, and identifier in the leaf, which has one page, or None. Any
-/// fault but `TooManyPages`.
+/// The item with that key in the leaf, which has one page, or None. Any fault but `TooManyPages`.
 fn find_in<P: PagePool>(
     alloc: Global,
     pages: &mut P,
     place: &SharedPlace,
-    stamp: i64,
-    identifier: &str,
+    key: ItemKey<'_>,
 ) -> Result<Option<Item>, Fault>
     requires one { length place.now.pages ≤ 1 }
     requires named { (n : ℕ) → 0 < times n place.now.pages → 0 < count_of (P.counts pages.old) n }
     requires sound { IsSoundPlace (P.pages pages.old) place.now }
     ensures found { IfOk result (λ item. IsTrue (P.honest pages.old)
-        → item ≡ item_at stamp identifier.now (items_at (P.pages pages.old) place.now)) }
+        → item ≡ item_at key.entry.stamp key.entry.identifier.now (items_at (P.pages pages.old) place.now)) }
     ensures pages { ReadsPages P.PagePool result pages.old pages.new }
 {
     match pages.read(place.pages()[0], PageKind::Items) {
-        Ok(page) => match find_tested(alloc, &page[..], place, stamp, identifier) {
+        Ok(page) => match find_tested(alloc, &page[..], place, key) {
             Ok(found) => Ok(found),
             Err(fault) => Err(decoding_fault_of(fault)),
         },
@@ -309,35 +309,33 @@ fn find_in<P: PagePool>(
     }
 }
 
-/// The item of that datestamp, in seconds from 1970 on, and identifier of those of the page, or None. `Damaged` only where the bytes are not the page of
-/// as many items as those of the place, of which the first is the one that the place names; `NoMemory`.
+/// The item with that key of those of the page, or None. `Damaged` only where the bytes are not the page of as many
+/// items as those of the place, of which the first is the one that the place names; `NoMemory`.
 fn find_tested(
     alloc: Global,
     page: &[u8],
     place: &SharedPlace,
-    stamp: i64,
-    identifier: &str,
+    key: ItemKey<'_>,
 ) -> Result<Option<Item>, DecodeFault>
     requires { 4 ≤ length page.now }
     ensures { (items : List ItemState) → IsPage page.now items → length items ≡ place.now.len
-        → begins_at place.now.stamp place.now.identifier items ≡ true → IsFinding stamp identifier.now items result }
+        → begins_at place.now.stamp place.now.identifier items ≡ true → IsFinding key.entry.stamp key.entry.identifier.now items result }
 {
     if !has_items(page, place.len()) {
         return Err(DecodeFault::Damaged);
     }
-    if !begins_on_page(page, place.stamp(), place.identifier()) {
+    if !begins_on_page(page, place.key()) {
         return Err(DecodeFault::Damaged);
     }
-    find_on_page(alloc, page, stamp, identifier)
+    find_on_page(alloc, page, key)
 }
 
-/// Whether the leaf has one item alone, which continues on overflow pages, and does not have this datestamp, in seconds
-/// from 1970 on, and identifier.
-fn is_other(place: &SharedPlace, stamp: i64, identifier: &str) -> bool
-    ensures { IsTrue result → (1 < length place.now.pages) × (is_eq (first_cmp place.now stamp identifier.now) ≡ false) }
+/// Whether the leaf has one item alone, which continues on overflow pages, and does not have this key.
+fn is_other(place: &SharedPlace, key: ItemKey<'_>) -> bool
+    ensures { IsTrue result → (1 < length place.now.pages) × (is_eq (first_cmp place.now key.entry.stamp key.entry.identifier.now) ≡ false) }
 {
     if place.is_long() {
-        return place.order_to(stamp, identifier) != Ordering::Equal;
+        return place.order_to(key) != Ordering::Equal;
     }
     false
 }

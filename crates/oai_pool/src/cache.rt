@@ -9,10 +9,12 @@ use std::alloc::{AllocError, AllocFailed, Global};
 use std::num::NonZeroUsize;
 use std::rc::Rc;
 
-/// The most recently used pages, at most `size`.
+/// The most recently used pages, at most `size`; and how often a page was found in it, and was not.
 #[derive(Drop)]
 pub struct PageCache {
     pages: LruCache<u32, KeptPage>,
+    hits: u64,
+    misses: u64,
 }
 
 #[tactic(auto, unfolding(crate::specs::Held::held))]
@@ -26,7 +28,11 @@ impl PageCache {
         ensures empty { IfOk result (λ cache. (n : ℕ) → held cache n ≡ None) }
     {
         let pages = LruCache::new(alloc, size)?;
-        Ok(PageCache { pages })
+        Ok(PageCache {
+            pages,
+            hits: 0,
+            misses: 0,
+        })
     }
 
     /// The page with that number, if it is cached, it is known to be of that kind, and its `Rc` can be cloned once
@@ -37,10 +43,43 @@ impl PageCache {
         ensures kept { (n : ℕ) → held self.new n ≡ held self.old n }
         ensures size { self.new.pages.cap ≡ self.old.pages.cap }
     {
+        let found = self.look_up(no, kind);
+        self.count(found.is_some());
+        found
+    }
+
+    /// As [`PageCache::find`], which counts.
+    fn look_up(&mut self, no: u32, kind: PageKind) -> Option<Rc<Page>>
+        ensures found { IfSome result (λ page. held self.old no ≡ Some page.value) }
+        ensures tested { IfSome result (λ page. is_of kind page.value ≡ true) }
+        ensures kept { (n : ℕ) → held self.new n ≡ held self.old n }
+        ensures size { self.new.pages.cap ≡ self.old.pages.cap }
+    {
         match self.pages.get(&no) {
             Some(kept) => kept.of(kind),
             None => None,
         }
+    }
+
+    /// Counts a page that was found, or was not.
+    fn count(&mut self, is_found: bool)
+        ensures { self.new.pages ≡ self.old.pages }
+    {
+        if is_found {
+            self.hits = self.hits.wrapping_add(1);
+        } else {
+            self.misses = self.misses.wrapping_add(1);
+        }
+    }
+
+    /// How often a page was found.
+    pub fn hits(&self) -> u64 {
+        self.hits
+    }
+
+    /// How often a page was not found.
+    pub fn misses(&self) -> u64 {
+        self.misses
     }
 
     /// Caches the page, which is known to be of that kind, under that number. If the cache is full, the least recently

@@ -9,6 +9,7 @@ use crate::pools::{MAX_PAGES, PageNo, PagePool, PoolFault};
 use crate::testing::is_of;
 use crate::transfers::{copied, load, load_range, store};
 use oai_device::{Page, PageDevice};
+use oai_figures::{Exposition, Figures};
 use std::alloc::Global;
 use std::num::NonZeroUsize;
 use std::rc::Rc;
@@ -166,5 +167,22 @@ impl<D: PageDevice> Pool<D> {
         ensures { result.now ≡ device_of self.now }
     {
         &self.device
+    }
+}
+
+impl<D: PageDevice> Figures for Pool<D> {
+    fn report(&self, page: &mut Exposition) {
+        let pages = self.names.used() as u64;
+        page.add("pages", "Pages of the page file that are in use.", pages);
+        page.add(
+            "page_cache_hits_total",
+            "Reads of a page that the cache answered.",
+            self.cache.hits(),
+        );
+        page.add(
+            "page_cache_misses_total",
+            "Reads of a page that the cache did not answer.",
+            self.cache.misses(),
+        );
     }
 }

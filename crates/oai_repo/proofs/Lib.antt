@@ -17,3 +17,4 @@ pub mod PassLemmas
 pub mod RestoreLemmas
 pub mod SavedLemmas
 pub mod NewLemmas
+pub mod PutLemmas

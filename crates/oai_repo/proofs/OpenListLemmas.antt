@@ -26,7 +26,7 @@ use Rattle.oai_holdings.specs.Kept.{AreKept}
 use Rattle.oai_repo.specs.Listing.{carried_on, carried_on_at, is_of_number, with_carried_on, with_new_list}
 use Rattle.oai_holdings.specs.Holdings.{NamedSet}
 use Rattle.oai_repo.specs.State.{FrozenList, OpenLists, is_open_at, still_open}
-use Rattle.oai_repo.specs.Tables.{IsKeptTable, IsLeftOpen, dropped_at, has_end, is_of_format, kept_open, version_ended, without_version}
+use Rattle.oai_repo.specs.Tables.{IsKeptTable, IsLeftOpen, dropped_at, has_end, is_of_known_format, kept_open, version_ended, without_version}
 use Rattle.oai_repo.proofs.EndLemmas.{left_same, open_here, open_later, open_same, rest_all, versions}
 use Rattle.oai_repo.proofs.NumberLemmas.{clash, in_use_end, kept_end, kept_same, same_number, turned, unused_lacks}
 
@@ -155,7 +155,7 @@ pub table_dropped : (config : RepositoryConfig) (now : ℤ) (table : Table) → 
 table_dropped config now table kept = record {
   limit = kept.limit;
   ends = rest_all has_end now table.lists kept.ends;
-  known = rest_all (is_of_format config) now table.lists kept.known;
+  known = rest_all (is_of_known_format config) now table.lists kept.known;
 }
 
 -- the items stand as they did
@@ -392,7 +392,7 @@ pub table_kept : (config : RepositoryConfig) (end : ℤ) (next : Option ℕ) (ma
 table_kept config end next mark number table fits kept = record {
   limit = kept.limit;
   ends = changed_all has_end number (kept_open end next mark) table.lists (λ x h. fits) kept.ends;
-  known = changed_all (is_of_format config) number (kept_open end next mark) table.lists (λ x h. h) kept.known;
+  known = changed_all (is_of_known_format config) number (kept_open end next mark) table.lists (λ x h. h) kept.known;
 }
 
 -- a table with the same numbers as another
@@ -482,14 +482,14 @@ table_agrees_opened v table all list items stands free size place agrees = recor
 }
 
 pub left_opened : (config : RepositoryConfig) (now : ℤ) (v : ℕ) (table : Table) (all : VersionLists) (list : OpenList) (items : List ItemState) → IsKeptTable config table → AreInUse (v ∷ versions_in table) all → all list.version ≡ None
-    → int_le list.end (pos 253_402_300_799) ≡ true → is_of_format config list ≡ true → list.number ≡ table.next → length (open_ones now table.lists) < table.limit
+    → int_le list.end (pos 253_402_300_799) ≡ true → is_of_known_format config list ≡ true → list.number ≡ table.next → length (open_ones now table.lists) < table.limit
     → IsLeftOpen config now v table all (opening table list) (with_list list.version items all)
 left_opened config now v table all list items kept stands free fits known numbered few =
     let after : VersionLists = with_list list.version items all in
     let same : versions_in (opening table list) ≡ versions_in table ++ list.version ∷ [] = versions_end table.lists list in
     record {
       asked = inr (inr (list, numbered, few, refl));
-      kept = record { limit = kept.limit; ends = all_end has_end table.lists list kept.ends fits; known = all_end (is_of_format config) table.lists list kept.known known };
+      kept = record { limit = kept.limit; ends = all_end has_end table.lists list kept.ends fits; known = all_end (is_of_known_format config) table.lists list kept.known known };
       stands = subst (λ (ns : List ℕ). AreInUse (v ∷ ns) after) (sym same) (in_use_end (v ∷ versions_in table) list.version items all stands free);
       others = subst (λ (ns : List ℕ). KeepsOthers (v ∷ versions_in table) all (v ∷ ns) after) (sym same) (kept_end (v ∷ versions_in table) list.version items all free);
       items = ap (λ (o : Option (List ItemState)). unwrap_or o [])

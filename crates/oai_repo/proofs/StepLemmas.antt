@@ -1,18 +1,18 @@
 -- What a call does at the moved clock is a step of the machine.
 use Rattle.std.proofs.Common.{◌≡◌, ◌∙◌, ℤ, Ok, Err, ap, refl, sym, subst}
 use Rattle.oai_item.specs.Refusals.{in_repository}
-use Rattle.oai_item.specs.declared.changes.Change.{Change}
+use Rattle.oai_deposit.specs.declared.changes.Change.{Change}
 use Rattle.oai_item.specs.declared.refusals.ChangeRefusal.{ChangeRefusal}
 use Rattle.oai_time.specs.declared.granularity.Granularity.{Granularity}
 use Rattle.oai_args.specs.Asks.{AskOrError}
 use Rattle.oai_answers.specs.Answers.{Attributes}
 use Rattle.oai_repo.specs.Answers.{arguments_of_request}
 use Rattle.oai_repo.specs.Calls.{output_of_reply}
-use Rattle.oai_holdings.specs.Changes.{stamp_at}
+use Rattle.oai_holdings.specs.Changes.{stamp_at, told_stamp}
 use Rattle.oai_settings.specs.Config.{RepositoryConfig}
 use Rattle.oai_repo.specs.Views.{reply_of}
 use Rattle.oai_repo.specs.Listing.{Response, request_response, with_answer, retry_after}
-use Rattle.oai_repo.specs.Machine.{Output, act, act_on_change, outcome_output, accepted, requesting, changing, outcome_of, refused_with}
+use Rattle.oai_repo.specs.Machine.{Outcome, Output, act, act_on_change, outcome_output, accepted, requesting, changing, outcome_of, refused_with}
 use Rattle.oai_holdings.specs.Holdings.{Holdings}
 use Rattle.oai_repo.specs.State.{OpenLists, RepoState, still_open}
 use Rattle.oai_holdings.specs.Indexing.{MakesChange}
@@ -21,7 +21,8 @@ use Rattle.oai_repo.specs.declared.responses.Reply.{Reply}
 
 -- a change that is made at the clock
 act-made : (config : RepositoryConfig) (clock : ℤ) (old new : Holdings) (open_lists : OpenLists) (asked : Change) → MakesChange config (stamp_at config clock) old asked (Ok tt) new
-    → act config (record { clock = clock; holdings = old; open_lists = open_lists }) (changing asked) ≡ (accepted (stamp_at config clock), record { clock = clock; holdings = new; open_lists = open_lists })
+    → act config (record { clock = clock; holdings = old; open_lists = open_lists }) (changing asked)
+    ≡ (accepted (told_stamp (stamp_at config clock) asked new.items), record { clock = clock; holdings = new; open_lists = open_lists })
 unfolding act
 act-made config clock old new open_lists asked made =
     ap (act_on_change config (record { clock = clock; holdings = old; open_lists = open_lists }) (stamp_at config clock) asked) made.0 ∙ rw made.1 refl
@@ -44,13 +45,14 @@ at_later clock holdings open_lists = at clock holdings (still_open clock open_li
 -- a change that is made, where the clock was moved from `t` to `now`
 pub step-made : (config : RepositoryConfig) (now t stamp : ℤ) (old new : Holdings) (open_lists : OpenLists) (asked : Change)
     → now ≡ t → stamp ≡ stamp_at config now → MakesChange config stamp old asked (Ok tt) new
-    → act config (at_later t old open_lists) (changing asked) ≡ (accepted stamp, at_later now new open_lists)
+    → act config (at_later t old open_lists) (changing asked) ≡ (accepted (told_stamp stamp asked new.items), at_later now new open_lists)
 step-made config now t stamp old new open_lists asked is dated made =
+    let told : ℤ → Outcome = λ s. accepted (told_stamp s asked new.items) in
     let here : MakesChange config (stamp_at config now) old asked (Ok tt) new = subst (λ (s : ℤ). MakesChange config s old asked (Ok tt) new) dated made in
-    let done : act config (at_later now old open_lists) (changing asked) ≡ (accepted stamp, at_later now new open_lists) =
-    subst (λ (s : ℤ). act config (at_later now old open_lists) (changing asked) ≡ (accepted s, at_later now new open_lists)) (sym dated) (act-made config now old new (still_open now open_lists) asked here)
+    let done : act config (at_later now old open_lists) (changing asked) ≡ (told stamp, at_later now new open_lists) =
+    subst (λ (s : ℤ). act config (at_later now old open_lists) (changing asked) ≡ (told s, at_later now new open_lists)) (sym dated) (act-made config now old new (still_open now open_lists) asked here)
     in
-    subst (λ (x : ℤ). act config (at_later x old open_lists) (changing asked) ≡ (accepted stamp, at_later now new open_lists)) is done
+    subst (λ (x : ℤ). act config (at_later x old open_lists) (changing asked) ≡ (told stamp, at_later now new open_lists)) is done
 
 -- one that is refused
 pub step-refused : (config : RepositoryConfig) (now t stamp : ℤ) (old new : Holdings) (open_lists : OpenLists) (asked : Change) (cause : ChangeRefusal)

@@ -1,14 +1,14 @@
 -- What the calls of a repository return and leave, in the machine's words: this repository's own.
 use Rattle.std.specs.Prelude.{◌≡◌, ℕ, ℤ, Bool, true, false, List, None, Result, Ok, Err}
 use Rattle.oai_item.specs.Refusals.{in_repository}
-use Rattle.oai_item.specs.declared.changes.Change.{Change}
+use Rattle.oai_deposit.specs.declared.changes.Change.{Change}
 use Rattle.oai_item.specs.declared.faults.Fault.{Fault}
 use Rattle.oai_args.specs.Asks.{AskOrError, asks}
 use Rattle.oai_args.specs.declared.requests.Ask.TheVariants as ask
 use Rattle.oai_catalogue.specs.Store.{VersionLists}
 use Rattle.oai_time.specs.Clock.{tick}
 use Rattle.oai_time.specs.Stamp.{IsWritable}
-use Rattle.oai_holdings.specs.Accepted.{KeepsChange}
+use Rattle.oai_holdings.specs.Accepted.{KeepsChange, noted_stamp}
 use Rattle.oai_holdings.specs.Calls.{early_refusal}
 use Rattle.oai_holdings.specs.Changes.{stamp_at}
 use Rattle.oai_holdings.specs.Index.{holdings_of}
@@ -79,12 +79,12 @@ pub record IsRefusedAt (moment : ℤ) (old : RepoFields) (before : VersionLists)
   pub index : new.index ≡ old.index
   pub dropped : DropsEnded old new
 
--- a change was accepted with that datestamp: it is that of the clock, in the years 0000 to 9999, the index has the
--- entries of the change, a new set is the last one, the open lists are those at the moment, and the first that has
+-- a change was answered with that datestamp: it is that of the clock or, of a put, that of its item, in the years 0000 to
+-- 9999, the index has the entries of the change, a new set is the last one, the open lists are those at the moment, and the first that has
 -- ended is gone
 pub record IsAccepted (moment stamp : ℤ) (change : Change) (old : RepoFields) (before : VersionLists) (new : RepoFields) (after : VersionLists) : Type 0 where
   pub writable : IsWritable stamp
-  pub stamped : stamp ≡ stamp_at new.config new.clock
-  pub kept : KeepsChange old.config.deleted stamp change old.index.entries new.index.entries old.sets new.sets
+  pub stamped : stamp ≡ noted_stamp (stamp_at new.config new.clock) change new.index.entries
+  pub kept : KeepsChange old.config.deleted (stamp_at new.config new.clock) change old.index.entries new.index.entries old.sets new.sets
   pub open_lists : (state_of new after).open_lists ≡ (moved moment (state_of old before)).open_lists
   pub dropped : DropsEnded old new

@@ -10,3 +10,4 @@ pub mod Tables
 pub mod Seen
 pub mod Views
 pub mod Saved
+pub mod Puts

@@ -3,7 +3,7 @@ use Rattle.std.specs.Prelude.{ℕ, ℤ, List, ◌++◌, codes, Option, None, Som
 use Rattle.oai_time.specs.declared.granularity.Granularity.{Granularity}
 use Rattle.oai_time.specs.TimeTexts.{datestamp_text}
 use Rattle.oai_item.specs.Refusals.{Cause, in_line, in_repository, refusal_line}
-use Rattle.oai_item.specs.declared.changes.Change.{Change}
+use Rattle.oai_deposit.specs.declared.changes.Change.{Change}
 use Rattle.oai_item.specs.declared.refusals.LineRefusal.{LineRefusal}
 use Rattle.oai_item.specs.declared.refusals.ChangeRefusal.{ChangeRefusal}
 use Rattle.oai_args.specs.Asks.{AskOrError}
@@ -12,7 +12,7 @@ use Rattle.oai_args.specs.Requests.{request_of}
 use Rattle.oai_answers.specs.Answers.{Attributes, Document}
 use Rattle.oai_answers.specs.Documents.{document}
 use Rattle.oai_repo.specs.Answers.{arguments_of_request, document_at}
-use Rattle.oai_holdings.specs.Changes.{changed, refusal_of, stamp_at}
+use Rattle.oai_holdings.specs.Changes.{changed, refusal_of, stamp_at, told_stamp}
 use Rattle.oai_settings.specs.Config.{RepositoryConfig}
 use Rattle.oai_repo.specs.Listing.{Response, request_response, with_answer, retry_after}
 use Rattle.oai_repo.specs.State.{RepoState, moved}
@@ -36,7 +36,9 @@ pub data Outcome : Type 0 where
 -- a change with that datestamp that this cause refuses, or that none does
 abbrev pub act_on_change : RepositoryConfig → RepoState → ℤ → Change → Option ChangeRefusal → Outcome × RepoState
 act_on_change config state stamp change (Some cause) = (refused_with (in_repository cause), state)
-act_on_change config state stamp change None = (accepted stamp, record state { holdings = changed config stamp state.holdings change })
+act_on_change config state stamp change None =
+    let new = changed config stamp state.holdings change in
+    (accepted (told_stamp stamp change new.items), record state { holdings = new })
 
 -- the outcome of a request with those arguments, by its response, at that clock
 abbrev pub outcome_of : RepositoryConfig → ℤ → Attributes → Response → Outcome

@@ -1,10 +1,10 @@
 -- The parts of a repository's state, and the state that they make when they are restored one after the other. This
 -- repository's own.
-use Rattle.std.specs.Prelude.{ℕ, ℤ, ◌+◌, Bool, ◌==◌, ◌&&◌, List, [], ◌∷◌, ◌++◌, length, map}
+use Rattle.std.specs.Prelude.{ℕ, ℤ, ◌+◌, Bool, false, ◌==◌, ◌&&◌, List, [], ◌∷◌, ◌++◌, length, map}
 use Rattle.oai_item.specs.Item.{ItemState}
 use Rattle.oai_lists.specs.OpenLists.{Table}
 use Rattle.oai_holdings.specs.Changes.{with_new}
-use Rattle.oai_holdings.specs.Saved.{may_have_item, may_have_set}
+use Rattle.oai_holdings.specs.Saved.{has_element, may_have_item, may_have_set}
 use Rattle.oai_repo.specs.Fields.{RepoFields}
 use Rattle.oai_holdings.specs.Holdings.{NamedSet}
 use Rattle.oai_repo.specs.State.{RepoState}
@@ -25,6 +25,12 @@ abbrev pub part_state : SavedPart → SavedPartState
 part_state (Begins clock next) = has_clock clock next
 part_state (HasSet spec name) = has_named_set (spec.now, name.now)
 part_state (HasItem item) = has_item item.now
+
+-- the part is an item with an element
+abbrev pub is_with_element : SavedPartState → Bool
+is_with_element (has_clock clock next) = false
+is_with_element (has_named_set set) = false
+is_with_element (has_item item) = has_element item
 
 -- the parts of a state: the sets in order of addition, and the items in their order. Open lists have none
 abbrev pub parts_of : RepoState → List SavedPartState

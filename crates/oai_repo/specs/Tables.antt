@@ -34,15 +34,15 @@ abbrev pub has_end : OpenList → Bool
 has_end list = int_le list.end LAST_SECOND
 
 -- the list is of a format of the repository
-abbrev pub is_of_format : RepositoryConfig → OpenList → Bool
-is_of_format config list = is_some (format_named list.filter.prefix config.formats)
+abbrev pub is_of_known_format : RepositoryConfig → OpenList → Bool
+is_of_known_format config list = is_some (format_named list.filter.prefix config.formats)
 
 -- at most as many lists may be open as the configuration says, each end can be written, and each list is of a format of
 -- the repository
 pub record IsKeptTable (config : RepositoryConfig) (table : Table) : Type 0 where
   pub limit : table.limit ≡ config.lists
   pub ends : list_all has_end table.lists ≡ true
-  pub known : list_all (is_of_format config) table.lists ≡ true
+  pub known : list_all (is_of_known_format config) table.lists ≡ true
 
 -- the clock is in its years, there are no more entries than items may be, and the table satisfies its invariant
 pub record IsRepo (config : RepositoryConfig) (clock : ℤ) (entries : IndexEntries) (table : Table) : Type 0 where

@@ -1,11 +1,14 @@
-//! Theorems on requests and on saved states: empty functions whose contracts are the statements.
-ghost use Rattle.std.specs.Prelude.{◌≡◌, ℕ, ℤ, [], false};
+//! Theorems on requests, on puts and on saved states: empty functions whose contracts are the statements.
+ghost use Rattle.std.specs.Prelude.{◌≡◌, ℕ, ℤ, List, [], false};
 ghost use Rattle.oai_args.specs.Asks.{AskOrError};
 ghost use Rattle.oai_args.specs.Pairs.{decoded_pairs};
 ghost use Rattle.oai_args.specs.Requests.{request_of};
 ghost use Rattle.oai_repo.specs.Calls.{changes_lists};
 ghost use Rattle.oai_holdings.specs.Kept.{AreKept};
-ghost use Rattle.oai_repo.specs.Machine.{act_at, requesting};
+ghost use Rattle.oai_item.specs.Givens.{GivenRecord};
+ghost use Rattle.oai_deposit.specs.declared.changes.Change.TheVariants as change;
+ghost use Rattle.oai_repo.specs.Machine.{act_at, changing, requesting};
+ghost use Rattle.oai_repo.specs.Puts.{AreAlike};
 ghost use Rattle.oai_repo.specs.Saved.{ended, parts_of, with_parts};
 ghost use Rattle.oai_holdings.specs.Holdings.{no_holdings};
 ghost use Rattle.oai_repo.specs.State.{RepoState, moved};
@@ -31,4 +34,20 @@ pub fn restore_law()
     ensures { (config : RepositoryConfig) (state start : RepoState) (raise : ℕ)
         → AreKept config state.holdings → start.holdings ≡ no_holdings
         → with_parts start (parts_of (ended raise state)) ≡ ended raise state }
+{}
+
+/// A put that comes again, at whatever moment and whatever it was answered, is answered the same, and leaves the state
+/// as it was but for the clock, at which lists may end. And a put leaves what the deposit of the same leaves, but for
+/// datestamps: the same clock, sets and open lists, and the same item under each identifier. A theorem, proved by an
+/// empty function.
+pub fn put_law()
+    ensures again { (config : RepositoryConfig) (state : RepoState) (first next : ℤ) (identifier : List ℕ)
+        (sets : List (List ℕ)) (records : List GivenRecord)
+        → (let put = changing (change.Put identifier sets records) in
+        let once = act_at config state first put in
+        act_at config once.1 next put ≡ (once.0, moved next once.1)) }
+    ensures alike { (config : RepositoryConfig) (state : RepoState) (moment : ℤ) (identifier : List ℕ)
+        (sets : List (List ℕ)) (records : List GivenRecord)
+        → AreAlike (act_at config state moment (changing (change.Put identifier sets records))).1
+        (act_at config state moment (changing (change.Deposit identifier sets records))).1 }
 {}

@@ -11,8 +11,8 @@ ghost use Rattle.oai_repo.specs.Calls.{DropsEnded, IsAccepted, IsAsked, IsChange
 ghost use Rattle.oai_holdings.specs.Index.{holdings_of, stored_items};
 ghost use Rattle.oai_repo.specs.Fields.{IsNew, Keeps, Owns, state_of};
 ghost use Rattle.oai_repo.specs.Replays.{IsReplay};
-ghost use Rattle.oai_holdings.specs.Saved.{fault_of_store, items_behind};
-ghost use Rattle.oai_repo.specs.Saved.{is_restorable, part_state, with_part};
+ghost use Rattle.oai_holdings.specs.Saved.{IsDamagedOrShort, fault_of_store, items_behind};
+ghost use Rattle.oai_repo.specs.Saved.{is_restorable, is_with_element, part_state, with_part};
 ghost use Rattle.oai_repo.specs.State.{moved, state_at_clock};
 ghost use Rattle.oai_repo.specs.Tables.{IsAskedOf};
 
@@ -25,8 +25,11 @@ use crate::saved_parts::SavedPart;
 use crate::view::RepoView;
 use oai_answers::RequestAttributes;
 use oai_catalogue::Versions;
-use oai_holdings::{ChangeContext, ItemIndex, make_change, read_behind, restore_item, restore_set};
-use oai_item::{Change, Fault, Item, Refusal};
+use oai_deposit::Change;
+use oai_holdings::{
+    ChangeContext, ItemIndex, make_change, read_behind, restore_item, restore_set, told_stamp,
+};
+use oai_item::{Fault, Item, Refusal};
 use oai_lists::Lists;
 use oai_names::{Sequence, SetTree};
 use oai_settings::RepoConfig;
@@ -186,13 +189,14 @@ impl Repo {
         Ok(())
     }
 
-    /// Makes a change at the moment, and returns its datestamp, both in seconds from 1970 on; the datestamp lies in the
-    /// years 0000 to 9999. A change that is refused moves the clock, drops the first of the lists that have ended, and
+    /// Makes a change at the moment, and returns its datestamp, or of a put the item's, both in seconds from 1970 on; the
+    /// datestamp lies in the years 0000 to 9999. A put of an item that is held already, live and with its sets and
+    /// records, moves the clock, drops the first of the lists that have ended, and changes nothing else. A change that is refused moves the clock, drops the first of the lists that have ended, and
     /// changes nothing else. After a fault everything is unchanged, the clock and the store's lists included. Any fault
-    /// may come. A deposit or a deletion returns `TooManyPages` only if the store may lack room for one call, a purge
+    /// may come. A deposit, a put or a deletion returns `TooManyPages` only if the store may lack room for one call, a purge
     /// only if it may lack room for one call more than there are items, and a new set never.
     ///
-    /// A deposit and a deletion read only the item that they are about; a purge reads each item with a datestamp below
+    /// A deposit, a put and a deletion read only the item that they are about; a purge reads each item with a datestamp below
     /// its bound. A new item, or a new version of one at the same datestamp, is put into the current version of the
     /// store; one at another datestamp replaces the old one there; and an item without a tombstone is removed from it.
     /// A purge that finds something is made in a copy-on-write version, which then replaces the old one.
@@ -229,8 +233,9 @@ impl Repo {
         let made = make_change(&context, store, &mut self.index, &mut self.sets, change);
         match made {
             Ok(()) => {
+                let told = told_stamp(&self.index, stamp, change);
                 self.move_to(store, clock);
-                Ok(stamp)
+                Ok(told)
             }
             Err(Refusal::Refused(cause)) => {
                 self.move_to(store, clock);
@@ -243,15 +248,16 @@ impl Repo {
     /// Restores a part of a saved state, after those that were restored before. `Damaged` if it does not fit: the
     /// repository begins though a list is held, or with a clock that is not in the years 0001 to 9998; the set exists
     /// or has no parent, or there are 10,000; the item violates the repository's invariants, or there are as many items
-    /// as there may be. Otherwise any fault may come, `Damaged` only if the store returns other items than were put
-    /// into it, and `TooManyPages` only if it may lack room for one call. After a fault everything is unchanged.
+    /// as there may be; of an item with an element `NoMemory` may come in its place. Otherwise any fault may come,
+    /// `Damaged` only if the store returns other items than were put into it, and `TooManyPages` only if it may lack
+    /// room for one call. After a fault everything is unchanged.
     pub fn restore<V: Versions>(&mut self, store: &mut V, part: &SavedPart<'_>) -> Result<(), Fault>
         requires { Owns (V.honest store.old) self.old (V.lists store.old) }
         ensures restored { OnOk result (IsTrue (V.honest store.old)
             → state_of self.new (V.lists store.new)
             ≡ with_part (state_of self.old (V.lists store.old)) (part_state part.now)) }
         ensures damaged { is_restorable self.old (part_state part.now) ≡ false
-            → result ≡ Err fault.Damaged }
+            → IsDamagedOrShort (is_with_element (part_state part.now)) result }
         ensures err { OnErr result ((self.new ≡ self.old)
             × (V.lists store.new ≡ V.lists store.old)) }
         ensures keeps { Keeps (V.honest store.old) self.old (V.lists store.old) self.new
@@ -357,5 +363,19 @@ impl Repo {
         ensures { result.now ≡ self.now.config }
     {
         &self.config
+    }
+
+    /// How many items it has, those among them that are deleted.
+    pub fn items(&self) -> u64
+        ensures { result ≡ length self.now.index.entries }
+    {
+        self.index.len()
+    }
+
+    /// How many lists it holds, including those that have ended and are not dropped yet.
+    pub fn open_lists(&self) -> usize
+        ensures { result ≡ length self.now.table.lists }
+    {
+        self.lists.len()
     }
 }

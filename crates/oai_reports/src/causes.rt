@@ -22,6 +22,11 @@ impl<'a> Diagnostic<'a> {
         }
     }
 
+    /// The allocator of what is reported.
+    pub(crate) fn alloc(&self) -> Global {
+        self.alloc
+    }
+
     /// Its column, counted in bytes from 1; 0 if it is not known.
     pub(crate) fn column(&self) -> usize {
         self.column

@@ -12,8 +12,9 @@ pub(crate) fn report_command(cause: &mut Diagnostic<'_>, value: &Value) {
         let start = cause.start();
         cause.add(start, &["it is ", kind_of(value), ", and not an object"]);
     } else if value.get("deposit").is_some() {
-        report_names(cause, value, &["deposit", "sets", "records"]);
-        report_deposit(cause, value);
+        report_deposit(cause, value, "deposit");
+    } else if value.get("put").is_some() {
+        report_deposit(cause, value, "put");
     } else if value.get("delete").is_some() {
         report_names(cause, value, &["delete"]);
         report_kind(cause, value, "delete", "a text");
@@ -31,7 +32,7 @@ fn report_new_set(cause: &mut Diagnostic<'_>, value: &Value) {
         let start = cause.start();
         cause.add(
             start,
-            &["it has no member \"deposit\", \"delete\", \"purge\" or \"set\""],
+            &["it has no member \"deposit\", \"put\", \"delete\", \"purge\" or \"set\""],
         );
     }
     report_names(cause, value, &["set", "name"]);
@@ -39,9 +40,10 @@ fn report_new_set(cause: &mut Diagnostic<'_>, value: &Value) {
     report_kind(cause, value, "name", "a text");
 }
 
-/// Reports what is wrong with the members of a deposit.
-fn report_deposit(cause: &mut Diagnostic<'_>, value: &Value) {
-    report_kind(cause, value, "deposit", "a text");
+/// Reports what is wrong with the members of a deposit or a put, whose identifier has that name.
+fn report_deposit(cause: &mut Diagnostic<'_>, value: &Value, name: &str) {
+    report_names(cause, value, &[name, "sets", "records"]);
+    report_kind(cause, value, name, "a text");
     report_kind(cause, value, "sets", "a list");
     for (number, set) in elements_at(value, "sets").iter().enumerate() {
         if !matches!(set, Value::String(_)) {
@@ -96,13 +98,20 @@ pub(crate) fn set_place(cause: &Diagnostic<'_>, number: usize) -> Option<usize> 
     cause.element(cause.member(cause.start(), "sets"), number)
 }
 
-/// Reports that the identifier is none: refusal 3.
-pub(crate) fn report_identifier(cause: &mut Diagnostic<'_>, value: &Value) {
-    let name = if value.get("deposit").is_some() {
+/// The name of the member that has the identifier.
+fn identifier_name(value: &Value) -> &'static str {
+    if value.get("deposit").is_some() {
         "deposit"
+    } else if value.get("put").is_some() {
+        "put"
     } else {
         "delete"
-    };
+    }
+}
+
+/// Reports that the identifier is none: refusal 3.
+pub(crate) fn report_identifier(cause: &mut Diagnostic<'_>, value: &Value) {
+    let name = identifier_name(value);
     let place = cause.member(cause.start(), name);
     let why = "is not a scheme, a colon and characters of a URI, of at most 512 bytes";
     cause.add(place, &["\"", text_at(value, name), "\" ", why]);

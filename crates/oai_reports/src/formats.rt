@@ -67,8 +67,8 @@ fn report_uri(report: &mut Report<'_>, object: Object<'_>, format: &Value, name:
 
 /// Adds each fault of the format's fields.
 fn report_fields(report: &mut Report<'_>, object: Object<'_>, fields: &[Value]) {
-    if fields.is_empty() || MAX_FIELDS < fields.len() {
-        report.add_member(object, "fields", &["does not have 1 to 256 names"]);
+    if MAX_FIELDS < fields.len() {
+        report.add_member(object, "fields", &["has more than 256 names"]);
     }
     let mut seen = BTreeSet::new(report.alloc());
     for (number, field) in fields.iter().enumerate() {

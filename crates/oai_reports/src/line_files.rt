@@ -2,18 +2,22 @@
 use crate::causes::Diagnostic;
 use crate::commands::{report_command, report_identifier, report_set_spec, report_text, set_place};
 use crate::places::{bad_place, column_at, utf8_length, why_bad};
-use crate::records::{has_field, report_formats, report_unknown_fields};
+use crate::records::{
+    has_field, report_elements, report_formats, report_other_records, report_unknown_fields,
+};
 use crate::values::{elements_at, text_of};
-use oai_deposit::{LineFault, read_line};
-use oai_item::{Change, ChangeRefusal, DeletedRecord, Field, LineRefusal};
-use oai_names::{Sequence, SetFault, SetSpec, SetTree, Text};
+use oai_deposit::{Change, LineFault, read_line};
+use oai_item::{
+    ChangeRefusal, DeletedRecord, Field, Forms, GivenRecord, LineRefusal, Records, is_root_of,
+};
+use oai_names::{SetFault, SetSpec, SetTree};
 use oai_settings::RepoConfig;
 use oai_time::{is_no_finer_than, read_bound};
 use serde_json::Value;
 use std::alloc::{AllocError, Global};
 
 /// The lines of a file for a repository, one after the other. A line is refused if it is so by itself, by the
-/// repository's configuration, or by the sets of the lines before it: refusals 1 to 9 and 15 to 19.
+/// repository's configuration, or by the sets of the lines before it: refusals 1 to 9, 15 to 19, 20 and 21.
 #[derive(Drop)]
 pub struct LineFile<'a> {
     alloc: Global,
@@ -58,7 +62,7 @@ impl<'a> LineFile<'a> {
             return Ok(None);
         }
         self.read = self.read.saturating_add(1);
-        match read_line(self.alloc, line) {
+        match read_line(self.alloc, Forms::Elements, line) {
             Ok(change) => self.check_change(line, &change),
             Err(LineFault::Refused(refusal)) => self.refuse(line, Refused::Line(refusal)),
             Err(LineFault::NoMemory) => Err(AllocError),
@@ -77,8 +81,9 @@ impl<'a> LineFile<'a> {
     fn refusal_of(&mut self, change: &Change) -> Option<ChangeRefusal> {
         match change {
             Change::Deposit { sets, records, .. } => {
-                self.deposit_refusal(sets.as_slice(), records.as_slice())
+                self.deposit_refusal(sets.as_slice(), records)
             }
+            Change::Put { sets, records, .. } => self.deposit_refusal(sets.as_slice(), records),
             Change::Delete { .. } => None,
             Change::Purge { before } => self.purge_refusal(before.as_str()),
             Change::AddSet { spec, name } => set_refusal(self.sets.add(spec, name.as_str())),
@@ -86,28 +91,59 @@ impl<'a> LineFile<'a> {
     }
 
     /// Why the deposit is refused, if it is.
-    fn deposit_refusal(
-        &self,
-        sets: &[SetSpec],
-        records: &[(Text, Sequence<Field>)],
-    ) -> Option<ChangeRefusal> {
+    fn deposit_refusal(&self, sets: &[SetSpec], records: &Records) -> Option<ChangeRefusal> {
         let formats = self.config.formats();
+        let prefixes = records.as_slice();
         if !sets.iter().all(|set| self.sets.has(set)) {
             return Some(ChangeRefusal::UnknownSet);
         }
-        if !records
+        if !prefixes
             .iter()
             .all(|record| formats.find_named(record.0.as_str()).is_some())
         {
             return Some(ChangeRefusal::UnknownFormat);
         }
-        if !records.iter().any(|record| record.0.as_str() == "oai_dc") {
+        if !prefixes.iter().any(|record| record.0.as_str() == "oai_dc") {
             return Some(ChangeRefusal::NoDc);
         }
-        if !records.iter().all(|record| self.has_fields(record.0.as_str(), record.1.as_slice())) {
+        if !self.have_known_fields(records) {
             return Some(ChangeRefusal::UnknownField);
         }
+        if !self.are_of_formats(records) {
+            return Some(ChangeRefusal::NotOfFormat);
+        }
         None
+    }
+
+    /// Whether the format of each record that is a list has all its fields.
+    fn have_known_fields(&self, records: &Records) -> bool {
+        let mut left = records.walk();
+        while let Some(record) = left.next() {
+            if record.root.is_none() && !self.has_fields(record.prefix, record.fields) {
+                return false;
+            }
+        }
+        true
+    }
+
+    /// Whether each record is one of its format.
+    fn are_of_formats(&self, records: &Records) -> bool {
+        let mut left = records.walk();
+        while let Some(record) = left.next() {
+            if !self.is_of_format(&record) {
+                return false;
+            }
+        }
+        true
+    }
+
+    /// Whether the record is an element of its format, or its format has fields, if it is a list.
+    fn is_of_format(&self, record: &GivenRecord<'_>) -> bool {
+        match (self.config.formats().find_named(record.prefix), record.root) {
+            (Some(format), Some(root)) => is_root_of(format, root),
+            (Some(format), None) => !format.fields.is_empty(),
+            (None, _) => true,
+        }
     }
 
     /// Whether the format with that prefix has all the fields.
@@ -167,6 +203,7 @@ impl<'a> LineFile<'a> {
             ChangeRefusal::UnknownSet => self.report_sets(cause, value),
             ChangeRefusal::UnknownFormat => report_formats(cause, value, formats),
             ChangeRefusal::UnknownField => report_unknown_fields(cause, value, formats),
+            ChangeRefusal::NotOfFormat => report_other_records(cause, value, formats),
             ChangeRefusal::NoDc => report_at(cause, "records", "there is no record in \"oai_dc\""),
             ChangeRefusal::NotTransient => report_at(
                 cause,
@@ -216,7 +253,7 @@ impl Refused {
             Refused::Line(refusal) => refusal.answer(),
             Refused::Change(refusal) => refusal.answer(),
         };
-        answer.strip_prefix("refused ").unwrap_or(answer)
+        answer.strip_prefix("refused ").unwrap_or(answer).trim_end()
     }
 }
 
@@ -235,6 +272,7 @@ fn report_line(cause: &mut Diagnostic<'_>, value: &Value, refusal: LineRefusal) 
     match refusal {
         LineRefusal::BadJson => {}
         LineRefusal::BadCommand => report_command(cause, value),
+        LineRefusal::BadXml(_) => report_elements(cause, value),
         LineRefusal::BadIdentifier => report_identifier(cause, value),
         LineRefusal::BadSetSpec => report_set_spec(cause, value),
         LineRefusal::BadText => report_text(cause, value),

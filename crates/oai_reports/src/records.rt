@@ -1,9 +1,11 @@
 //! What is wrong with the records of a deposit.
 use crate::causes::Diagnostic;
 use crate::values::{elements_of, kind_of, text_of};
-use oai_item::Formats;
+use oai_item::{Format, Formats, is_root_of};
 use oai_names::is_xml_text;
+use oai_xml::{ElementText, Root, XmlFault};
 use serde_json::Value;
+use std::alloc::Global;
 
 /// What a field is.
 const FIELD: &str = "a field is a list of two texts";
@@ -17,9 +19,9 @@ pub(crate) fn report_records(cause: &mut Diagnostic<'_>, value: &Value) {
     }
 }
 
-/// Reports the first field of the record that is of another kind.
+/// Reports the first field of the record that is of another kind. A text is an element.
 fn report_fields(cause: &mut Diagnostic<'_>, prefix: &str, fields: &Value) {
-    if !fields.is_array() {
+    if !fields.is_array() && !fields.is_string() {
         let place = record_place(cause, prefix);
         cause.add(
             place,
@@ -28,7 +30,7 @@ fn report_fields(cause: &mut Diagnostic<'_>, prefix: &str, fields: &Value) {
                 prefix,
                 "\" is ",
                 kind_of(fields),
-                ", and not a list of fields",
+                ", and neither a list of fields nor an element's text",
             ],
         );
     }
@@ -37,6 +39,92 @@ fn report_fields(cause: &mut Diagnostic<'_>, prefix: &str, fields: &Value) {
             let place = field_place(cause, prefix, number);
             report_no_field(cause, place, field);
         }
+    }
+}
+
+/// Reports the first record whose text is no element, and where and why it is none: refusal 20.
+pub(crate) fn report_elements(cause: &mut Diagnostic<'_>, value: &Value) {
+    if let Some(Value::Object(records)) = value.get("records") {
+        for (prefix, text) in records.iter() {
+            if let Some(text) = text.as_str() {
+                report_element(cause, prefix.as_str(), text);
+            }
+        }
+    }
+}
+
+/// Reports where and why the record's text is no element, if it is none.
+fn report_element(cause: &mut Diagnostic<'_>, prefix: &str, text: &str) {
+    let alloc = cause.alloc();
+    let Err(XmlFault::Refused { offset, cause: why }) = ElementText::read(alloc, text) else {
+        return;
+    };
+    let Ok(told) = format!(in alloc; "at byte {offset} of \"{prefix}\": {why}") else {
+        return;
+    };
+    let place = record_place(cause, prefix);
+    cause.add(place, &[told.as_str()]);
+}
+
+/// Reports the first record that is not one of its format: refusal 21.
+pub(crate) fn report_other_records(cause: &mut Diagnostic<'_>, value: &Value, formats: &Formats) {
+    if let Some(Value::Object(records)) = value.get("records") {
+        for (prefix, record) in records.iter() {
+            if let Some(format) = formats.find_named(prefix.as_str()) {
+                report_other_record(cause, prefix.as_str(), record, format);
+            }
+        }
+    }
+}
+
+/// Reports that the record is a list, and its format has no fields, or that its root is not the format's.
+fn report_other_record(cause: &mut Diagnostic<'_>, prefix: &str, record: &Value, format: &Format) {
+    let place = record_place(cause, prefix);
+    let Some(text) = record.as_str() else {
+        if format.fields.is_empty() {
+            cause.add(
+                place,
+                &[
+                    "the format \"",
+                    prefix,
+                    "\" has no fields: a record is an element's text",
+                ],
+            );
+        }
+        return;
+    };
+    if !has_root(cause.alloc(), format, text) {
+        let namespace = format.namespace.as_str();
+        cause.add(
+            place,
+            &[
+                "the root is not \"",
+                local_part(format),
+                "\" of \"",
+                namespace,
+                "\"",
+            ],
+        );
+    }
+}
+
+/// Whether the element that the text is has the format's root; also if it is none, or memory runs out.
+fn has_root(alloc: Global, format: &Format, text: &str) -> bool {
+    let Ok(element) = ElementText::read(alloc, text) else {
+        return true;
+    };
+    match Root::of(alloc, element.as_str()) {
+        Ok(root) => is_root_of(format, &root),
+        Err(_) => true,
+    }
+}
+
+/// The local part of the name of the format's root.
+fn local_part(format: &Format) -> &str {
+    let root = format.root.as_str();
+    match root.split_once(':') {
+        Some((_, local)) => local,
+        None => root,
     }
 }
 

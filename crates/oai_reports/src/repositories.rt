@@ -87,9 +87,17 @@ fn report_addresses(report: &mut Report<'_>, object: Object<'_>, value: &Value) 
 fn report_formats(report: &mut Report<'_>, object: Object<'_>, value: &Value) {
     for (number, format) in elements_at(value, "formats").iter().enumerate() {
         let object = object.format(number);
-        if report_members(report, object, format, &FORMAT_MEMBERS) {
+        if report_members(report, object, format, members_of(format)) {
             report_format(report, object, format);
         }
+    }
+}
+
+/// The members that a format has: one without `fields` takes elements alone.
+fn members_of(format: &Value) -> &[&str] {
+    match format.get("fields") {
+        Some(_) => &FORMAT_MEMBERS,
+        None => &FORMAT_MEMBERS[..4],
     }
 }
 
@@ -98,7 +106,16 @@ fn report_format(report: &mut Report<'_>, object: Object<'_>, value: &Value) {
     for name in &["prefix", "schema", "namespace", "root"] {
         report_kind(report, object, value, name, "a text");
     }
-    if report_kind(report, object, value, "fields", "a list") {
-        report_texts(report, object, value, "fields", false);
+    if value.get("fields").is_some() && report_kind(report, object, value, "fields", "a list") {
+        report_field_names(report, object, value);
     }
+}
+
+/// Adds that the fields are none, though they stand there, or each that is no text.
+fn report_field_names(report: &mut Report<'_>, object: Object<'_>, value: &Value) {
+    if elements_at(value, "fields").is_empty() {
+        let why = "is empty: a format whose records are elements has no such member";
+        report.add_member(object, "fields", &[why]);
+    }
+    report_texts(report, object, value, "fields", false);
 }

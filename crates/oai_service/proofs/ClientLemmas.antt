@@ -80,7 +80,7 @@ is_sent asked =
     && ((nat_lt 0 (length asked.target) && list_all is_target_byte asked.target)
     && (list_all is_value_byte (decimal (length asked.body))
     && (nat_le (length (print_request (head_of asked))) MAX_HEAD_BYTES
-    && (is_framed (length asked.body) (framing_in (head_of asked)) && is_none asked.content_type))))
+    && (is_framed (length asked.body) (framing_in (head_of asked)) && (is_none asked.content_type && is_none asked.authorization)))))
 
 passing : (test : ℕ → Bool) (bytes : List ℕ) → list_all test bytes ≡ true → All (λ b. IsTrue (test b)) bytes
 passing test [] h = All-nil (λ (c : ℕ). IsTrue (test c))
@@ -109,9 +109,9 @@ framed size (Body announced true) h = absurd (false≢true (and_parts (announced
 framed size (Body announced false) h = ap (λ (n : ℕ). Body n false) (eqb-true announced size (and_parts (announced == size) true h).0)
 framed size (Refused status) h = absurd (false≢true h)
 
-no_type : (given : Option (List ℕ)) → is_none given ≡ true → given ≡ None
-no_type None h = refl
-no_type (Some value) h = cc
+no_value : (given : Option (List ℕ)) → is_none given ≡ true → given ≡ None
+no_value None h = refl
+no_value (Some value) h = cc
 
 -- ---- messages
 
@@ -133,7 +133,8 @@ read_message asked after sent =
     let target = and_parts (nat_lt 0 (length asked.target) && list_all is_target_byte asked.target) _ method.1 in
     let digits = and_parts (list_all is_value_byte (decimal (length asked.body))) _ target.1 in
     let short = and_parts (nat_le (length (print_request head)) MAX_HEAD_BYTES) _ digits.1 in
-    let framing = and_parts (is_framed (length asked.body) (framing_in head)) (is_none asked.content_type) short.1 in
+    let framing = and_parts (is_framed (length asked.body) (framing_in head)) (is_none asked.content_type && is_none asked.authorization) short.1 in
+    let none = and_parts (is_none asked.content_type) (is_none asked.authorization) framing.1 in
     let token = and_parts (nat_lt 0 (length asked.method)) (list_all is_token_byte asked.method) method.0 in
     let path = and_parts (nat_lt 0 (length asked.target)) (list_all is_target_byte asked.target) target.0 in
     let bytes = target_bytes asked.target path.1 in
@@ -156,7 +157,8 @@ read_message asked after sent =
       framing = framed (length asked.body) (framing_in head) framing.0;
       method = refl;
       target = refl;
-      content_type = no_type asked.content_type framing.1;
+      content_type = no_value asked.content_type none.0;
+      authorization = no_value asked.authorization none.1;
     }
 
 pub read_all : (asks : List Asked) → list_all is_sent asks ≡ true → Splits (flat_map sent_as asks) (map message_of asks) []

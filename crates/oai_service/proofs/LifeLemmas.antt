@@ -16,15 +16,18 @@ use Rattle.oai_serving.specs.Rounds.{EndsService, IsRoundSettled, served_in}
 use Rattle.oai_serving.specs.Tables.{AreAllAnswered, AreAllKept, AreLinksKept}
 use Rattle.oai_serving.specs.declared.faults.ServeFault.{ServeFault}
 use Rattle.oai_serving.specs.declared.faults.ServeFault.TheVariants.{Clock, Unsettled, Wait}
+use Rattle.oai_keys.specs.Guards.{Guards}
+use Rattle.oai_keys.specs.declared.rings.Ring.{Ring}
+use Rattle.oai_daemon.specs.Watches.{Watches}
 use Rattle.oai_durable.specs.Journaled.{IsExchange, IsSettled, Parts}
 use Rattle.oai_durable.specs.Served.{AreThose, EndsAs}
 use Rattle.oai_durable.proofs.ServedLemmas.{ends_held, left_less}
 use Rattle.oai_service.specs.Hosting.{hosting}
 use Rattle.oai_service.specs.Lives.{AreServerLives, IsServerLife, ServerLife, served_behind}
 use Rattle.oai_service.specs.Service.{AreResumed, IsOverHonest, IsReceivedIn, IsRecordedIn, LoggedTurns, all_turns, turns_of}
-use Rattle.oai_service.specs.Turns.{AreTurns, Turn, its, turn_records}
+use Rattle.oai_service.specs.Turns.{AreTurns, IsKeyed, IsWatched, Turn, its, turn_records}
 use Rattle.oai_service.proofs.OwnLemmas.{AreTurnsOnce, once_append, turns_once}
-use Rattle.oai_service.proofs.TurnLemmas.{HasFew, behind, goes_all, goes_rounds, turns_append, turns_front}
+use Rattle.oai_service.proofs.TurnLemmas.{HasFew, behind, each_append, goes_all, goes_rounds, turns_append, turns_front}
 
 -- ---- what a crash leaves
 
@@ -88,10 +91,10 @@ left_behind front turns left few is =
 -- ---- a life
 
 -- how a service ended: what its last round performed, and whether it settled behind it
-record IsOver {H J : Type 0} (view : H → HostState) (j : journal.Ghosts J) (mid last : Parts H J) : Type 0 where
+record IsOver {H J : Type 0} (view : H → HostState) (j : journal.Ghosts J) (rings : List Ring) (mid last : Parts H J) : Type 0 where
   pub served : List Served
   pub performed : Parts H J
-  pub run : Serves (IsExchange (hosting view) j) mid served performed
+  pub run : Serves (Watches (Guards rings (IsExchange (hosting view) j))) mid served performed
   pub ends : EndsAs j performed last
 
 ends_as : {H J : Type 0} (j : journal.Ghosts J) (performed last : Parts H J) (fault : ServeFault) → IsRoundSettled (IsSettled j) performed (Err fault) last → EndsAs j performed last
@@ -99,18 +102,18 @@ ends_as j performed last Unsettled settles = inr (Err settles.0, settles.1)
 ends_as j performed last Wait is = inl is
 ends_as j performed last Clock is = inl is
 
-over_by : {H J : Type 0} (view : H → HostState) (j : journal.Ghosts J) (mid last : Parts H J) (result : Result (Unit {0}) ServeFault)
-    → EndsService (IsExchange (hosting view) j) (IsSettled j) mid result last → IsOver view j mid last
-over_by view j mid last (Ok done) ends = record { served = []; performed = mid; run = refl; ends = inl ends }
-over_by view j mid last (Err fault) ends =
+over_by : {H J : Type 0} (view : H → HostState) (j : journal.Ghosts J) (rings : List Ring) (mid last : Parts H J) (result : Result (Unit {0}) ServeFault)
+    → EndsService (Watches (Guards rings (IsExchange (hosting view) j))) (IsSettled j) mid result last → IsOver view j rings mid last
+over_by view j rings mid last (Ok done) ends = record { served = []; performed = mid; run = refl; ends = inl ends }
+over_by view j rings mid last (Err fault) ends =
     record { served = ends.served; performed = ends.performed; run = ends.run; ends = ends_as j ends.performed last fault ends.settles }
 
-over_served : {H J : Type 0} (view : H → HostState) (j : journal.Ghosts J) (mid last : Parts H J) (result : Result (Unit {0}) ServeFault)
-    (ends : EndsService (IsExchange (hosting view) j) (IsSettled j) mid result last)
-    → (over_by view j mid last result ends).served ≡ served_behind (IsExchange (hosting view) j) (IsSettled j) mid result last ends
+over_served : {H J : Type 0} (view : H → HostState) (j : journal.Ghosts J) (rings : List Ring) (mid last : Parts H J) (result : Result (Unit {0}) ServeFault)
+    (ends : EndsService (Watches (Guards rings (IsExchange (hosting view) j))) (IsSettled j) mid result last)
+    → (over_by view j rings mid last result ends).served ≡ served_behind (Watches (Guards rings (IsExchange (hosting view) j))) (IsSettled j) mid result last ends
 unfolding over_by
-over_served view j mid last (Ok done) ends = refl
-over_served view j mid last (Err fault) ends = refl
+over_served view j rings mid last (Ok done) ends = refl
+over_served view j rings mid last (Err fault) ends = refl
 
 -- settling leaves the handler
 ends_same : {H J : Type 0} (j : journal.Ghosts J) (performed last : Parts H J) → EndsAs j performed last → last.handler ≡ performed.handler
@@ -170,11 +173,11 @@ pub tell : {S H J : Type 0} (view : H → HostState) (j : journal.Ghosts J) (con
 tell {S} {H} {J} view j contents remaining law begun life is =
     let store : H → StoreState = λ handler. store_of (view handler) in
     let service = is.serves in
-    let before = goes_rounds view j begun life.found service.rounds life.old.handler service.mid is.begins service.settles in
+    let before = goes_rounds view j life.rings begun life.found service.rounds life.old.handler service.mid is.begins service.settles in
     let answered : List Turn = before.goes.turns in
     let front : List Entry = life.found ++ turn_records answered in
-    let over = over_by view j service.mid life.new.handler life.result service.ends in
-    let after = goes_all view j begun front before.durable over.served service.mid over.performed before.goes.held over.run in
+    let over = over_by view j life.rings service.mid life.new.handler life.result service.ends in
+    let after = goes_all view j life.rings begun front before.durable over.served service.mid over.performed before.goes.held over.run in
     let entries : List Entry = front ++ turn_records after.turns in
     let few : before.durable ≤ length entries = few_of before.durable front (turn_records after.turns) before.all in
     let ended = ends_held j entries before.durable over.performed life.new.handler few after.held.records over.ends in
@@ -186,7 +189,9 @@ tell {S} {H} {J} view j contents remaining law begun life is =
         those = subst (λ (rounds : List (List Served)). AreThose (map its answered) (served_in rounds)) is.rounds before.goes.those;
         lost = left.others;
         held = subst (λ (turns : List Turn). AreThose (map its turns) life.behind) left.parts
-            (subst (AreThose (map its after.turns)) (over_served view j service.mid life.new.handler life.result service.ends ∙ is.behind) after.those);
+            (subst (AreThose (map its after.turns)) (over_served view j life.rings service.mid life.new.handler life.result service.ends ∙ is.behind) after.those);
+        keyed = each_append (IsKeyed life.rings) answered (left.kept ++ left.others) before.goes.keyed (subst (AllByRecursion (IsKeyed life.rings)) left.parts after.keyed);
+        watched = each_append IsWatched answered (left.kept ++ left.others) before.goes.watched (subst (AllByRecursion IsWatched) left.parts after.watched);
         streams = service.streams;
         gone = service.parted;
         passes = service.passes;

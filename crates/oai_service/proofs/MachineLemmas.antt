@@ -3,8 +3,9 @@ use Rattle.std.proofs.Common.{◌≡◌, ◌∙◌, inl, inr, ◌<◌, ℕ, ℤ,
 use Rattle.std.specs.Prelude.{if◌then◌else◌, Result, Ok, Err}
 use Rattle.std.specs.List.{list_all}
 use Rattle.std.proofs.lemmas.Bool.{and_parts, cond-true, cond-false, false≢true, true≢false}
-use Rattle.oai_item.specs.declared.changes.Change.{Change}
-use Rattle.oai_item.specs.declared.changes.Change.TheVariants as change
+use Rattle.oai_deposit.specs.declared.changes.Change.{Change}
+use Rattle.oai_deposit.specs.declared.changes.Change.TheVariants as change
+use Rattle.oai_item.specs.Item.{ItemState}
 use Rattle.oai_item.specs.declared.faults.Fault.{Fault}
 use Rattle.oai_item.specs.declared.faults.Fault.TheVariants.{Device, NoMemory}
 use Rattle.oai_item.specs.declared.refusals.ChangeRefusal.{ChangeRefusal}
@@ -14,7 +15,7 @@ use Rattle.oai_catalogue.specs.Store.{IsHonest, NeedsRoom}
 use Rattle.oai_device.specs.Device.{CountsFailures}
 use Rattle.oai_settings.specs.Config.{RepositoryConfig}
 use Rattle.oai_holdings.specs.Accepted.{sets_with}
-use Rattle.oai_holdings.specs.Changes.{changed, refusal_of, stamp_at}
+use Rattle.oai_holdings.specs.Changes.{changed, refusal_of, stamp_at, told_stamp}
 use Rattle.oai_repo.specs.Machine.{Output, act, act_on_change, bytes, outcome_output, query, step, wait}
 use Rattle.oai_holdings.specs.Holdings.{Holdings}
 use Rattle.oai_repo.specs.State.{RepoState, moved}
@@ -25,7 +26,7 @@ use Rattle.oai_http.specs.declared.exchanges.Call.{Call}
 use Rattle.oai_host.specs.Alone.{after_line, after_lines, after_read, done_alone, exchanged_alone, with_end}
 use Rattle.oai_host.specs.Answers.{IsReply, answer_of, failure, failure_in}
 use Rattle.oai_host.specs.Hosts.{AreSteps, HostState, IsExchanged, IsStep, Repository, is_of_none}
-use Rattle.oai_host.specs.Performed.{AreLinesPerformed, IsDone, IsLineAnswered, IsPerformed, StoreState}
+use Rattle.oai_host.specs.Performed.{AreLinesPerformed, IsDone, IsLineAnswered, IsPerformed, IsStampOf, StoreState}
 use Rattle.oai_host.specs.Redone.{redone_at, redone_repositories, reply_all}
 use Rattle.oai_host.specs.Room.{room_for_task}
 use Rattle.oai_host.specs.Tasks.{Task, asking, depositing, refusing, task_of}
@@ -58,15 +59,33 @@ asking_done config state moment arguments = record {
 sets_after : (config : RepositoryConfig) (stamp : ℤ) (holdings : Holdings) (its : Change) → (changed config stamp holdings its).sets ≡ sets_with its holdings.sets
 unfolding changed
 sets_after config stamp holdings (change.Deposit identifier sets records) = refl
+sets_after config stamp holdings (change.Put identifier sets records) = refl
 sets_after config stamp holdings (change.Delete identifier) = refl
 sets_after config stamp holdings (change.Purge before) = refl
 sets_after config stamp holdings (change.AddSet spec name) = refl
+
+stamp_told : (its : Change) (now : ℤ) (items : List ItemState) → IsStampOf its now (told_stamp now its items)
+stamp_told (change.Deposit identifier sets records) now items = refl
+stamp_told (change.Put identifier sets records) now items = tt
+stamp_told (change.Delete identifier) now items = refl
+stamp_told (change.Purge before) now items = refl
+stamp_told (change.AddSet spec name) now items = refl
 
 change_answered : (config : RepositoryConfig) (state : RepoState) (moment : ℤ) (its : Change) (refusal : Option ChangeRefusal)
     → (let done = act_on_change config (moved moment state) (stamp_at config (moved moment state).clock) its refusal in
     IsLineAnswered config moment (Ok its) state (with_end (outcome_output config.granularity done.0)) done.1)
 unfolding outcome_output
-change_answered config state moment its None = inl (record { told = refl; clock = refl; sets = sets_after config (stamp_at config (moved moment state).clock) state.holdings its; open_lists = refl })
+change_answered config state moment its None =
+    let now : ℤ = stamp_at config (moved moment state).clock in
+    let items : List ItemState = (changed config now state.holdings its).items in
+    inl (record {
+      stamp = told_stamp now its items;
+      stamped = stamp_told its now items;
+      told = refl;
+      clock = refl;
+      sets = sets_after config now state.holdings its;
+      open_lists = refl;
+    })
 change_answered config state moment its (Some cause) = inr (cause, record { told = refl; state = refl })
 
 line_answered : (config : RepositoryConfig) (state : RepoState) (moment : ℤ) (read : Result Change LineRefusal)
@@ -85,7 +104,7 @@ lines_performed config moment (text ∷ lines) state =
       others.0,
       first.1,
       refl,
-      record { so = line_answered config state moment (line_of text); exact = λ so. refl },
+      record { so = line_answered config state moment (line_of config.forms text); exact = λ so. refl },
       lines_performed config moment lines first.1,
     )
 

@@ -20,7 +20,7 @@ use Rattle.oai_headline.specs.Throughout.{IsTrueVisit, IsTrueBy, left_by, calls_
 use Rattle.oai_headline.proofs.GivenLemmas.{all_met}
 use Rattle.oai_service.specs.Hosting.{leaving}
 use Rattle.oai_durable.specs.Lives.{Exchanged}
-use Rattle.oai_service.specs.Turns.{AreTurns, IsTurn, Turn, answers_in, calls_in, its, turn_records, was_performed, was_refused}
+use Rattle.oai_service.specs.Turns.{AreTurns, IsTurn, Turn, answers_in, calls_in, its, turn_records, was_performed, was_refused, was_status}
 use Rattle.oai_service.proofs.TurnLemmas.{later_self}
 
 -- ---- exchanges of one repository
@@ -170,6 +170,7 @@ pub record IsHostTurn (before : List Repository) (e : Exchanged) (after : List R
 abbrev pub IsTurnOnce : List Repository → Turn → List Repository → Type 0
 IsTurnOnce before (was_performed e) after = IsHostTurn before e after
 IsTurnOnce before (was_refused e) after = after ≡ before
+IsTurnOnce before (was_status e) after = after ≡ before
 
 abbrev pub AreTurnsOnce : List Repository → List Entry → List Turn → Type 0
 AreTurnsOnce begun before [] = Unit {0}
@@ -180,6 +181,7 @@ turn_once : (before : List Repository) (old : StoreState) (turn : Turn) (after :
     → IsTurnOnce before turn after × IsTrue new.honest
 turn_once before old (was_performed e) after new honest is = (record { old = old; new = new; honest = honest; steps = is.each }, is.honesty.same ∙ honest)
 turn_once before old (was_refused e) after new honest is = (is.0, ap (λ (s : StoreState). s.honest) is.1 ∙ honest)
+turn_once before old (was_status e) after new honest is = (is.0, ap (λ (s : StoreState). s.honest) is.1 ∙ honest)
 
 pub turns_once : (begun : List Repository) (before : List Entry) (old : StoreState) (turns : List Turn) (new : StoreState) → IsTrue old.honest → AreTurns begun before old turns new
     → AreTurnsOnce begun before turns
@@ -194,6 +196,14 @@ once_append begun before [] others first then = rw (append-nil before) at then
 once_append begun before (turn ∷ turns) others first then =
     (first.0, once_append begun (before ++ (its turn).own) turns others first.1 (rw (append_assoc before (its turn).own (turn_records turns)) then))
 
+-- a turn that leaves all as it was
+met_behind : (begun : List Repository) (before own : List Entry) (turns : List Turn) → redone_all leaving begun (before ++ own) ≡ redone_all leaving begun before
+    → AllZip (IsOwnMet (calls_in turns) (answers_in turns)) (redone_all leaving begun (before ++ own)) (redone_all leaving begun ((before ++ own) ++ turn_records turns))
+    → AllZip (IsOwnMet (calls_in turns) (answers_in turns)) (redone_all leaving begun before) (redone_all leaving begun (before ++ (own ++ turn_records turns)))
+met_behind begun before own turns same more =
+    let others = subst (λ (es : List Entry). AllZip (IsOwnMet (calls_in turns) (answers_in turns)) (redone_all leaving begun (before ++ own)) (redone_all leaving begun es)) (append_assoc before own (turn_records turns)) more in
+    subst (λ (rs : List Repository). AllZip (IsOwnMet (calls_in turns) (answers_in turns)) rs (redone_all leaving begun (before ++ (own ++ turn_records turns)))) same others
+
 pub turns_met : (begun : List Repository) (before : List Entry) (turns : List Turn) → AreTurnsOnce begun before turns
     → AllZip (IsOwnMet (calls_in turns) (answers_in turns)) (redone_all leaving begun before) (redone_all leaving begun (before ++ turn_records turns))
 turns_met begun before [] all =
@@ -205,7 +215,5 @@ turns_met begun before (was_performed e ∷ turns) all =
     let more = turns_met begun (before ++ e.own) turns all.1 in
     let others = subst (λ (es : List Entry). AllZip (IsOwnMet (calls_in turns) (answers_in turns)) there (redone_all leaving begun es)) (append_assoc before e.own (turn_records turns)) more in
     each_met (call_at e.moment e.asked) e.answer (calls_in turns) (answers_in turns) first.old first.new first.honest (redone_all leaving begun before) there last first.steps others
-turns_met begun before (was_refused e ∷ turns) all =
-    let more = turns_met begun (before ++ e.own) turns all.1 in
-    let others = subst (λ (es : List Entry). AllZip (IsOwnMet (calls_in turns) (answers_in turns)) (redone_all leaving begun (before ++ e.own)) (redone_all leaving begun es)) (append_assoc before e.own (turn_records turns)) more in
-    subst (λ (rs : List Repository). AllZip (IsOwnMet (calls_in turns) (answers_in turns)) rs (redone_all leaving begun (before ++ (e.own ++ turn_records turns)))) all.0 others
+turns_met begun before (was_refused e ∷ turns) all = met_behind begun before e.own turns all.0 (turns_met begun (before ++ e.own) turns all.1)
+turns_met begun before (was_status e ∷ turns) all = met_behind begun before e.own turns all.0 (turns_met begun (before ++ e.own) turns all.1)

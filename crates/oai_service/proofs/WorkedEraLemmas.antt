@@ -3,8 +3,6 @@ use Rattle.std.proofs.Common.{◌≡◌, ◌∙◌, ℕ, true, List, [], ◌∷�
 use Rattle.std.specs.Fmt as fmt
 use Rattle.std.specs.List.{AllByRecursion, AllZip, flat_map, list_all}
 use Rattle.std.proofs.lemmas.List.{append_assoc}
-use Rattle.oai_time.specs.declared.granularity.Granularity.{Granularity}
-use Rattle.oai_time.specs.declared.granularity.Granularity.TheVariants.{Second}
 use Rattle.oai_item.specs.Decoding as decoding
 use Rattle.oai_item.specs.Encoding.{encoded}
 use Rattle.oai_item.specs.Encoding as encoding
@@ -43,17 +41,17 @@ use Rattle.oai_service.proofs.WorkedLemmas.{IsFit, all_fit, are_whole, asked_b, 
 -- ---- what is left of the first repository
 
 -- commands that calls carry, one list behind another
-commands_both : (g : Granularity) (calls others : List Call) → commands_in g (calls ++ others) ≡ commands_in g calls ++ commands_in g others
-commands_both g [] others = refl
-commands_both g (call ∷ calls) others =
-    ap (λ (ts : List Timed). commands_by g call ++ ts) (commands_both g calls others) ∙ sym (append_assoc (commands_by g call) (commands_in g calls) (commands_in g others))
+commands_both : (config : RepositoryConfig) (calls others : List Call) → commands_in config (calls ++ others) ≡ commands_in config calls ++ commands_in config others
+commands_both config [] others = refl
+commands_both config (call ∷ calls) others =
+    ap (λ (ts : List Timed). commands_by config call ++ ts) (commands_both config calls others) ∙ sym (append_assoc (commands_by config call) (commands_in config calls) (commands_in config others))
 
 left_by_a : left_by worked_config (empty_state worked_config) (own_calls (codes "a") worked_calls ++ last_calls) ≡ left_a
 left_by_a =
     let own : List Call = own_calls (codes "a") worked_calls in
     sym (calls_behind worked_config (empty_state worked_config) (own ++ last_calls))
     ∙ ap (left_behind worked_config (empty_state worked_config))
-    (commands_both Second own last_calls ∙ ap (λ (ts : List Timed). ts ++ commands_in Second last_calls) carried_a ∙ ap (λ (ts : List Timed). worked_commands ++ ts) carried_last)
+    (commands_both worked_config own last_calls ∙ ap (λ (ts : List Timed). ts ++ commands_in worked_config last_calls) carried_a ∙ ap (λ (ts : List Timed). worked_commands ++ ts) carried_last)
     ∙ list_left
 
 -- ---- of the second one
@@ -100,7 +98,7 @@ pub earlier_fit : AllByRecursion (IsFit (names_in worked_begun)) (first_deeds ++
 earlier_fit = all_fit (names_in worked_begun) first_deeds (held_deeds ++ second_deeds) first_fit (all_fit (names_in worked_begun) held_deeds second_deeds held_fit second_fit)
 
 pub third_fit : AllByRecursion (IsFit (names_in worked_begun)) third_deeds
-third_fit = ((refl, refl), ((refl, refl), ((refl, refl), tt)))
+third_fit = ((refl, refl, refl), ((refl, refl, refl), ((refl, refl, refl), tt)))
 
 pub lives_leave : redone_all leaving worked_begun (turn_records (turns_at worked_begun (first_deeds ++ held_deeds ++ second_deeds))) ≡ worked_left
 lives_leave = deeds_left (first_deeds ++ held_deeds ++ second_deeds) earlier_fit same_a planned_b

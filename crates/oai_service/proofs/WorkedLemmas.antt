@@ -23,6 +23,7 @@ use Rattle.oai_host.specs.Tasks.{Task, asking, depositing, refusing, task_of}
 use Rattle.oai_host.proofs.RedoLemmas.{alone_whole}
 use Rattle.oai_journal.specs.Records.{Entry}
 use Rattle.oai_journal.specs.declared.records.Kind.TheVariants as kind
+use Rattle.oai_daemon.specs.Watches.{is_status}
 use Rattle.oai_durable.specs.Records.{call_in, left_as, left_by_entry, part_kind, redone_all}
 use Rattle.oai_headline.specs.Chains.{IsFollowing}
 use Rattle.oai_headline.specs.Headline.{own_steps, own_visits}
@@ -49,8 +50,8 @@ redone_append kept (entry ∷ entries) others = redone_append (left_by_entry lea
 
 -- a deed fits a host of repositories of these names
 abbrev pub IsFit : List (List ℕ) → Deed → Type 0
-IsFit names (done_whole entry) = (leads_to_one (call_in entry).target names ≡ true) × (part_kind entry.kind ≡ None)
-IsFit names (done_once call entry) = (leads_to_one call.target names ≡ true) × (part_kind entry.kind ≡ None) × IsOnce call (call_in entry)
+IsFit names (done_whole entry) = (leads_to_one (call_in entry).target names ≡ true) × (part_kind entry.kind ≡ None) × (is_status (call_in entry).target ≡ false)
+IsFit names (done_once call entry) = (leads_to_one call.target names ≡ true) × (part_kind entry.kind ≡ None) × IsOnce call (call_in entry) × (is_status call.target ≡ false)
 
 pub left_call : (kept : List Repository) (entry : Entry) → part_kind entry.kind ≡ None → left_by_entry leaving kept entry ≡ host.redone_repositories kept (call_in entry)
 left_call kept entry is = ap (left_as leaving kept entry) is
@@ -263,15 +264,15 @@ once : IsOnce (post 61 (codes "/deposit/a") (deposit_line (codes "oai:a:6") ++ d
 once = record { lines = lines_in (deposit_line (codes "oai:a:6") ++ deposit_line (codes "oai:a:7")); asked = refl; more = omega arith; first = refl; target = refl; moment = refl }
 
 pub first_fit : AllByRecursion (IsFit (names_in worked_begun)) first_deeds
-first_fit = ((refl, refl), ((refl, refl), ((refl, refl), ((refl, refl), ((refl, refl), ((refl, refl), ((refl, refl), tt)))))))
+first_fit = ((refl, refl, refl), ((refl, refl, refl), ((refl, refl, refl), ((refl, refl, refl), ((refl, refl, refl), ((refl, refl, refl), ((refl, refl, refl), tt)))))))
 
 pub held_fit : AllByRecursion (IsFit (names_in worked_begun)) held_deeds
-held_fit = ((refl, refl), ((refl, refl), tt))
+held_fit = ((refl, refl, refl), ((refl, refl, refl), tt))
 
 pub second_fit : AllByRecursion (IsFit (names_in worked_begun)) second_deeds
 second_fit = (
-  (refl, refl),
-  ((refl, refl), ((refl, refl, once), ((refl, refl), ((refl, refl), ((refl, refl), ((refl, refl), ((refl, refl), ((refl, refl), ((refl, refl), ((refl, refl), ((refl, refl), ((refl, refl), tt)))))))))))),
+  (refl, refl, refl),
+  ((refl, refl, refl), ((refl, refl, once, refl), ((refl, refl, refl), ((refl, refl, refl), ((refl, refl, refl), ((refl, refl, refl), ((refl, refl, refl), ((refl, refl, refl), ((refl, refl, refl), ((refl, refl, refl), ((refl, refl, refl), ((refl, refl, refl), tt)))))))))))),
 )
 
 pub all_fit : (names : List (List ℕ)) (front back : List Deed) → AllByRecursion (IsFit names) front → AllByRecursion (IsFit names) back → AllByRecursion (IsFit names) (front ++ back)

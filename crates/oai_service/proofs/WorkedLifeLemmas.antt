@@ -2,7 +2,7 @@
 use Rattle.std.proofs.Common.{◌≡◌, ◌≢◌, ◌∙◌, inl, inr, ℕ, zero, suc, ◌<◌, Bool, true, false, List, [], ◌∷◌, ◌++◌, length, map, codes, drop, Option, None, Some, Ok, Err, slice_index_or, take, unwrap_or, refl, sym, ap, ap₂, subst, arith}
 use Rattle.std.specs.Fmt as fmt
 use Rattle.std.specs.List.{AllByRecursion, AllZip, flat_map, list_all}
-use Rattle.std.specs.Prelude.{Contains, nat_lt}
+use Rattle.std.specs.Prelude.{Contains, IsTrue, nat_lt}
 use Rattle.std.proofs.lemmas.Bool.{lt-ltb}
 use Rattle.std.proofs.lemmas.List.{append-nil, append_assoc, map-append, take-append-drop}
 use Rattle.slab.specs.Slab.{Slab}
@@ -14,7 +14,7 @@ use Rattle.oai_front.specs.Fields.{any_close, framing_of, is_alike, length_writt
 use Rattle.oai_front.specs.Heads.{answer_bytes, answer_head, plain, status_line}
 use Rattle.oai_front.specs.Messages.{Message, Splits, framing_in}
 use Rattle.oai_front.specs.Messages as end
-use Rattle.oai_front.specs.Performing.{AnsweredMessage, answers_of, done_bytes, messages_of}
+use Rattle.oai_front.specs.Performing.{AnsweredMessage, Steps, answers_of, done_bytes, messages_of}
 use Rattle.oai_front.specs.Runs.{Served, Serves, done_on}
 use Rattle.oai_front.specs.declared.stages.Stage.TheVariants.{Reading}
 use Rattle.oai_front.proofs.RunLemmas.{done_join, none_unfinished}
@@ -27,6 +27,9 @@ use Rattle.oai_serving.specs.Received.{IsReceived}
 use Rattle.oai_serving.specs.Rounds.{AreSettled, served_in}
 use Rattle.oai_serving.specs.Tables.{AreAllAnswered, AreAllThere, AreGoneAnswered, AreLinksAnswered, AreLinksKept, IsAnswered}
 use Rattle.oai_serving.specs.declared.faults.ServeFault.TheVariants.{Wait}
+use Rattle.oai_keys.specs.Guards.{Guards}
+use Rattle.oai_keys.specs.Keys.{is_admitted}
+use Rattle.oai_daemon.specs.Watches.{Watches, is_status}
 use Rattle.oai_durable.specs.Checkpoints.{IsCheckpoint}
 use Rattle.oai_durable.specs.Journaled.{IsExchange, IsHeld, IsSettled, Parts}
 use Rattle.oai_durable.specs.Records.{call_in, left_by_entry, redone_all}
@@ -35,16 +38,29 @@ use Rattle.oai_service.specs.Hosting.{AreNumbered, hosting, leaving, saving}
 use Rattle.oai_service.specs.Lives.{AreServerLives, IsServerLife, ServerLife}
 use Rattle.oai_durable.specs.Served.{AreThose, told_by, TimedAnswer as Answered}
 use Rattle.oai_service.specs.Service.{AreResumed, IsReceivedIn, IsRecordedIn, LoggedTurns, all_turns}
-use Rattle.oai_service.specs.Turns.{AreTurns, Turn, its, turn_records, was_performed}
+use Rattle.oai_service.specs.Turns.{AreTurns, IsKeyed, IsWatched, Turn, its, turn_records, was_performed}
 use Rattle.oai_service.specs.WorkedLives.{AreWorkedLives, Deed, HasLeft, IsConnected, Memory, Wire, asked_in, deposited, done_once, done_whole, entry_of_deed, exchanged_at, first_deeds, held_deeds, in_memory, requested, second_deeds, sent_as, sent_for, third_deeds, turns_at, unread_of, worked_begun, worked_checkpoint, worked_kept, worked_left, written_to}
 use Rattle.oai_service.proofs.ClientLemmas.{is_sent, message_of, read_all}
 use Rattle.oai_service.proofs.LifeLemmas.{long_append}
 use Rattle.oai_service.proofs.MachineLemmas.{names_in, once_exchanged, sound_host, sound_store, whole_exchanged}
-use Rattle.oai_service.proofs.TurnLemmas.{later_self, records_append}
+use Rattle.oai_service.proofs.TurnLemmas.{each_append, later_self, records_append}
 use Rattle.oai_service.proofs.WorkedEraLemmas.{checkpoint_leaves, lives_leave, third_fit}
 use Rattle.oai_service.proofs.WorkedLemmas.{IsFit, all_fit, deed_kind, deeds_turned, first_fit, held_fit, left_call, names_after, own_entry, redone_append, second_fit}
 
 -- ---- a message
+
+-- what its host serves, with no keys
+abbrev Open : Steps (Parts HostState Memory)
+Open = Watches (Guards [] (IsExchange (hosting (λ (h : HostState). h)) in_memory))
+
+admitted : (asked : Asked) → IsTrue (is_admitted [] asked)
+unfolding is_admitted
+admitted asked = refl
+
+-- its target is none of figures
+deed_apart : (names : List (List ℕ)) (kept : List Repository) (deed : Deed) → IsFit names deed → is_status (exchanged_at kept deed).asked.target ≡ false
+deed_apart names kept (done_whole entry) fit = fit.2
+deed_apart names kept (done_once call entry) fit = fit.3
 
 abbrev parts_at : List Repository → List Entry → ℕ → Parts HostState Memory
 parts_at kept entries durable = record { handler = sound_host kept; journal = record { entries = entries; durable = durable } }
@@ -103,7 +119,7 @@ abbrev entries_in : List Deed → List Entry
 entries_in deeds = map entry_of_deed deeds
 
 serve_deeds : (number : ℕ) (kept : List Repository) (entries : List Entry) (durable : ℕ) (deeds : List Deed) → AllByRecursion (IsFit (names_in kept)) deeds
-    → Serves (IsExchange (hosting (λ (h : HostState). h)) in_memory) (parts_at kept entries durable) (served_all number kept deeds) (parts_at (redone_all leaving kept (entries_in deeds)) (entries ++ entries_in deeds) durable)
+    → Serves Open (parts_at kept entries durable) (served_all number kept deeds) (parts_at (redone_all leaving kept (entries_in deeds)) (entries ++ entries_in deeds) durable)
 serve_deeds number kept entries durable [] fit = ap (λ (es : List Entry). parts_at kept es durable) (append-nil entries)
 serve_deeds number kept entries durable (deed ∷ deeds) fit =
     let entry : Entry = entry_of_deed deed in
@@ -111,8 +127,8 @@ serve_deeds number kept entries durable (deed ∷ deeds) fit =
     let names : names_in now ≡ names_in kept = names_after kept entry (deed_kind (names_in kept) deed fit.0) in
     let rest = serve_deeds number now (entries ++ entry ∷ []) durable deeds (subst (λ (ns : List (List ℕ)). AllByRecursion (IsFit ns) deeds) (sym names) fit.1) in (
       parts_at now (entries ++ entry ∷ []) durable,
-      deed_exchange kept entries durable deed fit.0,
-      subst (λ (es : List Entry). Serves (IsExchange (hosting (λ (h : HostState). h)) in_memory) (parts_at now (entries ++ entry ∷ []) durable) (served_all number now deeds) (parts_at (redone_all leaving now (entries_in deeds)) es durable))
+      inr (deed_apart (names_in kept) kept deed fit.0, inl (admitted (exchanged_at kept deed).asked, deed_exchange kept entries durable deed fit.0)),
+      subst (λ (es : List Entry). Serves Open (parts_at now (entries ++ entry ∷ []) durable) (served_all number now deeds) (parts_at (redone_all leaving now (entries_in deeds)) es durable))
           (append_assoc entries (entry ∷ []) (entries_in deeds)) rest,
     )
 
@@ -167,7 +183,6 @@ abbrev link_of : ℕ → List ℕ → List ℕ → Link Wire
 link_of number sent waiting = record {
   stream = record { written = sent; unread = [] };
   connection = record { number = number; rest = []; output = waiting; stage = Reading };
-  held = [];
   able = true;
 }
 
@@ -380,7 +395,7 @@ other_in_rounds kept deeds = ap (done_on 2) (in_rounds kept deeds) ∙ other_don
 
 settle_deeds : (kept : List Repository) (entries : List Entry) (deeds : List Deed) → AllByRecursion (IsFit (names_in kept)) deeds
     → (let all = entries ++ entries_in deeds in
-    AreSettled (IsExchange (hosting (λ (h : HostState). h)) in_memory) (IsSettled in_memory) (rounds_of kept deeds) (parts_at kept entries (length entries))
+    AreSettled Open (IsSettled in_memory) (rounds_of kept deeds) (parts_at kept entries (length entries))
     (parts_at (redone_all leaving kept (entries_in deeds)) all (length all)))
 settle_deeds kept entries [] fit = ap (λ (es : List Entry). parts_at kept es (length es)) (append-nil entries)
 settle_deeds kept entries (deed ∷ deeds) fit =
@@ -393,14 +408,14 @@ settle_deeds kept entries (deed ∷ deeds) fit =
     let settles : IsSettled in_memory performed (Ok tt) settled = record { handler = refl; ok = λ es durable h. (h.0, ap length h.0); err = tt } in
     let rest = settle_deeds now stand deeds (subst (λ (ns : List (List ℕ)). AllByRecursion (IsFit ns) deeds) (sym names) fit.1) in (
       settled,
-      (performed, (performed, deed_exchange kept entries (length entries) deed fit.0, refl), settles),
-      subst (λ (es : List Entry). AreSettled (IsExchange (hosting (λ (h : HostState). h)) in_memory) (IsSettled in_memory) (rounds_of now deeds) settled
+      (performed, (performed, inr (deed_apart (names_in kept) kept deed fit.0, inl (admitted (exchanged_at kept deed).asked, deed_exchange kept entries (length entries) deed fit.0)), refl), settles),
+      subst (λ (es : List Entry). AreSettled Open (IsSettled in_memory) (rounds_of now deeds) settled
           (parts_at (redone_all leaving now (entries_in deeds)) es (length es))) (append_assoc entries (entry ∷ []) (entries_in deeds)) rest,
     )
 
 -- it finds so many records, and serves deeds in rounds that settle, the end of whose last answer waits; or all was
 -- written, and the client left. It serves others whose answers are held back: a crash leaves the records of the first of
--- these, and takes those of the others
+-- these, and takes those of the others. It asks for no keys
 abbrev life_of : List Repository → List Entry → List Deed → List Deed → List Deed → Bool → ServerLife Wire HostState Memory
 life_of begun found deeds held lost waits =
     let kept = redone_all leaving begun found in
@@ -410,6 +425,7 @@ life_of begun found deeds held lost waits =
     let done = done_all kept deeds in
     record {
       found = found;
+      rings = [];
       known = known_of (Some []) (Some []);
       later = known_of (Some (clients_of deeds behind)) (Some (gone_of waits done));
       old = record { handler = parts_at kept found (length found); links = no_links; last = 0 };
@@ -491,11 +507,20 @@ deeds_told number kept (done_whole entry ∷ deeds) =
 deeds_told number kept (done_once call entry ∷ deeds) =
     ap (λ (ts : List Answered). told_by (exchanged_at kept (done_once call entry)) ∷ ts) (deeds_told number (left_by_entry leaving kept entry) deeds)
 
-life_told : (begun : List Repository) (found : List Entry) (deeds held lost : List Deed) (waits : Bool) → list_all is_sent (asked_all deeds) ≡ true
+deeds_keyed : (kept : List Repository) (deeds : List Deed) → AllByRecursion (IsKeyed []) (turns_at kept deeds)
+deeds_keyed kept [] = tt
+deeds_keyed kept (deed ∷ deeds) = (admitted (exchanged_at kept deed).asked, deeds_keyed (left_by_entry leaving kept (entry_of_deed deed)) deeds)
+
+deeds_watched : (names : List (List ℕ)) (kept : List Repository) (deeds : List Deed) → AllByRecursion (IsFit names) deeds → AllByRecursion IsWatched (turns_at kept deeds)
+deeds_watched names kept [] fit = tt
+deeds_watched names kept (deed ∷ deeds) fit = (deed_apart names kept deed fit.0, deeds_watched names (left_by_entry leaving kept (entry_of_deed deed)) deeds fit.1)
+
+life_told : (names : List (List ℕ)) (begun : List Repository) (found : List Entry) (deeds held lost : List Deed) (waits : Bool) → AllByRecursion (IsFit names) deeds
+    → AllByRecursion (IsFit names) held → AllByRecursion (IsFit names) lost → list_all is_sent (asked_all deeds) ≡ true
     → (let kept = redone_all leaving begun found in
     let now = redone_all leaving kept (entries_in deeds) in
     IsReceivedIn written_to unread_of (life_of begun found deeds held lost waits) (record { answered = turns_at kept deeds; held = turns_at now held }))
-life_told begun found deeds held lost waits may =
+life_told names begun found deeds held lost waits deeds_fit held_fit lost_fit may =
     let kept : List Repository = redone_all leaving begun found in
     let now : List Repository = redone_all leaving kept (entries_in deeds) in
     let behind : List Deed = held ++ lost in
@@ -503,6 +528,14 @@ life_told begun found deeds held lost waits may =
       those = subst (AreThose (map its (turns_at kept deeds))) (sym (in_rounds kept deeds)) (deeds_told 1 kept deeds);
       lost = turns_at (redone_all leaving now (entries_in held)) lost;
       held = subst (λ (ts : List Turn). AreThose (map its ts) (served_all 2 now behind)) (turns_behind now held lost) (deeds_told 2 now behind);
+      keyed =
+          let then : List Repository = redone_all leaving now (entries_in held) in
+          each_append (IsKeyed []) (turns_at kept deeds) (turns_at now held ++ turns_at then lost) (deeds_keyed kept deeds)
+          (each_append (IsKeyed []) (turns_at now held) (turns_at then lost) (deeds_keyed now held) (deeds_keyed then lost));
+      watched =
+          let then : List Repository = redone_all leaving now (entries_in held) in
+          each_append IsWatched (turns_at kept deeds) (turns_at now held ++ turns_at then lost) (deeds_watched names kept deeds deeds_fit)
+          (each_append IsWatched (turns_at now held) (turns_at then lost) (deeds_watched names now held held_fit) (deeds_watched names then lost lost_fit));
       streams = clients_of deeds behind;
       gone = gone_of waits (done_all kept deeds);
       passes = record { accepts = refl; lets_go = refl };
@@ -657,10 +690,10 @@ two_lives begun found front held back lost starts front_fit held_fit back_fit lo
       ),
       (
         at_begin (λ (xs ys : List Turn). IsReceivedIn written_to unread_of (life_of begun found front held lost true) (record { answered = xs; held = ys }))
-            (life_told begun found front held lost true front_sent),
+            (life_told (names_in begun) begun found front held lost true front_fit held_fit lost_fit front_sent),
         (
           subst (λ (rs : List Repository). IsReceivedIn written_to unread_of (life_of begun left back [] [] false) (record { answered = turns_at rs back; held = [] })) later
-              (life_told begun left back [] [] false back_sent),
+              (life_told (names_in begun) begun left back [] [] false back_fit tt tt back_sent),
           tt,
         ),
       ),
@@ -705,7 +738,7 @@ one_life begun start found deeds starts fit sent =
       (refl, is_life begun found deeds [] [] false there tt sent, refl),
       (
         subst (λ (rs : List Repository). IsReceivedIn written_to unread_of (life_of begun found deeds [] [] false) (record { answered = turns_at rs deeds; held = [] })) starts
-            (life_told begun found deeds [] [] false sent),
+            (life_told (names_in kept) begun found deeds [] [] false there tt tt sent),
         tt,
       ),
       (
@@ -735,7 +768,7 @@ some_held kept deed deeds others more none = cc
 
 pub worked_lived : AreWorkedLives
 worked_lived =
-    let all = two_lives worked_begun [] first_deeds held_deeds second_deeds lost_deeds refl first_fit held_fit second_fit ((refl, refl), tt) first_sent second_sent in
+    let all = two_lives worked_begun [] first_deeds held_deeds second_deeds lost_deeds refl first_fit held_fit second_fit ((refl, refl, refl), tt) first_sent second_sent in
     let behind = one_life worked_begun worked_kept worked_checkpoint third_deeds checkpoint_leaves third_fit third_sent in
     let begun_numbers : AreNumbered worked_begun = (omega arith, (omega arith, tt)) in
     let kept_numbers : AreNumbered worked_kept = (omega arith, (omega arith, tt)) in

@@ -8,15 +8,20 @@ use Rattle.oai_journal.specs.declared.journals.Journal as journal
 use Rattle.oai_serving.specs.Accepted.{Known}
 use Rattle.oai_serving.specs.Rounds.{EndsService, IsService, Settles, World}
 use Rattle.oai_serving.specs.declared.faults.ServeFault.{ServeFault}
+use Rattle.oai_keys.specs.Guards.{Guards}
+use Rattle.oai_keys.specs.declared.rings.Ring.{Ring}
+use Rattle.oai_daemon.specs.Watches.{Watches}
 use Rattle.oai_durable.specs.Checkpoints.{IsCheckpoint, Saving}
 use Rattle.oai_durable.specs.Journaled.{IsExchange, IsHeld, IsSettled, Parts, Replaying}
 use Rattle.oai_durable.specs.Records.{redone_all}
 
--- a life: the records that it found; the streams that were accepted, and let go, before it and by its end, if they are
--- known; the world in which it began; the messages that were served in each round that settled, and after the last of
--- these; how its service ended, in which world; and the records that the journal had when the next life began
+-- a life: the records that it found; the keys under which it was served; the streams that were accepted, and let go,
+-- before it and by its end, if they are known; the world in which it began; the messages that were served in each round
+-- that settled, and after the last of these; how its service ended, in which world; and the records that the journal
+-- had when the next life began
 pub record ServerLife (S H J : Type 0) : Type 0 where
   pub found : List Entry
+  pub rings : List Ring
   pub known : Known S
   pub later : Known S
   pub old : World S (Parts H J)
@@ -31,15 +36,15 @@ abbrev pub served_behind : {H : Type 0} (step : Steps H) (settled : Settles H) (
 served_behind step settled mid (Ok done) new ends = []
 served_behind step settled mid (Err fault) new ends = ends.served
 
--- it began with no connection, and with all records that it found replayed; it was a service, of these rounds; and a
--- crash at its end may leave what it left
+-- it began with no connection, and with all records that it found replayed; it was a service under its keys, of these
+-- rounds; and a crash at its end may leave what it left
 pub record IsServerLife {S H J : Type 0} (h : Replaying H) (j : journal.Ghosts J) (contents remaining : S → Option (List ℕ)) (begun : h.Kept) (life : ServerLife S H J) : Type 0 where
   pub begins : IsHeld h j begun life.old.handler life.found (length life.found)
   pub unlinked : life.old.links.slots ≡ []
   pub none : life.old.last ≡ 0
-  pub serves : IsService (IsExchange h j) (IsSettled j) contents remaining life.known life.later life.old life.result life.new
+  pub serves : IsService (Watches (Guards life.rings (IsExchange h j))) (IsSettled j) contents remaining life.known life.later life.old life.result life.new
   pub rounds : serves.rounds ≡ life.rounds
-  pub behind : served_behind (IsExchange h j) (IsSettled j) serves.mid life.result life.new.handler serves.ends ≡ life.behind
+  pub behind : served_behind (Watches (Guards life.rings (IsExchange h j))) (IsSettled j) serves.mid life.result life.new.handler serves.ends ≡ life.behind
   pub leaves : j.may_leave life.new.handler.journal life.left
 
 -- lives, the first with those records, and each other one with those that the one before it left

@@ -16,7 +16,7 @@ use Rattle.oai_durable.specs.Served.{AreThose}
 use Rattle.oai_headline.specs.Eras.{AreTrueOver, FollowListsOver, MissNothingOver, VisitedEra}
 use Rattle.oai_service.specs.Hosting.{leaving}
 use Rattle.oai_service.specs.Lives.{ServerEra, ServerLife}
-use Rattle.oai_service.specs.Turns.{AreTurns, Turn, answers_in, calls_in, its, turn_records}
+use Rattle.oai_service.specs.Turns.{AreTurns, IsKeyed, IsWatched, Turn, answers_in, calls_in, its, turn_records}
 
 -- what of a life is in the journal: the turns whose answers were sent, and those after them whose answers were held
 -- back, and whose records are there
@@ -32,12 +32,15 @@ abbrev pub all_turns : List LoggedTurns → List Turn
 all_turns told = flat_map turns_of told
 
 -- of the life: its answered turns are the messages that were served in its rounds that settled, in order; its held ones
--- are a prefix of those that were served after them; and each client that was accepted, whether its connection is open
--- at its end or was let go, received a prefix of the answers to those of the former that it sent, in order
+-- are a prefix of those that were served after them; all of these are as its keys say, and those for figures are
+-- answered with them alone; and each client that was accepted, whether its connection is open at its end or was let go, received a prefix of the answers to those of the
+-- former that it sent, in order
 pub record IsReceivedIn {S H J : Type 0} (contents remaining : S → Option (List ℕ)) (life : ServerLife S H J) (told : LoggedTurns) : Type 0 where
   pub those : AreThose (map its told.answered) (served_in life.rounds)
   pub lost : List Turn
   pub held : AreThose (map its (told.held ++ lost)) life.behind
+  pub keyed : AllByRecursion (IsKeyed life.rings) (told.answered ++ (told.held ++ lost))
+  pub watched : AllByRecursion IsWatched (told.answered ++ (told.held ++ lost))
   pub streams : List S
   pub gone : List (ℕ × S)
   pub passes : Passes life.known life.later streams gone
@@ -101,10 +104,10 @@ AreOverHonest {S} {H} {J} store eras = AllByRecursion (λ (era : ServerEra S H J
 -- the eras are one history, written as turns. Over whatever stores: `received`: each client that was accepted was sent
 -- a prefix of the answers to the messages that it sent. `kept`: in an era each life begins with the records of all
 -- turns before it, those of the answers that were sent among them. `ended`: each era begins with all that was kept
--- before it except the open lists, and raises the number of the next list. `recorded`: in a life over an honest store a
+-- before it except the open lists, and may raise the number of the next list. `recorded`: in a life over an honest store a
 -- turn did what the replay of its own record does, after the records before it. If all stores are honest: `answered`:
 -- at each repository each answer without a fault is the machine's after what was performed before it, in whichever
--- life, and one with a fault did what its number of lines says, or nothing. `followed`: if visits without a fault
+-- life, and after the checkpoints, and one with a fault did what its number of lines says, or nothing. `followed`: if visits without a fault
 -- follow a list by its unexpired tokens within an era, their pages, joined, are the records selected at the first of
 -- them; a token of an earlier era is refused, and no number of a list is given twice, in whichever eras. `harvested`:
 -- harvests miss nothing, in whichever eras they are made

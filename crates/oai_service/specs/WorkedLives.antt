@@ -57,7 +57,7 @@ entry_of_deed (done_once call entry) = entry
 
 -- what the call asks
 abbrev pub asked_in : Call → Asked
-asked_in call = record { method = call.method; target = call.target; content_type = call.content_type; body = call.body }
+asked_in call = record { method = call.method; target = call.target; content_type = call.content_type; authorization = None; body = call.body }
 
 abbrev pub exchanged_at : List Repository → Deed → Exchanged
 exchanged_at kept (done_whole entry) =

@@ -34,19 +34,22 @@ use sqlite_disk::{Disk, Fuse};
 /// all of them are one history:
 ///
 /// - each client that a life accepted was sent a prefix of the answers to its messages, in order;
-/// - each life begins with the records of every message that was answered before it, and a checkpoint ends the open
-///   lists, raises the number of the next, and changes nothing else;
-/// - at each repository each answer without a fault is the machine's after what was performed before it, in whichever
-///   life;
+/// - each life performed only messages that its own keys admit; each that they do not admit was answered 401, has no
+///   record, and left every repository as it was;
+/// - each life begins with the records of every message that was answered since the last checkpoint, and a checkpoint
+///   ends the open lists, may raise the number of the next, and changes nothing else;
+/// - at each repository each answer without a fault is the machine's after what was performed before it and not lost, in
+///   whichever life, and after the checkpoints;
 /// - lists that are followed by their unexpired tokens, by requests without a fault, are what was selected at their
-///   first request; a token that was printed before a checkpoint is refused after it, and no number of a list is given
-///   twice;
+///   first request; a token that was printed before a checkpoint is refused after it, or fails, and no number of a list
+///   is given twice;
 /// - harvests miss nothing, where deleted records are kept, even if each of them was made in another life, after
 ///   another checkpoint.
 ///
-/// The first two hold over any stores, the others if the store of each life returns what was written to it. The
-/// configuration is one that satisfies its rules, and the first life begins with no record. The lives between two
-/// checkpoints are an era; a checkpoint raises no number of a list beyond 64 bits. The function is empty.
+/// The first three hold over any stores, but for what was done of a message and whose a record is (`recorded`): these
+/// hold in a life whose store returns what was written to it, and the others if the store of each life does. The
+/// configuration satisfies its rules, and the first life begins with no record. The lives between two checkpoints are an era; a checkpoint raises no number of a list beyond 64 bits. The
+/// function is empty.
 pub fn service_law<S: Stream, V: Versions + Drop, J: Journal>()
     ensures { (config : HostConfig) (eras : List (ServerEra S HostState J)) → HaveRules config
         → AreServerEras (promised ⟦<Host<V> as Replayed>⟧) (promised_saving ⟦<Host<V> as Replayed>⟧)
@@ -89,11 +92,11 @@ pub fn killed_law<S: Stream, D: Disk + Drop>()
 /// out of memory after its first line, and is repeated; at the first repository a list is followed over three pages, at
 /// the second three harvests are made, by the visits of both lives. At the checkpoint a list is open at each repository,
 /// and the numbers of the next ones are raised by a million. After it a token that was printed before it comes before it
-/// expires, and is refused; and a fourth harvest is made of the second repository. The messages that are answered in a life come over one
-/// connection, as bytes that are given. In the first life it is open at the end, and a part of their answers was sent
-/// over it; others, whose answers are held back, come over a second one, and a crash leaves the records of the first of
-/// these. In the others the client was sent all answers, and left. It is computed from the bytes of the records and
-/// messages; the function is empty.
+/// expires, and is refused; and a fourth harvest is made of the second repository. There are no keys. The messages that
+/// are answered in a life come over one connection, as bytes that are given. In the first life it is open at the end,
+/// and a part of their answers was sent over it; others, whose answers are held back, come over a second one, and a
+/// crash leaves the records of the first of these. In the others the client was sent all answers, and left. It is
+/// computed from the bytes of the records and messages; the function is empty.
 pub fn worked_lives_law()
     ensures lived { AreWorkedLives }
     ensures turned { (first : Visit) × (second : Visit) × (last : Visit) × (one : Harvest) × (two : Harvest) × (three : Harvest)

@@ -3,3 +3,4 @@ pub mod PassLemmas
 pub mod TurnLemmas
 pub mod TableLemmas
 pub mod RoundLemmas
+pub mod WrapperLemmas

@@ -62,7 +62,7 @@ module _ {S : Type 0} (contents remaining : S → Option (List ℕ)) where
     waiting = refl;
     rest = refl;
     stage = refl;
-    held = λ able. refl;
+    all = λ able. refl;
   }
 
   kept_grown : (accepted more : List S) (served : List Served) (links : Slab (Link S)) → AreLinksKept contents remaining accepted served links

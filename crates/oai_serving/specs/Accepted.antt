@@ -2,9 +2,9 @@
 -- known. This repository's own.
 use Rattle.std.specs.Prelude.{◌≡◌, ℕ, List, [], ◌∷◌, ◌++◌, ⊤, Option, Some, None, Result, Ok, Err}
 
--- these are appended to the known streams
+-- these are appended to the known streams; where none are known, none become known
 abbrev pub Accepts : {S : Type 0} → Option (List S) → Option (List S) → List S → Type 0
-Accepts None later streams = ⊤
+Accepts None later streams = later ≡ None
 Accepts (Some known) None streams = ⊥
 Accepts (Some known) (Some later) streams = later ≡ known ++ streams
 

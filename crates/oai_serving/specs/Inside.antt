@@ -1,5 +1,5 @@
--- What contracts see of the fields of a `Link`, and its invariant.
-use Rattle.std.specs.Prelude.{ℕ, ◌≤◌, List, ◌++◌, drop, length}
+-- What contracts see of the fields of a `Link`.
+use Rattle.std.specs.Prelude.{ℕ, List, ◌++◌}
 use Rattle.oai_front.specs.Connections.{Connection}
 use Rattle.oai_serving.specs.Links.{Link, is_able}
 use Rattle.oai_serving.specs.declared.links.Link.TheInside.{Inside}
@@ -9,7 +9,4 @@ abbrev pub with_gathered : List ℕ → Connection → Connection
 with_gathered bytes c = record c { output = bytes ++ c.output }
 
 abbrev pub link_in : {S : Type 0} → Inside S → Link S
-link_in l = record { stream = l.stream; connection = with_gathered l.gathered.items l.connection; held = drop l.start l.held.items; able = is_able l.phase }
-
-abbrev pub IsLink : {S : Type 0} → Inside S → Type 0
-IsLink l = l.start ≤ length l.held.items
+link_in l = record { stream = l.stream; connection = with_gathered l.gathered.items l.connection; able = is_able l.phase }

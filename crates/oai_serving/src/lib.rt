@@ -6,7 +6,6 @@ mod laws;
 mod links;
 mod listeners;
 mod phases;
-mod pieces;
 mod servers;
 mod sockets;
 mod tables;

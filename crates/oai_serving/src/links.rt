@@ -1,12 +1,10 @@
 //! A connection over a stream.
-ghost use Rattle.std.specs.Prelude.{◌≡◌, ◌≤◌, ◌<◌, [], true, false, drop, length};
-ghost use Rattle.oai_front.specs.Stages.{is_closing};
-ghost use Rattle.oai_serving.specs.Links.{IsHolding, IsLinkRead, IsLinkStep, IsSent, is_able, opened};
+ghost use Rattle.std.specs.Prelude.{◌≡◌, ◌≤◌, [], true, false, drop, length};
+ghost use Rattle.oai_serving.specs.Links.{IsLinkStep, IsPassedOn, IsSent, IsStill, is_able, opened};
 
 use crate::phases::Phase;
-use crate::pieces::{Line, next_piece};
 use crate::sockets::Stream;
-use oai_front::Connection;
+use oai_front::{Connection, PieceFault};
 use oai_http::Handler;
 use std::alloc::Global;
 use std::io::{self, ErrorKind};
@@ -33,17 +31,15 @@ const CLOSING_SECONDS: u64 = 2;
 /// The bytes that are read, and dropped, of a connection that is shut down for writing.
 const CLOSING_BYTES: usize = 1_048_576;
 
-/// A connection over a stream: the bytes that were read and not yet passed to the connection, those from `start` on in
-/// `held`; the bytes that were taken of its output to be written together; and the second of the last byte in either
-/// direction, and of the start of the incomplete message, on a monotonic clock.
+/// A connection over a stream: the bytes that were taken of its output to be written together; whether a complete
+/// message waits in it to be performed; and the second of the last byte in either direction, and of the start of the
+/// incomplete message, on a monotonic clock.
 #[derive(Drop)]
 pub struct Link<S> {
     stream: S,
     connection: Connection,
-    held: Vec<u8>,
-    start: usize,
     gathered: Vec<u8>,
-    line: Line,
+    pending: bool,
     phase: Phase,
     readable: bool,
     writable: bool,
@@ -57,11 +53,9 @@ impl<S> Model for Link<S> {
 
     ghost Value = { View S };
 
-    ghost use Rattle.oai_serving.specs.Inside.{IsLink, link_in};
+    ghost use Rattle.oai_serving.specs.Inside.{link_in};
 
     ghost view = { link_in };
-
-    ghost invariant = { IsLink };
 }
 
 impl<S: Stream> Link<S> {
@@ -72,10 +66,8 @@ impl<S: Stream> Link<S> {
         Link {
             stream,
             connection: Connection::new(alloc, number),
-            held: Vec::new(alloc),
-            start: 0,
             gathered: Vec::new(alloc),
-            line: Line::Begun,
+            pending: false,
             phase: Phase::Open,
             readable: true,
             writable: true,
@@ -95,53 +87,19 @@ impl<S: Stream> Link<S> {
         !self.connection.output().is_empty()
     }
 
-    /// Whether a piece may be performed: one is held, and no output waits.
-    fn has_piece(&self) -> bool
-        ensures able { result ≡ true → self.now.able ≡ true }
-        ensures reads { result ≡ true → is_closing self.now.connection.stage ≡ false }
-        ensures idle { result ≡ true → self.now.connection.output ≡ [] }
-    {
-        if !self.phase.is_open() || self.start == self.held.len() {
-            return false;
-        }
-        if self.connection.is_closing() {
-            return false;
-        }
-        !self.waits()
+    /// Whether a complete message waits that may be performed: no output waits.
+    fn has_message(&self) -> bool {
+        self.pending && self.phase.is_open() && !self.waits()
     }
 
-    /// Passes the next piece to the connection, which performs what it completes. No output may wait.
-    fn hand_in<H: Handler>(&mut self, alloc: Global, handler: &mut H, moment: i64)
-        requires able { self.old.able ≡ true }
-        requires reads { is_closing self.old.connection.stage ≡ false }
-        requires idle { self.old.connection.output ≡ [] }
-        ensures { IsLinkStep H.step S.contents S.remaining moment self.old handler.old self.new handler.new }
-    {
-        let (count, line) = next_piece(self.line, &self.held[self.start..]);
-        let piece = &self.held[self.start..self.start + count];
-        match self.connection.piece(alloc, handler, moment, piece) {
-            Ok(()) => {
-                self.start += count;
-                self.line = line;
-            }
-            Err(_) => self.phase = Phase::Last,
-        }
+    /// Whether the stream may have input, and all complete messages were performed.
+    fn may_read(&self) -> bool {
+        self.readable && !self.pending
     }
 
-    /// Passes pieces to the connection until output waits, or none is held.
-    fn hand_in_all<H: Handler>(&mut self, alloc: Global, handler: &mut H, moment: i64)
-        ensures { IsLinkStep H.step S.contents S.remaining moment self.old handler.old self.new handler.new }
-    {
-        for _ in 0..READ_BYTES {
-            if !self.has_piece() {
-                return;
-            }
-            self.hand_in(alloc, handler, moment);
-        }
-    }
-
-    /// A read step: reads at most once, and performs what came, until output waits (backpressure: while output waits,
-    /// nothing is read and nothing performed). Returns how many bytes it then holds, 0 if output waited.
+    /// A read step: performs a message that waits, or else reads at most once, and performs the first message that came
+    /// (backpressure: while output waits, nothing is read and nothing performed). Returns how many bytes it then holds,
+    /// 0 if output waited.
     pub(crate) fn read<H: Handler>(
         &mut self,
         alloc: Global,
@@ -155,44 +113,61 @@ impl<S: Stream> Link<S> {
         if self.waits() {
             return 0;
         }
-        self.take_input(alloc, second, buffer);
-        self.hand_in_all(alloc, handler, moment);
+        self.take_turn(alloc, handler, moment, second, buffer);
         self.size()
     }
 
-    /// Whether the stream may have input, and all that was read was passed to the connection.
-    fn may_read(&self) -> bool
-        ensures { result ≡ true → self.now.held ≡ [] }
+    /// Performs a message that waits, or else reads at most once. No output may wait.
+    fn take_turn<H: Handler>(
+        &mut self,
+        alloc: Global,
+        handler: &mut H,
+        moment: i64,
+        second: u64,
+        buffer: &mut [u8],
+    )
+        requires idle { self.old.connection.output ≡ [] }
+        ensures { IsLinkStep H.step S.contents S.remaining moment self.old handler.old self.new handler.new }
     {
-        self.readable && self.start == self.held.len()
-    }
-
-    /// Reads once if it may; holds the input.
-    fn take_input(&mut self, alloc: Global, second: u64, buffer: &mut [u8])
-        ensures { IsLinkRead S.contents S.remaining self.old self.new }
-    {
-        if !self.may_read() {
+        if self.pending {
+            self.pass_on(alloc, handler, moment, &[]);
             return;
         }
+        if self.readable {
+            self.take_input(alloc, handler, moment, second, buffer);
+        }
+    }
+
+    /// Reads once, and passes on what came. No output may wait.
+    fn take_input<H: Handler>(
+        &mut self,
+        alloc: Global,
+        handler: &mut H,
+        moment: i64,
+        second: u64,
+        buffer: &mut [u8],
+    )
+        requires idle { self.old.connection.output ≡ [] }
+        ensures { IsLinkStep H.step S.contents S.remaining moment self.old handler.old self.new handler.new }
+    {
         match self.stream.read(buffer) {
             Ok(0) => self.phase = self.phase.at_end(),
             Ok(count) => {
-                let whole = count == buffer.len();
-                self.keep(alloc, second, &buffer[..count], whole);
+                self.heard = second;
+                self.readable = count == buffer.len() || self.ended;
+                self.pass_on(alloc, handler, moment, &buffer[..count]);
             }
             Err(error) => self.unread(error),
         }
     }
 
-    /// Holds the bytes that were read, if they are to be performed; `whole` says whether they filled the buffer.
-    fn keep(&mut self, alloc: Global, second: u64, bytes: &[u8], whole: bool)
-        requires { self.old.held ≡ [] }
-        ensures { IsHolding bytes.now self.old self.new }
+    /// Passes the bytes that were read to the connection, if they are to be performed. No output may wait.
+    fn pass_on<H: Handler>(&mut self, alloc: Global, handler: &mut H, moment: i64, bytes: &[u8])
+        requires idle { self.old.connection.output ≡ [] }
+        ensures { IsPassedOn H.step S.contents S.remaining moment bytes.now self.old handler.old self.new handler.new }
     {
-        self.heard = second;
-        self.readable = whole || self.ended;
         match self.phase {
-            Phase::Open => self.hold(alloc, bytes),
+            Phase::Open => self.hand_in(alloc, handler, moment, bytes),
             Phase::Last => {}
             Phase::Closing { since, dropped } => {
                 self.phase = closing(since, dropped.saturating_add(bytes.len()));
@@ -201,24 +176,42 @@ impl<S: Stream> Link<S> {
         }
     }
 
-    /// Holds the bytes; out of memory, nothing more is performed.
-    fn hold(&mut self, alloc: Global, bytes: &[u8])
-        requires { self.old.held ≡ [] }
-        ensures { IsHolding bytes.now self.old self.new }
+    /// Passes the bytes to the connection, which performs the first message that they complete; out of memory, nothing
+    /// more is performed. No output may wait.
+    fn hand_in<H: Handler>(&mut self, alloc: Global, handler: &mut H, moment: i64, bytes: &[u8])
+        requires able { self.old.able ≡ true }
+        requires idle { self.old.connection.output ≡ [] }
+        ensures { IsPassedOn H.step S.contents S.remaining moment bytes.now self.old handler.old self.new handler.new }
     {
-        let mut held = Vec::new(alloc);
-        match held.extend_from_slice(bytes) {
-            Ok(()) => {
-                self.held = held;
-                self.start = 0;
-            }
+        if self.connection.is_closing() {
+            self.phase = Phase::Last;
+            return;
+        }
+        match self
+            .connection
+            .piece_by_message(alloc, handler, moment, bytes)
+        {
+            Ok(()) => self.pending = false,
+            Err(PieceFault::Unfinished) => self.pause(),
             Err(_) => self.phase = Phase::Last,
+        }
+    }
+
+    /// After a piece of which a complete message is left: it is performed once the output is written; if there is none,
+    /// memory ran out, and nothing more is performed.
+    fn pause(&mut self)
+        ensures { IsStill self.old self.new }
+    {
+        if self.waits() {
+            self.pending = true;
+        } else {
+            self.phase = Phase::Last;
         }
     }
 
     /// After a read that failed: waits for readiness, tries again or is over.
     fn unread(&mut self, error: io::Error)
-        ensures { IsHolding [] self.old self.new }
+        ensures { IsStill self.old self.new }
     {
         match error.kind() {
             ErrorKind::WouldBlock => self.readable = self.ended,
@@ -233,12 +226,12 @@ impl<S: Stream> Link<S> {
     }
 
     /// A write step: writes the waiting output as far as the stream takes it, and moves on to the next phase.
-    pub(crate) fn put(&mut self, alloc: Global, second: u64)
+    pub(crate) fn put(&mut self, second: u64)
         ensures { IsSent S.contents S.remaining self.old self.new }
     {
         self.note_begun(second);
         self.write_all(second);
-        self.go_on(alloc, second);
+        self.go_on(second);
     }
 
     /// Writes the waiting output as far as the stream takes it.
@@ -318,7 +311,7 @@ impl<S: Stream> Link<S> {
 
     /// After a write that failed: waits for readiness, tries again or is over.
     fn unwritten(&mut self, error: io::Error)
-        ensures { IsHolding [] self.old self.new }
+        ensures { IsStill self.old self.new }
     {
         match error.kind() {
             ErrorKind::WouldBlock => self.writable = false,
@@ -338,7 +331,7 @@ impl<S: Stream> Link<S> {
 
     /// Moves on to the next phase, in that second: once no output waits, it is shut down for writing if the connection
     /// is closed, and over if nothing more is performed; and it is over at its timeout.
-    fn go_on(&mut self, alloc: Global, second: u64)
+    fn go_on(&mut self, second: u64)
         ensures { IsSent S.contents S.remaining self.old self.new }
     {
         if self.is_late(second) {
@@ -349,7 +342,7 @@ impl<S: Stream> Link<S> {
             return;
         }
         match self.phase {
-            Phase::Open => self.close_after(alloc, second),
+            Phase::Open => self.close_after(second),
             Phase::Last => self.phase = Phase::Over,
             Phase::Closing {
                 since: _,
@@ -360,7 +353,7 @@ impl<S: Stream> Link<S> {
     }
 
     /// Shuts the stream down for writing, if the connection is closed.
-    fn close_after(&mut self, alloc: Global, second: u64)
+    fn close_after(&mut self, second: u64)
         ensures { IsSent S.contents S.remaining self.old self.new }
     {
         if !self.connection.is_closing() {
@@ -368,8 +361,6 @@ impl<S: Stream> Link<S> {
         }
         self.stream.finish();
         self.phase = closing(second, 0);
-        self.held = Vec::new(alloc);
-        self.start = 0;
     }
 
     /// Notes when the incomplete message began: now, if output waits.
@@ -435,7 +426,7 @@ impl<S: Stream> Link<S> {
         if self.waits() {
             return self.writable;
         }
-        self.has_piece() || self.may_read()
+        self.has_message() || self.may_read()
     }
 
     /// The second of the last byte in either direction.
@@ -445,8 +436,7 @@ impl<S: Stream> Link<S> {
 
     /// How many bytes it holds; saturates at `usize::MAX`.
     pub(crate) fn size(&self) -> usize {
-        let held = self.held.len().saturating_add(self.gathered.len());
-        self.connection.size().saturating_add(held)
+        self.connection.size().saturating_add(self.gathered.len())
     }
 }
 

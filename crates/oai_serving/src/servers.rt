@@ -9,7 +9,8 @@ use crate::faults::ServeFault;
 use crate::links::{Link, READ_BYTES};
 use crate::sockets::{Readiness, Sockets, Stream};
 use crate::tables::{
-    MAX_LINKS, end_all, is_any_busy, let_go, note_at, put_all, read_all, shed_all,
+    MAX_LINKS, RoundKeys, RoundTime, end_all, is_any_busy, let_go, note_at, put_all, read_all,
+    shed_all,
 };
 use oai_http::Settled;
 use slab::Slab;
@@ -138,14 +139,17 @@ impl<S: Stream + Drop, H: Settled> Server<S, H> {
     fn serve_links(&mut self, moment: i64, second: u64) -> Result<(), ServeFault>
         ensures { IsPerformance H.step H.settled S.contents S.remaining self.old result self.new }
     {
+        let keys = RoundKeys {
+            first: self.first,
+            most: self.keys,
+        };
+        let time = RoundTime { moment, second };
         self.first = read_all(
             self.alloc,
             &mut self.links,
-            self.keys,
-            self.first,
+            keys,
             &mut self.handler,
-            moment,
-            second,
+            time,
             &mut self.buffer,
         );
         match self.handler.settle() {
@@ -161,7 +165,7 @@ impl<S: Stream + Drop, H: Settled> Server<S, H> {
     fn put(&mut self, second: u64)
         ensures { AreLinksWritten S.contents S.remaining self.old self.new }
     {
-        put_all(self.alloc, &mut self.links, self.keys, second);
+        put_all(&mut self.links, self.keys, second);
     }
 
     /// Removes the links that are over, and others while all together hold more than they may. It is called at the

@@ -18,38 +18,52 @@ const MAX_ROUND_BYTES: usize = 16_777_216;
 /// The bytes that all links together may hold.
 const MAX_BYTES: usize = 268_435_456;
 
+/// When a round is.
+#[derive(Clone, Copy)]
+pub(crate) struct RoundTime {
+    /// The clock's moment, in seconds from 1970 on.
+    pub(crate) moment: i64,
+    /// The second of the monotonic clock.
+    pub(crate) second: u64,
+}
+
+/// The keys of the links that a round reads: the first `most` ones, from the key `first` on.
+#[derive(Clone, Copy)]
+pub(crate) struct RoundKeys {
+    pub(crate) first: usize,
+    pub(crate) most: usize,
+}
+
 /// Reads the link with the key, and performs what came; returns how many bytes it then holds, 0 if output waited.
 fn read_at<S: Stream, H: Handler>(
     alloc: Global,
     links: &mut Slab<Link<S>>,
     key: usize,
     handler: &mut H,
-    moment: i64,
-    second: u64,
+    time: RoundTime,
     buffer: &mut [u8],
 ) -> usize
-    ensures { AreTurned H.step S.contents S.remaining moment links.old handler.old links.new handler.new }
+    ensures { AreTurned H.step S.contents S.remaining time.moment links.old handler.old links.new handler.new }
 {
     match links.get_mut(key) {
-        Some(link) => link.read(alloc, handler, moment, second, buffer),
+        Some(link) => link.read(alloc, handler, time.moment, time.second, buffer),
         None => 0,
     }
 }
 
-/// Reads the links with the first `most` keys, from the key `first` on, and performs what comes, until more is held
-/// than a round may; returns the key at which the next round begins.
+/// Reads the links with these keys, and performs what comes, until more is held than a round may; returns the key at
+/// which the next round begins.
 pub(crate) fn read_all<S: Stream, H: Handler>(
     alloc: Global,
     links: &mut Slab<Link<S>>,
-    most: usize,
-    first: usize,
+    keys: RoundKeys,
     handler: &mut H,
-    moment: i64,
-    second: u64,
+    time: RoundTime,
     buffer: &mut [u8],
 ) -> usize
-    ensures { AreTurned H.step S.contents S.remaining moment links.old handler.old links.new handler.new }
+    ensures { AreTurned H.step S.contents S.remaining time.moment links.old handler.old links.new handler.new }
 {
+    let RoundKeys { first, most } = keys;
     let mut key = first;
     let mut bytes: usize = 0;
     for _ in 0..most {
@@ -59,7 +73,7 @@ pub(crate) fn read_all<S: Stream, H: Handler>(
         if key >= most {
             key = 0;
         }
-        bytes = bytes.saturating_add(read_at(alloc, links, key, handler, moment, second, buffer));
+        bytes = bytes.saturating_add(read_at(alloc, links, key, handler, time, buffer));
         key = key.saturating_add(1);
     }
     first
@@ -83,11 +97,11 @@ pub(crate) fn note_at<S: Stream>(
 
 /// Writes the waiting output of the link with the key, as far as the stream takes it, and moves it on to its next
 /// phase.
-fn put_at<S: Stream>(alloc: Global, links: &mut Slab<Link<S>>, key: usize, second: u64)
+fn put_at<S: Stream>(links: &mut Slab<Link<S>>, key: usize, second: u64)
     ensures { AreSent S.contents S.remaining links.old links.new }
 {
     match links.get_mut(key) {
-        Some(link) => link.put(alloc, second),
+        Some(link) => link.put(second),
         None => {}
     }
 }
@@ -135,11 +149,11 @@ fn is_over_at<S: Stream>(links: &Slab<Link<S>>, key: usize) -> bool {
 }
 
 /// Writes the waiting output of the links with the first `most` keys, as far as the streams take it.
-pub(crate) fn put_all<S: Stream>(alloc: Global, links: &mut Slab<Link<S>>, most: usize, second: u64)
+pub(crate) fn put_all<S: Stream>(links: &mut Slab<Link<S>>, most: usize, second: u64)
     ensures { AreSent S.contents S.remaining links.old links.new }
 {
     for key in 0..most {
-        put_at(alloc, links, key, second);
+        put_at(links, key, second);
     }
 }
 

@@ -11,7 +11,7 @@ use Rattle.std.proofs.lemmas.List.{map-append, append-nil}
 use Rattle.oai_names.specs.Names.{is_among, may_be_prefix}
 use Rattle.oai_item.specs.Formats.{dublin_core, format_named}
 use Rattle.oai_item.specs.Declaring.{declare_fault}
-use Rattle.oai_item.specs.Rules.{are_names, are_uris, has_fields, has_repeat, is_allowed}
+use Rattle.oai_item.specs.Rules.{are_names, are_uris, has_few_fields, has_repeat, is_allowed}
 use Rattle.oai_item.specs.declared.formats.Format.{Format}
 use Rattle.oai_item.specs.declared.formats.FormatFault.TheVariants.{Duplicate, BadName, BadUri, FieldTwice, TooMany}
 use Rattle.oai_item.proofs.Repeats.{has_repeat-push}
@@ -67,7 +67,7 @@ no_cause false true true false true true = refl
 may_declare : (formats : List Format) (format : Format) → is_none (declare_fault formats format) ≡ (not (list_any (bytes_eq format.prefix) (prefixes formats)) && (is_allowed format && nat_lt (length formats) 64))
 unfolding declare_fault is_allowed
 may_declare formats format =
-    no_cause (is_some (format_named format.prefix formats)) (are_names format) (are_uris format) (has_repeat format.fields) (nat_lt (length formats) 64) (has_fields format)
+    no_cause (is_some (format_named format.prefix formats)) (are_names format) (are_uris format) (has_repeat format.fields) (nat_lt (length formats) 64) (has_few_fields format)
     ∙ ap (λ (b : Bool). not b && (is_allowed format && nat_lt (length formats) 64)) (is_some-format_named format.prefix formats)
 
 -- one format and those behind it, over the tests alone

@@ -10,9 +10,10 @@ use Rattle.oai_time.specs.declared.granularity.Granularity.{Granularity}
 use Rattle.oai_time.specs.declared.clock.TheConstants.{LAST_TICK}
 use Rattle.oai_item.specs.ShortTexts.{is_short_text}
 use Rattle.oai_item.specs.declared.formats.Format.{Format}
+use Rattle.oai_item.specs.declared.forms.Forms.{Forms}
 use Rattle.oai_item.specs.declared.deleted_record.DeletedRecord.{DeletedRecord}
 
--- what Identify returns of a repository (OAI-PMH 2.0, section 4.2), its limits, and its metadata formats
+-- what Identify returns of a repository (OAI-PMH 2.0, section 4.2), its limits, its metadata formats, and the forms that records may have
 pub record RepositoryConfig : Type 0 where
   pub base : List ℕ
   pub repository_name : List ℕ
@@ -25,6 +26,7 @@ pub record RepositoryConfig : Type 0 where
   pub lists : ℕ
   pub items : ℕ
   pub formats : List Format
+  pub forms : Forms
 
 -- a character of a repository's name: [a-z0-9-], this repository's own
 abbrev pub is_repository_byte : ℕ → Bool

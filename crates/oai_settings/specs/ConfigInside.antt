@@ -2,7 +2,7 @@
 use Rattle.oai_settings.specs.Config.{RepositoryConfig}
 use Rattle.oai_settings.specs.declared.config.RepoConfig.TheInside.{Inside}
 
--- what Identify returns of a repository, its limits, and its formats
+-- what Identify returns of a repository, its limits, its formats and their forms
 abbrev pub config_in : Inside → RepositoryConfig
 config_in c = record {
   base = c.base;
@@ -16,4 +16,5 @@ config_in c = record {
   lists = c.limits.lists;
   items = c.limits.items;
   formats = c.formats;
+  forms = c.forms;
 }

@@ -1,6 +1,6 @@
 -- The settings of a repository: what Identify returns of it (OAI-PMH 2.0, section 4.2), its formats and its limits; why
 -- they make no configuration, and the configuration that they make.
-use Rattle.std.specs.Prelude.{◌≡◌, ℕ, ℤ, Bool, true, false, ◌&&◌, not, nat_le, List, ◌∷◌, ◌++◌, map, length, codes, Option, Some, None, is_none, option_and_then, if◌then◌else◌, Result, Ok, Err}
+use Rattle.std.specs.Prelude.{◌≡◌, ℕ, ℤ, Bool, true, false, ◌&&◌, ◌==◌, not, nat_le, List, ◌∷◌, ◌++◌, map, length, codes, Option, Some, None, is_none, option_and_then, if◌then◌else◌, Result, Ok, Err}
 use Rattle.std.specs.List.{list_all}
 use Rattle.oai_names.specs.Names.{is_among, may_be_prefix}
 use Rattle.oai_time.specs.Bound.{bound_of}
@@ -12,6 +12,8 @@ use Rattle.oai_item.specs.Formats.{dublin_core}
 use Rattle.oai_item.specs.ShortTexts.{is_short_text}
 use Rattle.oai_item.specs.Rules.{has_repeat, is_allowed}
 use Rattle.oai_item.specs.declared.formats.Format.{Format}
+use Rattle.oai_item.specs.declared.forms.Forms.{Forms}
+use Rattle.oai_item.specs.declared.forms.Forms.TheVariants.{Fields, Elements}
 use Rattle.oai_settings.specs.declared.settings.FormatSettings.{FormatSettings}
 use Rattle.oai_settings.specs.declared.settings.Settings.{Settings}
 use Rattle.oai_settings.specs.declared.settings.ConfigFault.{ConfigFault}
@@ -44,6 +46,18 @@ are_new prefixes = not (is_among prefixes dublin_core.prefix) && not (has_repeat
 unfoldable pub are_formats : List FormatSettings → Bool
 are_formats settings =
     list_all is_good_format settings && are_new (prefixes_of settings) && nat_le (length settings) 63
+
+-- the format has fields; one that has none takes elements alone
+abbrev pub has_fields : FormatSettings → Bool
+has_fields s = not (length s.fields == 0)
+
+-- where records are lists of fields alone, each format has fields
+abbrev pub have_forms : Forms → List FormatSettings → Bool
+have_forms Fields settings = list_all has_fields settings
+have_forms Elements settings = true
+
+abbrev pub have_formats : Settings → Bool
+have_formats s = have_forms s.forms s.formats && are_formats s.formats
 
 -- the formats of a repository: oai_dc, and the described ones
 abbrev pub formats_of : List FormatSettings → List Format
@@ -85,7 +99,7 @@ unfoldable pub config_fault : Settings → Option ConfigFault
 config_fault s =
     if not (has_shape s) then Some BadShape
     else (if not (is_repository_name s.name) then Some BadName
-    else (if not (are_formats s.formats) then Some BadFormat
+    else (if not (have_formats s) then Some BadFormat
     else (if is_none (earliest_of s.granularity s.earliest) then Some BadDate
     else (if not (are_numbers s.chunk s.lifetime s.lists s.items) then Some BadNumber
     else None))))
@@ -105,6 +119,7 @@ pub record Configures (settings : Settings) (config : RepositoryConfig) : Type 0
   pub lists : settings.lists ≡ Some config.lists
   pub items : settings.items ≡ Some config.items
   pub formats : config.formats ≡ formats_of settings.formats
+  pub forms : config.forms ≡ settings.forms
 
 -- the result of making a configuration of the settings; out of memory is possible once shape and name are good
 abbrev pub IsConfigured : Settings → Result RepositoryConfig ConfigFault → Type 0

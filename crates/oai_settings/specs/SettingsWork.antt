@@ -65,6 +65,7 @@ config_with settings made = record {
   lists = made.limits.lists;
   items = made.limits.items;
   formats = made.formats;
+  forms = settings.forms;
 }
 
 -- with these parts the settings make the configuration; or they have the fault

@@ -6,7 +6,7 @@ ghost use Rattle.oai_settings.specs.Config.{IsConfig};
 ghost use Rattle.oai_settings.specs.Settings.{IsConfigured};
 
 use crate::settings::{ConfigFault, Settings};
-use oai_item::{DeletedRecord, Formats};
+use oai_item::{DeletedRecord, Formats, Forms};
 use oai_names::{Sequence, Text};
 use oai_time::Granularity;
 use parts::{Limits, made_of};
@@ -25,6 +25,7 @@ pub struct RepoConfig {
     granularity: Granularity,
     limits: Limits,
     formats: Formats,
+    forms: Forms,
 }
 
 impl Model for RepoConfig {
@@ -57,6 +58,7 @@ impl RepoConfig {
             granularity: settings.granularity,
             limits: made.limits,
             formats: made.formats,
+            forms: settings.forms,
         })
     }
 
@@ -139,6 +141,13 @@ impl RepoConfig {
         ensures valid { IsConfig self.now }
     {
         self.limits.items
+    }
+
+    /// Which forms records may have.
+    pub fn forms(&self) -> Forms
+        ensures { result ≡ self.now.forms }
+    {
+        self.forms
     }
 
     /// The metadata formats, oai_dc first.

@@ -5,7 +5,7 @@ ghost use Rattle.oai_item.specs.ShortTexts as short;
 ghost use Rattle.oai_settings.specs.Config as rule;
 ghost use Rattle.oai_settings.specs.Settings as spec;
 
-use oai_item::{DeletedRecord, is_short_text};
+use oai_item::{DeletedRecord, Forms, is_short_text};
 use oai_names::{Sequence, Text};
 use oai_time::Granularity;
 use std::alloc::AllocError;
@@ -29,7 +29,7 @@ pub struct FormatSettings {
     pub namespace: Text,
     /// The name of the element that holds the fields.
     pub root: Text,
-    /// The names of the fields that a record may have.
+    /// The names of the fields that a record may have; none, if its records are elements.
     pub fields: Sequence<Text>,
 }
 
@@ -62,6 +62,8 @@ pub struct Settings {
     pub items: Option<u64>,
     /// The metadata formats besides oai_dc: at most 63.
     pub formats: Sequence<FormatSettings>,
+    /// Which forms records may have. With `Fields` each format has fields.
+    pub forms: Forms,
 }
 
 /// Why settings make no configuration, in the order in which the causes are tested; `NoMemory` may come as soon as the
@@ -74,8 +76,8 @@ pub enum ConfigFault {
     /// The name in the base URL is not 1 to 32 of `a` to `z`, `0` to `9` and `-`. Number 3.
     BadName,
     /// A format's prefix does not have the syntax of a metadataPrefix and at most 64 bytes, or the format violates a
-    /// rule that `FormatFault` names; or a prefix occurs twice or is oai_dc; or there are more than 63 formats. Number
-    /// 5.
+    /// rule that `FormatFault` names; or a prefix occurs twice or is oai_dc; or there are more than 63 formats; or records
+    /// are lists of fields alone, and a format has none. Number 5.
     BadFormat,
     /// The earliestDatestamp is not written at exactly the granularity, is no date that exists, or is not in the years
     /// 0001 to 9998. Number 6.
@@ -153,6 +155,22 @@ fn are_short_texts(texts: &[Text]) -> bool
     ensures { result ≡ list_all short.is_short_text texts.now }
 {
     texts.iter().all(|text| is_short_text(text.as_str()))
+}
+
+/// Whether each format has fields, if records are lists of fields alone.
+pub(crate) fn have_forms(forms: Forms, formats: &[FormatSettings]) -> bool
+    ensures { result ≡ spec.have_forms forms formats.now }
+{
+    match forms {
+        Forms::Fields => have_fields(formats),
+        Forms::Elements => true,
+    }
+}
+
+fn have_fields(formats: &[FormatSettings]) -> bool
+    ensures { result ≡ list_all spec.has_fields formats.now }
+{
+    formats.iter().all(|format| !format.fields.is_empty())
 }
 
 /// Whether the text may be a repository's name in its base URL.

@@ -14,16 +14,21 @@ use crate::stop::Stop;
 use oai_catalogue::Versions;
 use oai_config::write_warnings;
 use oai_host::{Config, Host, ReadFault};
+use oai_item::Forms;
 use std::alloc::Global;
 use std::fs;
 use std::io::{ErrorKind, Read, Write};
 use std::rt::Files;
 
-/// The configuration in the file. The errors are `CannotRead`, also if the file does not end within 1,000,000 reads,
-/// `BadConfig` and `NoMemory`.
-pub fn read_config(rt: &(impl Files + AllocGlobal), path: &str) -> Result<Config, Stop> {
+/// The configuration in the file, of repositories whose records have these forms. The errors are `CannotRead`, also if
+/// the file does not end within 1,000,000 reads, `BadConfig` and `NoMemory`.
+pub fn read_config(
+    rt: &(impl Files + AllocGlobal),
+    forms: Forms,
+    path: &str,
+) -> Result<Config, Stop> {
     let text = read_file(rt, path)?;
-    config_in(rt.alloc(), &text)
+    config_in(rt.alloc(), forms, &text)
 }
 
 /// The bytes of the file. The errors are `CannotRead`, also if the file does not end within 1,000,000 reads, and
@@ -37,13 +42,13 @@ pub fn read_file(rt: &(impl Files + AllocGlobal), path: &str) -> Result<Vec<u8>,
     read_text(rt.alloc(), &mut file)
 }
 
-/// The configuration in the text. The errors are `BadConfig`, with the fault that `Config::read` returns, and
-/// `NoMemory`.
-pub fn config_in(alloc: Global, text: &[u8]) -> Result<Config, Stop>
-    ensures read { spec.IsConfigIn text.now result }
+/// The configuration in the text, of repositories whose records have these forms. The errors are `BadConfig`, with the
+/// fault that `Config::read` returns, and `NoMemory`.
+pub fn config_in(alloc: Global, forms: Forms, text: &[u8]) -> Result<Config, Stop>
+    ensures read { spec.IsConfigIn forms text.now result }
     ensures rules { IfOk result HaveRules }
 {
-    match Config::read(alloc, text) {
+    match Config::read(alloc, forms, text) {
         Ok(config) => {
             rules_law(&config);
             Ok(config)
@@ -55,12 +60,12 @@ pub fn config_in(alloc: Global, text: &[u8]) -> Result<Config, Stop>
 
 /// The warnings of the configuration in the text, each a line: what makes documents invalid, or is of no use to a
 /// harvester. The errors are `BadConfig`, with the fault that `Config::read` returns, and `NoMemory`.
-pub fn warnings_in(alloc: Global, text: &[u8]) -> Result<String, Stop>
-    ensures warnings { IfOk result (λ warnings. spec.AreWarningsIn text.now
+pub fn warnings_in(alloc: Global, forms: Forms, text: &[u8]) -> Result<String, Stop>
+    ensures warnings { IfOk result (λ warnings. spec.AreWarningsIn forms text.now
         (string_bytes warnings)) }
-    ensures err { IfErr result (λ stop. spec.IsConfigIn text.now (Err stop)) }
+    ensures err { IfErr result (λ stop. spec.IsConfigIn forms text.now (Err stop)) }
 {
-    let config = match config_in(alloc, text) {
+    let config = match config_in(alloc, forms, text) {
         Ok(config) => config,
         Err(stop) => return Err(stop),
     };
@@ -74,11 +79,16 @@ pub fn warnings_in(alloc: Global, text: &[u8]) -> Result<String, Stop>
 /// Checks the configuration in the text: writes `ok`, a space and the number of its repositories, as a line. The errors
 /// are `BadConfig`, with the fault that `Config::read` returns, and `NoMemory`, after which nothing was written, and
 /// `OutputFault`.
-pub fn check_config<W: Write>(alloc: Global, text: &[u8], writer: &mut W) -> Result<(), Stop>
-    ensures { spec.IsChecked text.now result
+pub fn check_config<W: Write>(
+    alloc: Global,
+    forms: Forms,
+    text: &[u8],
+    writer: &mut W,
+) -> Result<(), Stop>
+    ensures { spec.IsChecked forms text.now result
         (Appends (W.Write.contents writer.old) (W.Write.contents writer.new)) }
 {
-    match config_in(alloc, text) {
+    match config_in(alloc, forms, text) {
         Ok(config) => write_checked(config.len(), writer),
         Err(stop) => Err(stop),
     }

@@ -136,7 +136,7 @@ impl SetCounts {
         ensures { OnSome result ((q : List ℕ) → counted_in q self.new
             ≡ counted_in q self.old + (if bytes_eq q set.now then more else 0)) }
     {
-        match self.place_of(set.as_str()) {
+        match self.position_of(set.as_str()) {
             Some(at) => self.counts[at].add(more),
             None => {
                 if self.counts.len() >= MAX_COUNTED_SETS {
@@ -148,7 +148,7 @@ impl SetCounts {
     }
 
     /// The position of the set; None if it is not there.
-    fn place_of(&self, set: &str) -> Option<usize>
+    fn position_of(&self, set: &str) -> Option<usize>
         ensures { MatchOption result (lacks set.now self.now ≡ true) (IsFirstAt set.now self.now) }
     {
         for at in 0..self.counts.len() {
@@ -250,7 +250,7 @@ impl SetCounts {
         ensures counts { OnSome result (CountsMore (λ q. bytes_eq q set.now) self.old self.new) }
         ensures spans { OnSome result (SpansMore (λ q. bytes_eq q set.now) span self.old self.new) }
     {
-        match self.place_of(set) {
+        match self.position_of(set) {
             Some(at) => self.counts[at].add_one(span),
             None => {
                 if self.counts.len() >= MAX_COUNTED_SETS {

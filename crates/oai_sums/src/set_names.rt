@@ -72,7 +72,7 @@ impl SetNames {
     pub(crate) fn name(&mut self, set: &str) -> Option<SharedSetSpec>
         ensures { IfSome result (λ name. name ≡ set.now) }
     {
-        let at = self.place_of(set);
+        let at = self.position_of(set);
         if at < self.names.len() {
             let name = &self.names[at];
             if name.as_str() == set {
@@ -87,19 +87,9 @@ impl SetNames {
     }
 
     /// The position of the setSpec, or where it would be inserted; by binary search.
-    fn place_of(&self, set: &str) -> usize
+    fn position_of(&self, set: &str) -> usize
         ensures { result ≤ vec_len self.now.names }
     {
-        let mut low = 0;
-        let mut high = self.names.len();
-        while low < high {
-            let middle = low + (high - low) / 2;
-            if self.names[middle].as_str() < set {
-                low = middle + 1;
-            } else {
-                high = middle;
-            }
-        }
-        low
+        self.names.partition_point(|name| name.as_str() < set)
     }
 }

@@ -4,9 +4,10 @@ use Rattle.std.specs.Prelude.{codes}
 use Rattle.std.specs.List.{list_all, flat_map}
 use Rattle.std.specs.Result.{result_ok}
 use Rattle.std.specs.Str.{chars, is_utf8}
-use Rattle.std.proofs.lemmas.Bool.{and_from, and_parts, and_left, not-true, cond-true, cond-false, eq-eqb}
+use Rattle.std.proofs.lemmas.Bool.{and_from, and_parts, and_left, not-true, cond-true, cond-false, eq-eqb, false≢true}
 use Rattle.std.proofs.lemmas.Bool.Decides.{nat_tests}
 use Rattle.std.proofs.lemmas.List.{take_all, append_cancel_left}
+use Rattle.std.proofs.lemmas.Slice.Eq.{bytes_eq-Decides}
 use Rattle.std.proofs.lemmas.Str.{IsUtf8-from_is_utf8, is_utf8-from_IsUtf8}
 use Rattle.oai_names.specs.Characters.{is_xml_text}
 use Rattle.oai_names.specs.Escapes.{escaped, escaped_attribute, attribute_spelling, text_spelling}
@@ -18,7 +19,7 @@ use Rattle.oai_xml.specs.Trees.{Attribute, Content, Tree, nothing, byte, element
 use Rattle.oai_xml.specs.Namespaces.{Scope}
 use Rattle.oai_xml.specs.Whole.{names_of, within, is_content_whole, is_whole, SpellsTree, IsElement}
 use Rattle.oai_xml.specs.Contents.{element_in, content_in}
-use Rattle.oai_xml.specs.Documents.{begins_spaces, opening_in, misc_in, root_in, prolog_in, tail_in, document_in, legal_len, legal_front, lines, normalized, place_of, with_fault_place, is_spelled_text, accepted_tree, element_of, canonical, tree_in}
+use Rattle.oai_xml.specs.Documents.{begins_spaces, opening_in, misc_in, root_in, prolog_in, tail_in, document_in, legal_len, legal_front, lines, normalized, place_of, with_fault_place, is_spelled_text, accepted_tree, element_of, canonical, tree_in, is_read_as, is_canonical}
 use Rattle.oai_xml.specs.declared.limits.TheConstants.{MAX_DEPTH}
 use Rattle.oai_xml.proofs.TagBacks.{begun_apart, named}
 use Rattle.oai_xml.proofs.ContentBacks.{Whole, tag_parts, tree_parts, content_parts, byte_part, behind_tag, spelled_text, tree_back}
@@ -252,3 +253,17 @@ canonical_tree text e is =
     let same = same_ok (spelled r.0) e r.2 in
     let spells = subst (λ w. SpellsTree w r.0) same s in
     (r.0, ap result_ok r.1, spells, tree_again e r.0 spells)
+
+-- ---- the test
+
+read_as : (text : List ℕ) (r : Result (List ℕ) ℕ) → is_read_as text r ≡ true → r ≡ Ok text
+read_as text (Ok bytes) is = ap (λ (w : List ℕ). Ok w) ((bytes_eq-Decides bytes text).0 is)
+read_as text (Err offset) is = absurd (false≢true is)
+
+pub element_tested : (e : List ℕ) → is_canonical e ≡ true → IsElement e
+unfolding is_canonical
+element_tested e is = let t = canonical_tree e e (read_as e (canonical e) is) in (t.0, t.2)
+
+pub element_found : (e : List ℕ) → IsElement e → is_canonical e ≡ true
+unfolding is_canonical
+element_found e is = ap (is_read_as e) (canonical_again e is) ∙ (bytes_eq-Decides e e).1 refl

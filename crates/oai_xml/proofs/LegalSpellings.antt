@@ -163,7 +163,7 @@ one_escaped spell so c is legal = by_size (nat_lt c 128) refl
 
 -- ---- texts, escaped
 
-nothing_legal : Legal []
+pub nothing_legal : Legal []
 nothing_legal = plain [] refl
 
 characters_escaped : (spell : ℕ → List ℕ) → IsSpelling spell → (cs : List ℕ) → scalars cs ≡ true → list_all is_xml_char cs ≡ true → Legal (flat_map spell (encodes cs))
@@ -194,13 +194,13 @@ attributes_legal (a ∷ attributes) all =
     let parts = and_parts (is_legal_attribute a) (list_all is_legal_attribute attributes) all in
     both (spelled_attribute a) (flat_map spelled_attribute attributes) (attribute_legal a parts.0) (attributes_legal attributes parts.1)
 
-start_legal : (name : List ℕ) (attributes : List Attribute) → is_legal_tag name attributes ≡ true → Legal (start_tag name attributes)
+pub start_legal : (name : List ℕ) (attributes : List Attribute) → is_legal_tag name attributes ≡ true → Legal (start_tag name attributes)
 unfolding start_tag
 start_legal name attributes is =
     let parts = and_parts (is_legal_text name) (list_all is_legal_attribute attributes) is in
     both (60 ∷ []) _ (plain (60 ∷ []) refl) (both name _ (legal name parts.0) (both (flat_map spelled_attribute attributes) (62 ∷ []) (attributes_legal attributes parts.1) (plain (62 ∷ []) refl)))
 
-end_legal : (name : List ℕ) (attributes : List Attribute) → is_legal_tag name attributes ≡ true → Legal (end_tag name)
+pub end_legal : (name : List ℕ) (attributes : List Attribute) → is_legal_tag name attributes ≡ true → Legal (end_tag name)
 unfolding end_tag
 end_legal name attributes is =
     both (60 ∷ 47 ∷ []) _ (plain (60 ∷ 47 ∷ []) refl) (both name (62 ∷ []) (legal name (and_parts (is_legal_text name) (list_all is_legal_attribute attributes) is).0) (plain (62 ∷ []) refl))

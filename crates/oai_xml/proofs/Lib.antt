@@ -19,3 +19,4 @@ pub mod LegalLemmas
 pub mod DocumentLemmas
 pub mod RootLemmas
 pub mod LegalSpellings
+pub mod TreeCuts

@@ -4,7 +4,7 @@ use Rattle.std.specs.Prelude.{ℕ, zero, suc, Bool, true, false, ◌==◌, ◌||
 use Rattle.std.specs.List.{prefix_len}
 use Rattle.std.specs.Result.{result_ok}
 use Rattle.std.specs.Char.{is_ascii_digit, len_utf8}
-use Rattle.std.specs.Str.{chars, is_utf8, str_eq_ignore_ascii_case}
+use Rattle.std.specs.Str.{bytes_eq, chars, is_utf8, str_eq_ignore_ascii_case}
 use Rattle.oai_names.specs.Characters.{is_xml_char, is_xml_text}
 use Rattle.oai_xml.specs.Trees.{Tree, spelled}
 use Rattle.oai_xml.specs.Readings.{Reading, Passing, ◌>>=◌, read, begins, behind, past}
@@ -153,3 +153,12 @@ canonical text = element_of text >>= λ tree. Ok (spelled tree)
 -- the tree of a text, if it is one
 unfoldable pub tree_in : List ℕ → Option Tree
 tree_in text = result_ok (element_of text)
+
+-- the reading is a canonical text, and it is this text
+abbrev pub is_read_as : List ℕ → Result (List ℕ) ℕ → Bool
+is_read_as text (Ok element) = bytes_eq element text
+is_read_as text (Err offset) = false
+
+-- `IsElement` as a test: the text is its own canonical text
+unfoldable pub is_canonical : List ℕ → Bool
+is_canonical text = is_read_as text (canonical text)

@@ -1,11 +1,12 @@
 ghost use Rattle.std.specs.Prelude.{◌≡◌, ◌++◌, ◌-◌, ℕ, List, [], true, IfOk};
+ghost use Rattle.oai_xml.specs.Documents as spec;
 ghost use Rattle.oai_xml.specs.Reads.{IsAtSamePlace, IsCanonicalResult, IsFaultOf, IsFrontRead, IsTakenAsElement};
 
 use crate::documents::document;
 use crate::faults::{ParseStop, XmlCause, XmlFault};
 use crate::lines::{normalized, origin};
 use crate::places::legal_len;
-use oai_names::is_xml_text;
+use oai_names::{Text, is_xml_text};
 use std::alloc::{AllocError, Global};
 use std::marker::Model;
 
@@ -46,6 +47,14 @@ impl ElementText {
         self.text.as_str()
     }
 
+    /// The canonical text, owned. Allocates nothing.
+    pub fn into_text(self) -> Text
+        ensures { result ≡ self }
+    {
+        let ElementText { text } = self;
+        Text::from_string(text)
+    }
+
     /// An equal element. The error is out of memory.
     pub fn copy(&self, alloc: Global) -> Result<ElementText, AllocError>
         ensures { IfOk result (λ copy. copy ≡ self.now) }
@@ -53,6 +62,18 @@ impl ElementText {
         Ok(ElementText {
             text: String::from_str(alloc, self.as_str())?,
         })
+    }
+}
+
+/// Whether the text is an element: its own canonical text. It is read and compared. The error is out of memory.
+#[tactic(auto, unfolding(crate::specs::Documents::is_canonical))]
+pub fn is_canonical(alloc: Global, text: &str) -> Result<bool, AllocError>
+    ensures { IfOk result (λ is. is ≡ spec.is_canonical text.now) }
+{
+    match ElementText::read(alloc, text) {
+        Ok(element) => Ok(element.as_str() == text),
+        Err(XmlFault::Refused { .. }) => Ok(false),
+        Err(XmlFault::NoMemory) => Err(AllocError),
     }
 }
 

@@ -1,5 +1,5 @@
 ghost use Rattle.std.specs.Prelude.{◌≡◌, ◌++◌, ℕ, List, true, Ok, Err, Some};
-ghost use Rattle.oai_xml.specs.Documents.{canonical, tree_in};
+ghost use Rattle.oai_xml.specs.Documents.{canonical, is_canonical, tree_in};
 ghost use Rattle.oai_xml.specs.LegalTexts.{is_legal_text, is_legal_tree};
 ghost use Rattle.oai_xml.specs.Trees.{Tree, spelled};
 ghost use Rattle.oai_xml.specs.Whole.{IsElement, SpellsTree, is_whole};
@@ -15,12 +15,15 @@ pub fn spelling_law()
 {}
 
 /// What reading gives. The canonical text of a text is an element: the spelling of the text's tree, and that tree is its own. A
-/// text that is an element is its own canonical text, so a text with a fault is none. A theorem, proved by an empty function.
+/// text that is an element is its own canonical text, so a text with a fault is none, and `is_canonical` tests it. A theorem,
+/// proved by an empty function.
 pub fn canonical_law()
     ensures element { (text e : List ℕ) → canonical text ≡ Ok e → IsElement e }
     ensures tree { (text e : List ℕ) → canonical text ≡ Ok e
         → (t : Tree) × (tree_in text ≡ Some t) × SpellsTree e t × (tree_in e ≡ Some t) }
     ensures again { (e : List ℕ) → IsElement e → canonical e ≡ Ok e }
+    ensures tested { (e : List ℕ) → is_canonical e ≡ true → IsElement e }
+    ensures found { (e : List ℕ) → IsElement e → is_canonical e ≡ true }
     ensures faulty { (text : List ℕ) (offset : ℕ) → canonical text ≡ Err offset → ¬ (IsElement text) }
 {}
 

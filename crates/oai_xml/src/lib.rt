@@ -24,8 +24,9 @@ mod spaces;
 mod tags;
 mod values;
 
-pub use element_texts::ElementText;
+pub use element_texts::{ElementText, is_canonical};
 pub use faults::{XmlCause, XmlFault};
 pub use laws::{canonical_law, legal_law, spelling_law};
 pub use limits::{MAX_ATTRIBUTES, MAX_DECLARATIONS, MAX_DEPTH, limit_law};
+pub use names::local_of;
 pub use roots::Root;

@@ -106,7 +106,7 @@ pub(crate) fn prefix_of(name: &[u8]) -> &[u8]
 
 /// What stands behind its first colon, or the whole name.
 #[tactic(auto, unfolding(crate::specs::QNames::local_of))]
-pub(crate) fn local_of(name: &[u8]) -> &[u8]
+pub fn local_of(name: &[u8]) -> &[u8]
     ensures { result.now ≡ spec.local_of name.now }
 {
     let at = colon(name);

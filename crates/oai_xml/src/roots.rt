@@ -3,7 +3,6 @@ ghost use Rattle.oai_xml.specs.Roots.{IsRootOf, root_of};
 ghost use Rattle.oai_xml.specs.Trees.{Tree};
 ghost use Rattle.oai_xml.specs.Whole.{SpellsTree};
 
-use crate::element_texts::ElementText;
 use crate::faults::{ParseStop, XmlCause};
 use crate::literals::past;
 use crate::names::local_of;
@@ -28,11 +27,12 @@ impl Model for Root {
 }
 
 impl Root {
-    /// The root of an element. The error is out of memory.
-    pub fn of(alloc: Global, element: &ElementText) -> Result<Root, AllocError>
+    /// The root of the element that the text is, by its first tag; of a text that is no element nothing is promised. The error
+    /// is out of memory.
+    pub fn of(alloc: Global, element: &str) -> Result<Root, AllocError>
         ensures { (t : Tree) → SpellsTree element.now t → IfOk result (λ root. root ≡ root_of t) }
     {
-        match read_root(alloc, element.as_str().as_bytes()) {
+        match read_root(alloc, element.as_bytes()) {
             Ok(root) => Ok(root),
             Err(_stop) => Err(AllocError),
         }

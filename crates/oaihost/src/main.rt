@@ -9,6 +9,7 @@ use oai_bytes::read_number;
 use oai_cli::{MAX_CONNECTIONS, ask_lines, serve_port, trace_lines};
 use oai_device::{FileDevice, MemoryDevice};
 use oai_front::Front;
+use oai_item::Forms;
 use oai_startup::{Stop, check_config, empty_file, host_on, read_config, read_file, warnings_in};
 use std::env;
 use std::fs::File;
@@ -107,8 +108,8 @@ fn command_named(word: &str, path: String) -> Result<Command, Stop> {
 /// invalid, or is of no use to a harvester. A warning that cannot be written ends nothing.
 fn run_check(rt: &(impl Files + Print + Eprint + AllocGlobal), path: &str) -> Result<(), Stop> {
     let text = read_file(rt, path)?;
-    check_config(rt.alloc(), &text, &mut io::writer(rt))?;
-    if let Ok(warnings) = warnings_in(rt.alloc(), &text) {
+    check_config(rt.alloc(), Forms::Fields, &text, &mut io::writer(rt))?;
+    if let Ok(warnings) = warnings_in(rt.alloc(), Forms::Fields, &text) {
         let _ = eprint!(rt; "{warnings}");
     }
     Ok(())
@@ -117,7 +118,7 @@ fn run_check(rt: &(impl Files + Print + Eprint + AllocGlobal), path: &str) -> Re
 /// Performs the exchanges of standard input on the repositories of the configuration.
 fn run_ask(rt: &(impl Files + Input + Print + AllocGlobal), path: &str) -> Result<(), Stop> {
     let alloc = rt.alloc();
-    let config = read_config(rt, path)?;
+    let config = read_config(rt, Forms::Fields, path)?;
     let mut host = host_on(alloc, config, MemoryDevice::new(alloc))?;
     let Ok(mut writer) = BufWriter::new(alloc, io::writer(rt)) else {
         return Err(Stop::NoMemory);
@@ -129,7 +130,7 @@ fn run_ask(rt: &(impl Files + Input + Print + AllocGlobal), path: &str) -> Resul
 /// configuration.
 fn run_trace(rt: &(impl Files + Input + Print + AllocGlobal), path: &str) -> Result<(), Stop> {
     let alloc = rt.alloc();
-    let config = read_config(rt, path)?;
+    let config = read_config(rt, Forms::Fields, path)?;
     let host = host_on(alloc, config, MemoryDevice::new(alloc))?;
     let mut front = Front::new(alloc, host, MAX_CONNECTIONS);
     let Ok(mut writer) = BufWriter::new(alloc, io::writer(rt)) else {
@@ -148,7 +149,7 @@ fn run_serve(
     connections: u64,
 ) -> Result<(), Stop> {
     let alloc = rt.alloc();
-    let config = read_config(rt, path)?;
+    let config = read_config(rt, Forms::Fields, path)?;
     let device = FileDevice::new(empty_file(rt, spill)?);
     let host = host_on(alloc, config, device)?;
     let mut front = Front::new(alloc, host, 1);

@@ -1,6 +1,7 @@
 //! The check of a configuration, and of a file of deposit lines for one of its repositories.
 use crate::configurations::{Failure, read_checked};
 use oai_config::{Config, NamedConfig};
+use oai_item::Forms;
 use oai_reports::LineFile;
 use oai_startup::{Stop, check_config, config_in, read_file, warnings_in};
 use std::io;
@@ -14,8 +15,8 @@ pub(crate) fn run_check(
     repository: Option<&str>,
 ) -> Result<(), Failure> {
     let text = read_checked(rt, path)?;
-    check_config(rt.alloc(), &text, &mut io::writer(rt))?;
-    if let Ok(warnings) = warnings_in(rt.alloc(), &text) {
+    check_config(rt.alloc(), Forms::Elements, &text, &mut io::writer(rt))?;
+    if let Ok(warnings) = warnings_in(rt.alloc(), Forms::Elements, &text) {
         let _ = eprint!(rt; "{warnings}");
     }
     match lines {
@@ -31,7 +32,7 @@ fn check_lines(
     path: &str,
     repository: Option<&str>,
 ) -> Result<(), Failure> {
-    let config = config_in(rt.alloc(), text)?;
+    let config = config_in(rt.alloc(), Forms::Elements, text)?;
     let Some(named) = named_in(&config, repository) else {
         return Err(Failure::NoRepository);
     };

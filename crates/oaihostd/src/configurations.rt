@@ -1,6 +1,8 @@
 //! The configuration that a command is called with, and why a command ends.
 use oai_archive::ServerStop;
 use oai_config::ReadFault;
+use oai_item::Forms;
+use oai_keys::KeysFault;
 use oai_startup::{Stop, config_in, read_file};
 use std::rt::Files;
 
@@ -11,6 +13,10 @@ pub(crate) enum Failure {
     Stop(ServerStop),
     /// The configuration in the text has that fault.
     Config(ReadFault, Vec<u8>),
+    /// The keys in the text have that fault, which is not out of memory.
+    Keys(KeysFault),
+    /// The file of the keys cannot be read.
+    NoKeys,
     /// The configuration has no repository of that name.
     NoRepository,
     /// The file of the lines cannot be read.
@@ -27,19 +33,28 @@ impl From<ServerStop> for Failure {
     }
 }
 
+impl From<KeysFault> for Failure {
+    fn from(fault: KeysFault) -> Failure {
+        match fault {
+            KeysFault::NoMemory => Failure::from(Stop::NoMemory),
+            fault => Failure::Keys(fault),
+        }
+    }
+}
+
 impl From<Stop> for Failure {
     fn from(stop: Stop) -> Failure {
         Failure::Stop(ServerStop::Common(stop))
     }
 }
 
-/// The bytes of the file, which are a configuration.
+/// The bytes of the file, which are a configuration of repositories whose records may be elements.
 pub(crate) fn read_checked(
     rt: &(impl Files + AllocGlobal),
     path: &str,
 ) -> Result<Vec<u8>, Failure> {
     let text = read_file(rt, path)?;
-    match config_in(rt.alloc(), &text) {
+    match config_in(rt.alloc(), Forms::Elements, &text) {
         Ok(_) => Ok(text),
         Err(Stop::BadConfig(fault)) => Err(Failure::Config(fault, text)),
         Err(stop) => Err(Failure::from(stop)),

@@ -4,25 +4,28 @@
 ghost use Rattle.std.specs.Prelude.{◌≡◌, IfOk};
 ghost use Rattle.std.specs.Process.{exit_status};
 ghost use Rattle.oai_archive.specs.Stops as spec;
+ghost use Rattle.oaihostd.specs.Statuses as status;
 
 mod checks;
 mod configurations;
 mod elements;
+mod keys;
 
 use checks::run_check;
 use clap::Error;
 use configurations::{Failure, read_checked};
 use elements::run_xml;
+use keys::{read_rings, run_keys};
 use oai_archive::{ReadFile, ServerStop, VERSION, dump_repository, verify_journal};
 use oai_arguments::{Called, Serving, read_arguments};
-use oai_daemon::{Ended, HostPlace, checkpoint_folder, serve};
+use oai_daemon::{HostPlace, checkpoint_folder, outcome_of, serve};
 use oai_reports::report_of;
 use oai_startup::Stop;
 use sqlite_std_file::Wary;
 use std::env;
+use std::fmt::Display;
 use std::fs::File;
 use std::io::{self, BufWriter, ErrorKind};
-use std::net::IpAddr;
 use std::process::ExitCode;
 use std::rt::{Env, Files};
 
@@ -67,6 +70,7 @@ fn run(rt: &HostRuntime, called: Called<'_>) -> Result<(), Failure> {
             lines,
             repository,
         } => run_check(rt, config, lines, repository),
+        Called::Keys { config, keys } => run_keys(rt, config, keys),
         Called::Verify(folder) => Ok(run_verify(rt, folder)?),
         Called::Dump { folder, name } => Ok(run_dump(rt, folder, name)?),
         Called::Checkpoint {
@@ -78,32 +82,32 @@ fn run(rt: &HostRuntime, called: Called<'_>) -> Result<(), Failure> {
     }
 }
 
-/// Serves the configuration in the file on the port, with the journal in the folder.
+/// Serves the configuration in the file on the port, with the journal in the folder, and behind the keys in a file.
 fn run_serve(rt: &HostRuntime, serving: Serving<'_>) -> Result<(), Failure> {
     let text = read_checked(rt, serving.config)?;
-    warn_of(rt, serving.address);
+    let rings = read_rings(rt, serving.keys, &text)?;
+    warn_of(rt, &serving);
     let mut place = HostPlace::new(rt, serving.folder, serving.port, Wary)
         .listening_at(serving.address)
         .quiet(serving.is_quiet);
-    Ok(outcome_of(serve(rt.alloc(), &mut place, rt, &text))?)
+    Ok(outcome_of(serve(rt.alloc(), &mut place, rt, &text, rings))?)
 }
 
 /// Warns of an address that other machines may reach.
-fn warn_of(rt: &impl Eprint, address: IpAddr) {
-    if !address.is_loopback() {
-        let _ = eprintln!(rt;
-            "warning: {address} is no loopback address: whoever reaches it can change the archive"
-        );
+fn warn_of(rt: &impl Eprint, serving: &Serving<'_>) {
+    if serving.address.is_loopback() {
+        return;
     }
+    let (address, why) = (serving.address, why_not(serving.keys.is_some()));
+    let _ = eprintln!(rt; "warning: {address} is no loopback address: {why}");
 }
 
-/// Why the program stops, where its service ended, or did not begin.
-fn outcome_of<S: Drop, K: Drop, H: Drop>(
-    ended: Result<Ended<S, K, H>, ServerStop>,
-) -> Result<(), ServerStop> {
-    match ended {
-        Ok(ended) => ended.outcome(),
-        Err(stop) => Err(stop),
+/// What is wrong with such an address, with keys or without.
+fn why_not(has_keys: bool) -> &'static str {
+    if has_keys {
+        "keys reach it unencrypted"
+    } else {
+        "whoever reaches it can change the archive"
     }
 }
 
@@ -158,7 +162,9 @@ fn run_checkpoint(
 
 /// Ends with the status of what was done, and writes to standard error why it was not. If that fails, its status still
 /// shows it.
-fn exit_of(rt: &(impl Eprint + AllocGlobal), done: Result<(), Failure>) -> ExitCode {
+fn exit_of(rt: &(impl Eprint + AllocGlobal), done: Result<(), Failure>) -> ExitCode
+    ensures { exit_status result ≡ status.command_status done }
+{
     match done {
         Ok(()) => ExitCode::SUCCESS,
         Err(Failure::Stop(stop)) => stopped(rt, stop),
@@ -170,6 +176,8 @@ fn exit_of(rt: &(impl Eprint + AllocGlobal), done: Result<(), Failure>) -> ExitC
             let _ = eprint!(rt; "{report}");
             ExitCode::from(Stop::BadConfig(fault).status())
         }
+        Err(Failure::Keys(fault)) => misused(rt, fault),
+        Err(Failure::NoKeys) => misused(rt, "keys: cannot read"),
         Err(Failure::NoRepository) => misused(rt, "check: no such repository"),
         Err(Failure::NoLines) => misused(rt, "lines: cannot read"),
         Err(Failure::NoElement) => misused(rt, "xml: cannot read"),
@@ -177,8 +185,10 @@ fn exit_of(rt: &(impl Eprint + AllocGlobal), done: Result<(), Failure>) -> ExitC
     }
 }
 
-/// Writes to standard error what is wrong with an argument.
-fn misused(rt: &impl Eprint, message: &str) -> ExitCode {
+/// Writes to standard error what is wrong with an argument, or with the file that it names.
+fn misused(rt: &impl Eprint, message: impl Display + Drop) -> ExitCode
+    ensures { exit_status result ≡ 2 }
+{
     let _ = eprintln!(rt; "{message}");
     ExitCode::from(2)
 }

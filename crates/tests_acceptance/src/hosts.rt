@@ -1,9 +1,11 @@
-//! Hosts of the worked configuration over the stores that scripts name, and what they answer.
+//! Hosts of the worked configuration, and of one whose records may be elements, over the stores that scripts name, and what they
+//! answer.
 use crate::scripts::{Script, Way};
 use oai_catalogue::{PlainVersions, Versions};
 use oai_cli::ask_lines;
 use oai_device::MemoryDevice;
 use oai_host::{Config, Host};
+use oai_item::Forms;
 use oai_startup::host_on;
 use std::alloc::Global;
 use std::io::{self, Write};
@@ -26,6 +28,8 @@ pub(crate) fn answers_over(
     match store {
         "lists" => over(alloc, PlainVersions::new(alloc), way, lines, out),
         "pages" => over_pages(alloc, number, way, lines, out),
+        "element-lists" => over_element_lists(alloc, way, lines, out),
+        "element-pages" => over_element_pages(alloc, way, lines, out),
         "failing" => over_failing(alloc, count, way, lines, out),
         "refusing" => over_refusing(alloc, count, way, lines, out),
         "without-memory" => over_cramped(alloc, count, Want::Memory, lines, out),
@@ -45,7 +49,56 @@ fn over_pages(
 ) -> io::Result<()> {
     let told = format!(in alloc; "\"cache\":{cache},")?;
     let text = worked_configuration().replace(alloc, "\"cache\":1,", told.as_str())?;
-    let Ok(config) = Config::read(alloc, text.as_bytes()) else {
+    let Ok(config) = Config::read(alloc, Forms::Fields, text.as_bytes()) else {
+        return out.write_all(b"no configuration\n");
+    };
+    match host_on(alloc, config, MemoryDevice::new(alloc)) {
+        Ok(mut host) => perform_by_way(alloc, &mut host, way, lines, out),
+        Err(_) => out.write_all(b"no host\n"),
+    }
+}
+
+/// A configuration of one repository, whose records may be elements: those of seven formats are, and those of articles of a journal
+/// may be lists of fields.
+fn element_configuration() -> &'static str {
+    r#"{"base":"http://host.example","cache":1,"repositories":[
+{"name":"a","repositoryName":"Archive A","adminEmail":["a@host.example"],
+ "earliestDatestamp":"2024-01-01T00:00:00Z","deletedRecord":"persistent",
+ "granularity":"seconds","chunk":2,"lifetime":60,"lists":1,"items":1000,"formats":[
+{"prefix":"marc21","schema":"http://www.loc.gov/standards/marcxml/schema/MARC21slim.xsd",
+ "namespace":"http://www.loc.gov/MARC21/slim","root":"record"},
+{"prefix":"datacite","schema":"http://schema.datacite.org/meta/kernel-4/metadata.xsd",
+ "namespace":"http://datacite.org/schema/kernel-4","root":"resource"},
+{"prefix":"mods","schema":"http://www.loc.gov/standards/mods/v3/mods-3-7.xsd",
+ "namespace":"http://www.loc.gov/mods/v3","root":"mods"},
+{"prefix":"edm","schema":"http://www.europeana.eu/schemas/edm/EDM.xsd",
+ "namespace":"http://www.w3.org/1999/02/22-rdf-syntax-ns#","root":"RDF"},
+{"prefix":"mets","schema":"http://www.loc.gov/standards/mets/mets.xsd",
+ "namespace":"http://www.loc.gov/METS/","root":"mets"},
+{"prefix":"jats","schema":"https://jats.nlm.nih.gov/archiving/1.3/xsd/JATS-archivearticle1-3.xsd",
+ "namespace":"https://jats.nlm.nih.gov/ns/archiving/1.3/","root":"article"},
+{"prefix":"tei","schema":"http://www.tei-c.org/release/xml/tei/custom/schema/xsd/tei_all.xsd",
+ "namespace":"http://www.tei-c.org/ns/1.0","root":"TEI"},
+{"prefix":"jnl","schema":"http://host.example/jnl.xsd",
+ "namespace":"http://host.example/jnl/","root":"article","fields":["volume","pages"]}]}]}"#
+}
+
+/// The same by a host of that configuration, over lists.
+fn over_element_lists(alloc: Global, way: Way, lines: &str, out: &mut Vec<u8>) -> io::Result<()> {
+    let text = element_configuration().as_bytes();
+    let Ok(config) = Config::read(alloc, Forms::Elements, text) else {
+        return out.write_all(b"no configuration\n");
+    };
+    match Host::new(alloc, config, PlainVersions::new(alloc)) {
+        Ok(mut host) => perform_by_way(alloc, &mut host, way, lines, out),
+        Err(fault) => writeln!(out, "no host: {fault}"),
+    }
+}
+
+/// The same over pages in memory.
+fn over_element_pages(alloc: Global, way: Way, lines: &str, out: &mut Vec<u8>) -> io::Result<()> {
+    let text = element_configuration().as_bytes();
+    let Ok(config) = Config::read(alloc, Forms::Elements, text) else {
         return out.write_all(b"no configuration\n");
     };
     match host_on(alloc, config, MemoryDevice::new(alloc)) {
@@ -125,7 +178,7 @@ fn over<V: Versions + Drop>(
     lines: &str,
     out: &mut Vec<u8>,
 ) -> io::Result<()> {
-    let Ok(config) = Config::read(alloc, worked_configuration().as_bytes()) else {
+    let Ok(config) = Config::read(alloc, Forms::Fields, worked_configuration().as_bytes()) else {
         return out.write_all(b"no configuration\n");
     };
     match Host::new(alloc, config, store) {

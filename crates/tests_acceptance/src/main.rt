@@ -1,5 +1,5 @@
-//! `tests_acceptance`: exchanges with the host of the worked configuration, as scripts in `data`, over lists, over pages, and over
-//! stores of which a call fails. `stdout` has the answers that are wanted, typed from the standards and the descriptions: it is
+//! `tests_acceptance`: exchanges with the host of the worked configuration, and with one whose records may be elements, as scripts in
+//! `data`, over lists, over pages, and over stores of which a call fails. `stdout` has the answers that are wanted, typed from the standards and the descriptions: it is
 //! compared with what the program prints, and each line of an answer begins with the name of its script.
 #![tactic(auto)]
 
@@ -24,6 +24,7 @@ fn main(rt: HostRuntime) -> io::Result<()> {
         "deposits.txt",
         "refusals.txt",
         "failures.txt",
+        "elements.txt",
     ] {
         perform_file(&rt, path)?;
     }

@@ -4,6 +4,7 @@ use oai_catalogue::PlainVersions;
 use oai_cli::ask_lines;
 use oai_device::MemoryDevice;
 use oai_host::Config;
+use oai_item::Forms;
 use oai_startup::{Stop, config_in, host_on, host_over};
 use std::alloc::Global;
 use std::io::{Read, Write};
@@ -13,7 +14,7 @@ use tests_fixtures::worked_configuration;
 
 /// The worked configuration.
 pub(crate) fn config(rt: &impl Abort, alloc: Global) -> Config {
-    config_in(alloc, worked_configuration().as_bytes()).expect(rt, "config_in")
+    config_in(alloc, Forms::Fields, worked_configuration().as_bytes()).expect(rt, "config_in")
 }
 
 /// Performs the lines that the reader gives on a new host over pages in memory, as the program does; why that

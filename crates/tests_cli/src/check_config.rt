@@ -2,6 +2,7 @@
 use crate::assertions::{assert_same, assert_shown};
 use crate::failing_streams::FailingWriter;
 use crate::inputs::CountingWriter;
+use oai_item::Forms;
 use oai_startup::{Stop, check_config};
 use std::alloc::Global;
 use std::panic::Expect;
@@ -35,7 +36,7 @@ fn with_no_chunk(rt: &impl Abort, alloc: Global, text: &str) -> String {
 /// Checking the text stops: that is reported, the status is 2, and nothing is written.
 fn assert_refused(rt: &impl Abort, alloc: Global, text: &str, wanted: &str) {
     let mut output = Vec::new(alloc);
-    let Err(stop) = check_config(alloc, text.as_bytes(), &mut output) else {
+    let Err(stop) = check_config(alloc, Forms::Fields, text.as_bytes(), &mut output) else {
         panic!(rt; "not refused: {wanted}")
     };
     assert_shown(rt, alloc, stop, wanted);
@@ -46,10 +47,25 @@ fn assert_refused(rt: &impl Abort, alloc: Global, text: &str, wanted: &str) {
 #[test]
 fn number_of_repositories(rt: HostRuntime) {
     let mut output = Vec::new(rt.alloc());
-    check_config(rt.alloc(), worked_configuration().as_bytes(), &mut output).expect(
-        &rt,
-        "check_config",
-    );
+    check_config(
+        rt.alloc(),
+        Forms::Fields,
+        worked_configuration().as_bytes(),
+        &mut output,
+    )
+    .expect(&rt, "check_config");
+    assert_same(&rt, output.as_slice(), b"ok 3\n".as_slice());
+}
+
+/// A format without fields is none of lists of fields alone, and is one where records may be elements.
+#[test]
+fn format_without_fields(rt: HostRuntime) {
+    let alloc = rt.alloc();
+    let fields = r#","fields":["volume","pages"]"#;
+    let text = changed(&rt, alloc, worked_configuration(), fields, "");
+    assert_refused(&rt, alloc, text.as_str(), "config: 2 BadShape");
+    let mut output = Vec::new(alloc);
+    check_config(alloc, Forms::Elements, text.as_bytes(), &mut output).expect(&rt, "check_config");
     assert_same(&rt, output.as_slice(), b"ok 3\n".as_slice());
 }
 
@@ -77,7 +93,12 @@ fn lower_fault_of_two(rt: HostRuntime) {
 #[test]
 fn output_fails_in_mid_line(rt: HostRuntime) {
     let mut writer = FailingWriter { room: 4 };
-    let checked = check_config(rt.alloc(), worked_configuration().as_bytes(), &mut writer);
+    let checked = check_config(
+        rt.alloc(),
+        Forms::Fields,
+        worked_configuration().as_bytes(),
+        &mut writer,
+    );
     assert_same(&rt, checked, Err(Stop::OutputFault));
     assert_same(&rt, writer.room, 0);
 }
@@ -90,7 +111,12 @@ fn flush_fails(rt: HostRuntime) {
         writes: 100,
         flushes: false,
     };
-    let checked = check_config(rt.alloc(), worked_configuration().as_bytes(), &mut writer);
+    let checked = check_config(
+        rt.alloc(),
+        Forms::Fields,
+        worked_configuration().as_bytes(),
+        &mut writer,
+    );
     assert_same(&rt, checked, Err(Stop::OutputFault));
     assert_same(&rt, writer.taken.as_slice(), b"ok 3\n".as_slice());
 }

@@ -1,5 +1,6 @@
 //! The configuration in a file.
 use crate::assertions::assert_same;
+use oai_item::Forms;
 use oai_startup::{Stop, read_config};
 use std::alloc::Global;
 use std::fs;
@@ -23,7 +24,7 @@ fn long_configuration(rt: &impl Abort, alloc: Global) -> Vec<u8> {
 fn configuration_of_many_reads(rt: HostRuntime) {
     let text = long_configuration(&rt, rt.alloc());
     fs::write(&rt, PATH, text.as_slice()).expect(&rt, "fs::write");
-    let config = read_config(&rt, PATH).expect(&rt, "read_config");
+    let config = read_config(&rt, Forms::Fields, PATH).expect(&rt, "read_config");
     assert_same(&rt, config.len(), 3);
     fs::remove_file(&rt, PATH).expect(&rt, "fs::remove_file");
 }
@@ -31,7 +32,7 @@ fn configuration_of_many_reads(rt: HostRuntime) {
 /// A file that is not there cannot be read.
 #[test]
 fn no_configuration(rt: HostRuntime) {
-    match read_config(&rt, "no-such-configuration.json") {
+    match read_config(&rt, Forms::Fields, "no-such-configuration.json") {
         Ok(_) => assert!(rt; false),
         Err(stop) => assert_same(&rt, stop, Stop::CannotRead),
     }

@@ -12,11 +12,16 @@ const FIRST: i64 = 1_704_067_200;
 
 /// A journal in memory that begins so.
 pub(crate) fn begun(rt: &impl Abort, alloc: Global) -> FileJournal<Memory> {
+    begun_with(rt, alloc, first_body())
+}
+
+/// A journal in memory whose first record has that body.
+pub(crate) fn begun_with(rt: &impl Abort, alloc: Global, body: &[u8]) -> FileJournal<Memory> {
     let first = LogRecord {
         moment: FIRST,
         kind: Kind::Journal,
         name: b"oaihostd",
-        body: first_body(),
+        body,
     };
     assert!(rt; first.is_fit() && first.kind.is_first());
     FileJournal::create(alloc, Memory::new(alloc), &first).expect(rt, "journal")

@@ -6,6 +6,10 @@ mod clocks;
 #[cfg(test)]
 mod dumps;
 #[cfg(test)]
+mod elements;
+#[cfg(test)]
+mod figures;
+#[cfg(test)]
 mod growing;
 #[cfg(test)]
 mod places;

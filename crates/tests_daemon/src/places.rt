@@ -7,6 +7,7 @@ use oai_archive::ServerStop;
 use oai_daemon::{Ended, Note, Place, serve};
 use oai_device::MemoryDevice;
 use oai_journal::{FileJournal, Journal, Kind, LogRecord, Recovery};
+use oai_names::Sequence;
 use oai_serving::{Readiness, Sockets, Stream};
 use oai_startup::Stop;
 use sqlite_disk::{Disk, Memory};
@@ -24,19 +25,41 @@ pub(crate) fn configuration() -> &'static [u8] {
 
 /// The body of the first record of its journal.
 pub(crate) fn first_body() -> &'static [u8] {
-    b"1\n{\"base\":\"http://host.example\",\"cache\":1,\"repositories\":[{\"name\":\"a\",\"repositoryName\":\"A\",\
+    b"2\n{\"base\":\"http://host.example\",\"cache\":1,\"repositories\":[{\"name\":\"a\",\"repositoryName\":\"A\",\
 \"adminEmail\":[\"a@host.example\"],\"earliestDatestamp\":\"2024-01-01T00:00:00Z\",\"deletedRecord\":\"persistent\",\
 \"granularity\":\"seconds\",\"chunk\":2,\"lifetime\":60,\"lists\":1,\"items\":100,\"formats\":[]}]}"
 }
 
-/// How a service of the configuration in the text ended in that place, or why it did not begin.
+/// How a service of the configuration in the text ended in that place, with no keys, or why it did not begin.
 pub(crate) fn served<C: Clock>(
     place: &mut MemoryPlace,
     clock: &C,
     text: &[u8],
 ) -> Result<Result<(), ServerStop>, ServerStop> {
     let alloc = place.alloc();
-    outcome_of(serve(alloc, place, clock, text))
+    let rings = Sequence::new(Vec::new(alloc));
+    outcome_of(serve(alloc, place, clock, text, rings))
+}
+
+/// What the client of that place received of a service of the configuration in the text, with no keys.
+pub(crate) fn received<C: Clock>(
+    place: &mut MemoryPlace,
+    clock: &C,
+    text: &[u8],
+) -> Result<Vec<u8>, ServerStop> {
+    let alloc = place.alloc();
+    let rings = Sequence::new(Vec::new(alloc));
+    received_of(serve(alloc, place, clock, text, rings))
+}
+
+/// What the client received of that service, or why it did not begin.
+fn received_of<S: Drop, K: OneClient + Drop, H: Drop>(
+    ended: Result<Ended<S, K, H>, ServerStop>,
+) -> Result<Vec<u8>, ServerStop> {
+    match ended {
+        Ok(ended) => Ok(ended.port.into_received()),
+        Err(stop) => Err(stop),
+    }
 }
 
 /// How the service ended, or why it did not begin.
@@ -70,6 +93,10 @@ pub(crate) struct MemoryPlace {
     pub(crate) behind: Option<i64>,
     /// How many times its port can be waited for.
     pub(crate) rounds: u32,
+    /// What the one client of its port sends, if there is one.
+    pub(crate) sends: Option<&'static [u8]>,
+    /// The line of figures that was reported last.
+    pub(crate) figures: String,
 }
 
 impl MemoryPlace {
@@ -86,6 +113,8 @@ impl MemoryPlace {
             tick: None,
             behind: None,
             rounds: 0,
+            sends: None,
+            figures: String::new(alloc),
         })
     }
 
@@ -178,7 +207,7 @@ impl Place for MemoryPlace {
 
     type Pages = MemoryDevice;
 
-    type Link = Nothing;
+    type Link = Talk;
 
     type Port = Quiet;
 
@@ -189,7 +218,10 @@ impl Place for MemoryPlace {
     fn listen(&mut self) -> Result<Quiet, ServerStop> {
         self.call("listen")?;
         Ok(Quiet {
+            alloc: self.alloc,
             rounds: self.rounds,
+            sends: self.sends,
+            received: Vec::new(self.alloc),
         })
     }
 
@@ -242,54 +274,96 @@ impl Place for MemoryPlace {
             Note::Recovered(_, _, _) => drop(self.call("recovered")),
             Note::Clock(_, _) => drop(self.call("clock")),
             Note::OtherConfig => drop(self.call("other")),
+            Note::OldVersion => drop(self.call("old")),
             Note::Failed(_, _) => drop(self.call("failed")),
         }
     }
+
+    fn tell_figures(&mut self, line: &str) {
+        drop(self.call("figures"));
+        self.figures.clear();
+        drop(self.figures.push_str(line));
+    }
 }
 
-/// A port at which nobody comes, and that can be waited for so often.
+/// A port at which one client comes, or nobody, and that can be waited for so often. Each wait reports that the client's
+/// stream can be read and written, and that it ended its side.
 #[derive(Drop)]
 pub(crate) struct Quiet {
+    alloc: Global,
     rounds: u32,
+    sends: Option<&'static [u8]>,
+    /// What was written to the client, once its connection is over.
+    received: Vec<u8>,
 }
 
-impl Sockets<Nothing> for Quiet {
+/// A port at which one client comes at most.
+trait OneClient {
+    /// What the client received, once its connection is over.
+    fn into_received(self) -> Vec<u8>;
+}
+
+impl OneClient for Quiet {
+    fn into_received(self) -> Vec<u8> {
+        self.received
+    }
+}
+
+impl Sockets<Talk> for Quiet {
     fn wait(&mut self, _most: Duration) -> io::Result<usize> {
         if self.rounds == 0 {
             return Err(io::Error::from(ErrorKind::Other));
         }
         self.rounds -= 1;
-        Ok(0)
+        Ok(1)
     }
 
     fn ready(&self, _at: usize) -> Option<Readiness> {
-        None
+        Some(Readiness::Stream {
+            key: 0,
+            readable: true,
+            writable: true,
+            ended: true,
+        })
     }
 
-    fn accept(&mut self) -> io::Result<Option<Nothing>> {
-        Ok(None)
+    fn accept(&mut self) -> io::Result<Option<Talk>> {
+        let written = Vec::new(self.alloc);
+        match self.sends.take() {
+            Some(unread) => Ok(Some(Talk { unread, written })),
+            None => Ok(None),
+        }
     }
 
-    fn watch(&mut self, _stream: &mut Nothing, _key: usize) -> io::Result<()> {
+    fn watch(&mut self, _stream: &mut Talk, _key: usize) -> io::Result<()> {
         Ok(())
     }
 
-    fn let_go(&mut self, _number: u64, stream: Nothing) {
-        drop(stream);
+    fn let_go(&mut self, _number: u64, stream: Talk) {
+        self.received = stream.written;
     }
 }
 
-/// A stream that cannot be read or written.
+/// The stream of a client that sends its bytes at once, ends its side, and takes all.
 #[derive(Drop)]
-pub(crate) struct Nothing;
+pub(crate) struct Talk {
+    unread: &'static [u8],
+    written: Vec<u8>,
+}
 
-impl Stream for Nothing {
-    fn read(&mut self, _buffer: &mut [u8]) -> io::Result<usize> {
-        Err(io::Error::from(ErrorKind::Other))
+impl Stream for Talk {
+    fn read(&mut self, buffer: &mut [u8]) -> io::Result<usize> {
+        let count = self.unread.len().min(buffer.len());
+        buffer[..count].copy_from_slice(&self.unread[..count]);
+        self.unread = &self.unread[count..];
+        Ok(count)
     }
 
-    fn write(&mut self, _bytes: &[u8]) -> io::Result<usize> {
-        Err(io::Error::from(ErrorKind::Other))
+    fn write(&mut self, bytes: &[u8]) -> io::Result<usize> {
+        match self.written.extend_from_slice(bytes) {
+            Ok(()) => Ok(bytes.len()),
+            Err(_) => Err(io::Error::from(ErrorKind::OutOfMemory)),
+        }
     }
 
     fn finish(&mut self) {}

@@ -83,8 +83,8 @@ fn other_journals(rt: HostRuntime) {
     place.name = b"other";
     assert_start(&rt, &mut place, ServerStop::NotOurs, begun);
     let mut place = MemoryPlace::new(rt.alloc(), 100).expect(&rt, "place");
-    place.body = b"2\n{}";
-    assert_start(&rt, &mut place, ServerStop::OfVersion(2), begun);
+    place.body = b"3\n{}";
+    assert_start(&rt, &mut place, ServerStop::OfVersion(3), begun);
     let mut place = MemoryPlace::new(rt.alloc(), 100).expect(&rt, "place");
     place.body = b"{}";
     assert_start(&rt, &mut place, ServerStop::NotOurs, begun);
@@ -104,7 +104,7 @@ fn body_of(
         "2024-01-01T00:00:00Z"
     };
     let first = format!(in alloc;
-        "1\n{{\"cache\": {cache}, \"base\":\"http://host.example\",\"repositories\":[{{\"name\":\"{name}\","
+        "2\n{{\"cache\": {cache}, \"base\":\"http://host.example\",\"repositories\":[{{\"name\":\"{name}\","
     ).ok()?;
     let second = format!(in alloc;
         "{first}\"repositoryName\":\"{title}\",\"adminEmail\":[\"a@host.example\"],"

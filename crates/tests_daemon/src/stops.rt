@@ -128,6 +128,8 @@ fn notes(rt: HostRuntime) {
     assert_shown(&rt, alloc, &Note::Clock(1_704_153_601, 1_704_067_200), far);
     let other = "config: another one: the open lists have ended";
     assert_shown(&rt, alloc, &Note::OtherConfig, other);
+    let old = "journal: of version 1: no elements until a checkpoint";
+    assert_shown(&rt, alloc, &Note::OldVersion, old);
     let failed = "answered 500: 3 times: the device failed";
     assert_shown(&rt, alloc, &Note::Failed(3, Fault::Device), failed);
 }

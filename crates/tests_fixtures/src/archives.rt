@@ -1,5 +1,5 @@
 //! The repositories that tests speak of, each by its settings.
-use oai_item::DeletedRecord;
+use oai_item::{DeletedRecord, Forms};
 use oai_names::{Sequence, Text};
 use oai_settings::{FormatSettings, Settings};
 use oai_time::Granularity;
@@ -83,7 +83,7 @@ pub fn archive_c() -> Told<'static> {
     }
 }
 
-/// The described settings, as a value of `oai_settings`.
+/// The described settings, as a value of `oai_settings`, of records that are lists of fields.
 pub fn settings_of(alloc: Global, told: Told<'_>) -> Result<Settings, AllocError> {
     Ok(Settings {
         base: Text::new(alloc, told.base)?,
@@ -97,6 +97,7 @@ pub fn settings_of(alloc: Global, told: Told<'_>) -> Result<Settings, AllocError
         lifetime: told.lifetime,
         lists: told.lists,
         items: told.items,
+        forms: Forms::Fields,
         formats: journals(alloc, told.prefixes)?,
     })
 }

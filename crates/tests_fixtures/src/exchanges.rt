@@ -47,7 +47,7 @@ pub fn body_of(alloc: Global, line: ExchangeLine<'_>) -> Result<String, AllocErr
 }
 
 /// What the handler answers to it, with that body.
-pub fn answer_to<H: Handler>(handler: &mut H, line: ExchangeLine<'_>, body: &str) -> Answer {
+pub fn answer_to<'x, H: Handler>(handler: &mut H, line: ExchangeLine<'x>, body: &'x str) -> Answer {
     let exchange = Exchange {
         method: line.method.as_bytes(),
         target: line.target.as_bytes(),
@@ -55,6 +55,7 @@ pub fn answer_to<H: Handler>(handler: &mut H, line: ExchangeLine<'_>, body: &str
             Some(value) => Some(value.as_bytes()),
             None => None,
         },
+        authorization: None,
         body: body.as_bytes(),
     };
     handler.exchange(line.moment, &exchange)

@@ -2,7 +2,8 @@
 ghost use Rattle.oai_repo.specs.Fields.{Owns};
 
 use oai_catalogue::Versions;
-use oai_item::{Change, Fault};
+use oai_deposit::Change;
+use oai_item::Fault;
 use oai_repo::{Refusal, Reply, Repo};
 use oai_settings::RepoConfig;
 use std::alloc::Global;

@@ -7,6 +7,8 @@ mod assertions;
 #[cfg(test)]
 mod counts;
 #[cfg(test)]
+mod elements;
+#[cfg(test)]
 mod large_items;
 #[cfg(test)]
 mod limits;

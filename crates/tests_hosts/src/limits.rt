@@ -3,6 +3,7 @@ use crate::sample_host::paged;
 use crate::transcripts::assert_answers;
 use oai_catalogue::{PlainVersions, Versions};
 use oai_host::{Config, Host};
+use oai_item::Forms;
 use std::alloc::Global;
 use std::panic::Expect;
 use std::process::Abort;
@@ -38,7 +39,10 @@ fn host_of<V: Versions + Drop>(
     configuration: &str,
     store: V,
 ) -> Host<V> {
-    let config = Config::read(alloc, configuration.as_bytes()).expect(rt, "Config::read");
+    let config = Config::read(alloc, Forms::Fields, configuration.as_bytes()).expect(
+        rt,
+        "Config::read",
+    );
     Host::new(alloc, config, store).expect(rt, "Host::new")
 }
 

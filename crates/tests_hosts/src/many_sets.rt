@@ -25,6 +25,7 @@ fn deposited<V: Versions + Drop>(host: &mut Host<V>, body: &str) -> Answer {
         method: b"POST",
         target: b"/deposit/a",
         content_type: None,
+        authorization: None,
         body: body.as_bytes(),
     };
     host.exchange(MOMENT, &exchange)
@@ -91,6 +92,7 @@ fn assert_sets<V: Versions + Drop>(rt: &impl Abort, host: &mut Host<V>, elements
         method: b"GET",
         target: b"/oai/a?verb=GetRecord&identifier=oai:a:1&metadataPrefix=oai_dc",
         content_type: None,
+        authorization: None,
         body: b"",
     };
     let answer = host.exchange(MOMENT, &exchange);

@@ -16,6 +16,7 @@ fn bytes_asked() -> [(Exchange<'static>, Status); 7] {
         method: b"GET",
         target: b"/oai/a?verb=ListSets",
         content_type: None,
+        authorization: None,
         body: b"",
     };
     let form = Exchange {
@@ -108,6 +109,7 @@ fn assert_page<V: Versions + Drop>(rt: &impl Abort, alloc: Global, host: &mut Ho
         method: b"GET",
         target: b"/oai/b?verb=ListSets",
         content_type: None,
+        authorization: None,
         body: b"",
     };
     let wanted = wanted_in(alloc, no_sets()).expect(rt, "wanted_in");

@@ -2,6 +2,7 @@
 use oai_catalogue::Versions;
 use oai_device::PageDevice;
 use oai_host::{Config, Host};
+use oai_item::Forms;
 use oai_paged::{PagedVersions, VersionsOver};
 use oai_pool::Pool;
 use std::alloc::Global;
@@ -11,7 +12,7 @@ use tests_fixtures::worked_configuration;
 
 /// The worked configuration.
 pub(crate) fn config(rt: &impl Abort, alloc: Global) -> Config {
-    Config::read(alloc, worked_configuration().as_bytes()).expect(rt, "Config::read")
+    Config::read(alloc, Forms::Fields, worked_configuration().as_bytes()).expect(rt, "Config::read")
 }
 
 /// A new host of it over the store.

@@ -37,7 +37,7 @@ fn item_of_b() -> &'static [u8] {
 }
 
 /// The part at the place has these fields.
-fn assert_part(rt: &impl Abort, list: &PartList, at: usize, wanted: Part<'_>) {
+pub(crate) fn assert_part(rt: &impl Abort, list: &PartList, at: usize, wanted: Part<'_>) {
     match list.parts.get(at) {
         Some(kept) => assert_kept(rt, kept, at, wanted),
         None => assert_same(rt, list.parts.len(), at),
@@ -52,7 +52,7 @@ fn assert_kept(rt: &impl Abort, kept: &KeptPart, at: usize, wanted: Part<'_>) {
 }
 
 /// A part of a kind, of a repository, at a moment.
-fn part<'a>(kind: PartKind, moment: i64, name: &'a str, bytes: &'a [u8]) -> Part<'a> {
+pub(crate) fn part<'a>(kind: PartKind, moment: i64, name: &'a str, bytes: &'a [u8]) -> Part<'a> {
     Part {
         kind,
         moment,

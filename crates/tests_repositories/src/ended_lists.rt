@@ -4,6 +4,7 @@ use crate::outcomes::page_of;
 use crate::samples::BEGIN;
 use oai_deposit::read_line;
 use oai_device::MemoryDevice;
+use oai_item::Forms;
 use oai_paged::PagedVersions;
 use oai_pool::{PagePool, Pool};
 use oai_settings::RepoConfig;
@@ -33,7 +34,7 @@ fn archive_of_three_lists(rt: &impl Abort, alloc: Global) -> Paged {
 
 /// Makes the change that the line asks for.
 fn make(rt: &impl Abort, alloc: Global, repo: &mut Paged, line: &str) {
-    let change = read_line(alloc, line.as_bytes()).expect(rt, "read_line");
+    let change = read_line(alloc, Forms::Fields, line.as_bytes()).expect(rt, "read_line");
     assert!(rt; repo.change(BEGIN, &change).is_ok());
 }
 

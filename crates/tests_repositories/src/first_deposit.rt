@@ -4,6 +4,7 @@ ghost use Rattle.oai_repo.specs.Fields.{Owns};
 use crate::assertions::assert_same;
 use oai_catalogue::{PlainVersions, Versions};
 use oai_deposit::read_line;
+use oai_item::Forms;
 use oai_repo::{Reply, Repo};
 use oai_settings::RepoConfig;
 use std::alloc::Global;
@@ -29,7 +30,7 @@ fn assert_accepted<V: Versions>(rt: &impl Abort, alloc: Global, repo: &mut Repo,
     requires { Owns (V.honest store.old) repo.old (V.lists store.old) }
     ensures { Owns (V.honest store.new) repo.new (V.lists store.new) }
 {
-    let change = read_line(alloc, deposit().as_bytes()).expect(rt, "read_line");
+    let change = read_line(alloc, Forms::Fields, deposit().as_bytes()).expect(rt, "read_line");
     let stamp = repo.change(store, MIDNIGHT, &change).expect(rt, "change");
     assert_same(rt, stamp, MIDNIGHT);
 }

@@ -8,6 +8,7 @@ use oai_catalogue::{PlainVersions, Versions};
 use oai_copy::Copy;
 use oai_device::MemoryDevice;
 use oai_host::{Answer, Config, Exchange, Host};
+use oai_item::Forms;
 use oai_paged::PagedVersions;
 use oai_startup::{config_in, host_on, host_over};
 use std::alloc::Global;
@@ -40,7 +41,7 @@ const DELETE_2: &str = r#"{"delete":"oai:a:2"}"#;
 
 /// The worked configuration.
 fn config(rt: &impl Abort, alloc: Global) -> Config {
-    config_in(alloc, worked_configuration().as_bytes()).expect(rt, "config_in")
+    config_in(alloc, Forms::Fields, worked_configuration().as_bytes()).expect(rt, "config_in")
 }
 
 /// A new host over plain lists.
@@ -66,6 +67,7 @@ fn answered<'a, V: Versions + Drop>(
         method,
         target: target.as_bytes(),
         content_type: None,
+        authorization: None,
         body: body.as_bytes(),
     };
     let answer = host.exchange(BEGIN + i64::from(second), &exchange);

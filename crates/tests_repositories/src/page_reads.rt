@@ -5,6 +5,7 @@ use crate::outcomes::{archive, page_of};
 use crate::samples::BEGIN;
 use oai_deposit::read_line;
 use oai_device::MemoryDevice;
+use oai_item::Forms;
 use oai_paged::PagedVersions;
 use oai_pool::Pool;
 use std::alloc::Global;
@@ -41,7 +42,7 @@ fn title(rt: &impl Abort, alloc: Global) -> String {
 
 /// Makes the change that the line asks for.
 fn make(rt: &impl Abort, alloc: Global, repo: &mut Counted, line: &str) {
-    let change = read_line(alloc, line.as_bytes()).expect(rt, "read_line");
+    let change = read_line(alloc, Forms::Fields, line.as_bytes()).expect(rt, "read_line");
     assert!(rt; repo.change(BEGIN, &change).is_ok());
 }
 

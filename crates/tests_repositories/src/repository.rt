@@ -2,7 +2,7 @@
 use crate::assertions::{assert_same, assert_same_at, assert_shown};
 use oai_catalogue::PlainVersions;
 use oai_deposit::{LineFault, read_line};
-use oai_item::{ChangeRefusal, DeletedRecord, Fault};
+use oai_item::{ChangeRefusal, DeletedRecord, Fault, Forms};
 use oai_repo::{Refusal, Reply};
 use oai_settings::RepoConfig;
 use std::alloc::Global;
@@ -96,7 +96,7 @@ fn deposited(
     moment: i64,
     line: &str,
 ) -> Result<i64, &'static str> {
-    match read_line(alloc, line.as_bytes()) {
+    match read_line(alloc, Forms::Fields, line.as_bytes()) {
         Err(LineFault::NoMemory) => panic!(rt; "out of memory"),
         Err(LineFault::Refused(cause)) => Err(cause.answer()),
         Ok(change) => answer_of(rt, repo.change(moment, &change)),

@@ -1,6 +1,6 @@
 //! What is asked of a repository in these tests.
-use oai_deposit::read_line;
-use oai_item::Change;
+use oai_deposit::{Change, read_line};
+use oai_item::Forms;
 use std::alloc::Global;
 use std::panic::Expect;
 use std::process::Abort;
@@ -64,7 +64,7 @@ pub(crate) fn next_records() -> &'static str {
 /// The change that the text asks for, where it is a deposit line.
 pub(crate) fn change_in(rt: &impl Abort, alloc: Global, text: &str) -> Option<Change> {
     if text.starts_with('{') {
-        Some(read_line(alloc, text.as_bytes()).expect(rt, "read_line"))
+        Some(read_line(alloc, Forms::Fields, text.as_bytes()).expect(rt, "read_line"))
     } else {
         None
     }

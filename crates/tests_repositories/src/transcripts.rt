@@ -3,8 +3,8 @@
 //! answer, and keep two lists open, each for a minute.
 use crate::assertions::assert_same_at;
 use oai_catalogue::{PlainVersions, Versions};
-use oai_deposit::read_line;
-use oai_item::{Change, Fault};
+use oai_deposit::{Change, read_line};
+use oai_item::{Fault, Forms};
 use oai_repo::{Refusal, Reply};
 use oai_settings::RepoConfig;
 use std::alloc::Global;
@@ -87,7 +87,7 @@ fn write_answer<V: Versions + Drop>(
     if text == "advance" {
         repo.advance(moment);
     } else if text.starts_with('{') {
-        let change = read_line(alloc, text.as_bytes()).expect(rt, "read_line");
+        let change = read_line(alloc, Forms::Fields, text.as_bytes()).expect(rt, "read_line");
         write_change(rt, changed(repo, moment, &change), output);
     } else {
         write_reply(rt, asked(repo, moment, text.as_bytes()), output);

@@ -7,6 +7,7 @@ ghost use Rattle.oai_config.specs.declared.faults.ReadFault.{ReadFault};
 use crate::answers::Answer;
 use crate::rows::Row;
 use oai_config::{Config, ReadFault, write_warnings};
+use oai_item::Forms;
 use oai_settings::RepoConfig;
 use std::alloc::{AllocError, Global};
 use tests_fixtures::worked_configuration;
@@ -14,7 +15,7 @@ use tests_fixtures::worked_configuration;
 /// Adds what the row is answered: of a text, or of the worked configuration with changes.
 pub(crate) fn answer(alloc: Global, row: &Row<'_>, answer: &mut Answer) {
     match row.call {
-        "Config::read" => read(alloc, row.bytes(0), answer),
+        "Config::read" => read(alloc, Forms::Fields, row.bytes(0), answer),
         "ReadFault" => show_fault(row.text(0), answer),
         _ => match worked_with(alloc, row) {
             Ok(Some(text)) => changed_answer(alloc, row.call, text.as_bytes(), answer),
@@ -43,7 +44,8 @@ fn worked_with(alloc: Global, row: &Row<'_>) -> Result<Option<String>, AllocErro
 
 fn changed_answer(alloc: Global, call: &str, text: &[u8], answer: &mut Answer) {
     match call {
-        "changed" => read(alloc, text, answer),
+        "changed" => read(alloc, Forms::Fields, text, answer),
+        "with-elements" => read(alloc, Forms::Elements, text, answer),
         "Config::len" => counts(alloc, text, answer),
         "Config::repositories" => repositories(alloc, text, answer),
         "RepoConfig" => first_repository(alloc, text, answer),
@@ -52,20 +54,20 @@ fn changed_answer(alloc: Global, call: &str, text: &[u8], answer: &mut Answer) {
     }
 }
 
-/// `ok`, or the number and the name of the lowest fault of the text. The error is out of memory.
-fn answer_to(alloc: Global, text: &[u8]) -> Result<&'static str, AllocError>
+/// `ok`, or the number and the name of the lowest fault of the text, of records of these forms. The error is out of memory.
+fn answer_to(alloc: Global, forms: Forms, text: &[u8]) -> Result<&'static str, AllocError>
     ensures { IfOk result (λ answer. (answer.now ≡ codes "ok") ⊎ ((fault : ReadFault)
-        × IsLowest (λ cause. applies cause text.now) fault × (answer.now ≡ read_fault_text fault))) }
+        × IsLowest (λ cause. applies forms cause text.now) fault × (answer.now ≡ read_fault_text fault))) }
 {
-    match Config::read(alloc, text) {
+    match Config::read(alloc, forms, text) {
         Ok(_) => Ok("ok"),
         Err(ReadFault::NoMemory) => Err(AllocError),
         Err(fault) => Ok(fault.answer()),
     }
 }
 
-fn read(alloc: Global, text: &[u8], answer: &mut Answer) {
-    match answer_to(alloc, text) {
+fn read(alloc: Global, forms: Forms, text: &[u8], answer: &mut Answer) {
+    match answer_to(alloc, forms, text) {
         Ok(word) => answer.word(word),
         Err(_) => answer.out_of_memory(),
     }
@@ -95,7 +97,7 @@ fn fault_named(name: &str) -> ReadFault {
 
 /// How many repositories there are, and how many pages the cache holds.
 fn counts(alloc: Global, text: &[u8], answer: &mut Answer) {
-    match Config::read(alloc, text) {
+    match Config::read(alloc, Forms::Fields, text) {
         Ok(config) => {
             answer.value(config.len());
             answer.value(config.cache());
@@ -106,7 +108,7 @@ fn counts(alloc: Global, text: &[u8], answer: &mut Answer) {
 
 /// The name and the base URL of each repository.
 fn repositories(alloc: Global, text: &[u8], answer: &mut Answer) {
-    match Config::read(alloc, text) {
+    match Config::read(alloc, Forms::Fields, text) {
         Ok(config) => {
             for named in config.into_repositories().as_slice() {
                 answer.text(named.name.as_str());
@@ -119,7 +121,7 @@ fn repositories(alloc: Global, text: &[u8], answer: &mut Answer) {
 
 /// The settings of the first repository.
 fn first_repository(alloc: Global, text: &[u8], answer: &mut Answer) {
-    match Config::read(alloc, text) {
+    match Config::read(alloc, Forms::Fields, text) {
         Ok(config) => {
             if let Some(first) = config.repositories().first() {
                 show_settings(&first.config, answer);
@@ -141,7 +143,7 @@ fn show_settings(config: &RepoConfig, answer: &mut Answer) {
 
 /// What the configuration is warned of, each behind a line end.
 fn warnings(alloc: Global, text: &[u8], answer: &mut Answer) {
-    match Config::read(alloc, text) {
+    match Config::read(alloc, Forms::Fields, text) {
         Ok(config) => {
             let mut warnings = String::new(alloc);
             match write_warnings(&config, &mut warnings) {

@@ -1,9 +1,9 @@
 //! What deposit lines are read as, and which are refused.
 use crate::answers::Answer;
 use crate::rows::Row;
-use oai_deposit::{LineFault, read_line};
-use oai_item::{Change, Field};
-use oai_names::{Sequence, SetSpec, Text};
+use oai_deposit::{Change, LineFault, read_line};
+use oai_item::{Field, Forms, Records};
+use oai_names::{Identifier, Sequence, SetSpec, Text};
 use std::alloc::Global;
 
 /// Adds what the row is answered.
@@ -18,7 +18,7 @@ pub(crate) fn answer(alloc: Global, row: &Row<'_>, answer: &mut Answer) {
 
 /// Whether the line is read, or what it is answered.
 fn line(alloc: Global, line: &[u8], answer: &mut Answer) {
-    match read_line(alloc, line) {
+    match read_line(alloc, Forms::Fields, line) {
         Ok(_) => answer.word("read"),
         Err(LineFault::Refused(refusal)) => answer.word(refusal.answer()),
         Err(LineFault::NoMemory) => answer.out_of_memory(),
@@ -27,7 +27,7 @@ fn line(alloc: Global, line: &[u8], answer: &mut Answer) {
 
 /// What the line asks for, or why it is refused.
 fn change(alloc: Global, line: &[u8], answer: &mut Answer) {
-    match read_line(alloc, line) {
+    match read_line(alloc, Forms::Fields, line) {
         Ok(change) => show_change(&change, answer),
         Err(fault) => answer.fault(fault),
     }
@@ -39,12 +39,12 @@ fn show_change(change: &Change, answer: &mut Answer) {
             identifier,
             sets,
             records,
-        } => {
-            answer.word("deposit");
-            answer.text(identifier.as_str());
-            show_sets(sets.as_slice(), answer);
-            show_records(records.as_slice(), answer);
-        }
+        } => show_deposit("deposit", identifier, sets.as_slice(), records, answer),
+        Change::Put {
+            identifier,
+            sets,
+            records,
+        } => show_deposit("put", identifier, sets.as_slice(), records, answer),
         Change::Delete { identifier } => {
             answer.word("delete");
             answer.text(identifier.as_str());
@@ -59,6 +59,19 @@ fn show_change(change: &Change, answer: &mut Answer) {
             answer.text(name.as_str());
         }
     }
+}
+
+fn show_deposit(
+    word: &str,
+    identifier: &Identifier,
+    sets: &[SetSpec],
+    records: &Records,
+    answer: &mut Answer,
+) {
+    answer.word(word);
+    answer.text(identifier.as_str());
+    show_sets(sets, answer);
+    show_records(records.as_slice(), answer);
 }
 
 fn show_sets(sets: &[SetSpec], answer: &mut Answer) {

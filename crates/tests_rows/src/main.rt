@@ -5,9 +5,11 @@
 
 mod answers;
 mod configurations;
+mod elements;
 mod encodings;
 mod formats;
 mod items;
+mod keys;
 mod lines;
 mod names;
 mod requests;
@@ -31,7 +33,7 @@ fn main(rt: HostRuntime) -> io::Result<()> {
 }
 
 /// The files of rows, without their ending.
-fn subjects() -> [&'static str; 10] {
+fn subjects() -> [&'static str; 12] {
     [
         "names",
         "times",
@@ -43,6 +45,8 @@ fn subjects() -> [&'static str; 10] {
         "formats",
         "settings",
         "configurations",
+        "keys",
+        "elements",
     ]
 }
 
@@ -77,6 +81,8 @@ fn add_answer(alloc: Global, subject: &str, row: &Row<'_>, answer: &mut Answer) 
         "requests" => requests::answer(alloc, row, answer),
         "lines" => lines::answer(alloc, row, answer),
         "items" => items::answer(alloc, row, answer),
+        "keys" => keys::answer(alloc, row, answer),
+        "elements" => elements::answer(alloc, row, answer),
         "encodings" => encodings::answer(alloc, row, answer),
         "spellings" => spellings::answer(alloc, row, answer),
         "formats" => formats::answer(alloc, row, answer),

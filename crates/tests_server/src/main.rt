@@ -1,9 +1,11 @@
-//! Serves the repositories of a configuration over many connections at once, with nothing made durable.
+//! Serves the repositories of a configuration, whose records are lists of fields, over many connections at once, with
+//! nothing made durable.
 #![tactic(auto)]
 
 use oai_bytes::read_number;
 use oai_device::FileDevice;
 use oai_http::{Handler, Settled};
+use oai_item::Forms;
 use oai_serving::{Listener, ServeFault, Server, Volatile};
 use oai_startup::{Stop, empty_file, host_on, read_config};
 use std::alloc::Global;
@@ -54,7 +56,7 @@ fn run(
     port: u16,
     spill: &str,
 ) -> Result<(), Stop> {
-    let config = read_config(rt, path)?;
+    let config = read_config(rt, Forms::Fields, path)?;
     let device = FileDevice::new(empty_file(rt, spill)?);
     let host = host_on(rt.alloc(), config, device)?;
     serve_over(rt, host, port)

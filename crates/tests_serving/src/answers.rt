@@ -48,11 +48,15 @@ fn answers_of_requests(rt: HostRuntime) {
 }
 
 /// Targets of deposits, and what they are answered.
-fn deposits() -> [(&'static str, &'static str); 4] {
+fn deposits() -> [(&'static str, &'static str); 5] {
     [
         (
             "/deposit/a",
             "HTTP/1.1 200 OK\r\nContent-Type: text/plain; charset=utf-8\r\nContent-Length: 12\r\n\r\n1 0 GET [-] ",
+        ),
+        (
+            "/deposit/barred",
+            "HTTP/1.1 401 Unauthorized\r\nWWW-Authenticate: Bearer realm=\"deposit\"\r\nContent-Length: 0\r\n\r\n",
         ),
         (
             "/deposit/put",
@@ -73,6 +77,41 @@ fn deposits() -> [(&'static str, &'static str); 4] {
 fn answers_of_deposits(rt: HostRuntime) {
     for (target, wanted) in deposits() {
         assert_got(&rt, rt.alloc(), target, wanted);
+    }
+}
+
+/// Heads with fields Authorization, of which the first counts, and what the handler repeats of each.
+fn authorized_heads() -> [(&'static str, &'static str); 4] {
+    [
+        ("authorization: Bearer abc", "Bearer abc"),
+        (
+            "AUTHORIZATION:\t Basic x\r\nAuthorization: Bearer abc",
+            "Basic x",
+        ),
+        (
+            "Proxy-Authorization: Bearer x\r\nAuthorization: Bearer y z",
+            "Bearer y z",
+        ),
+        ("Authorization: \r\nAuthorization: Bearer abc", ""),
+    ]
+}
+
+/// The handler repeats that of the fields.
+fn assert_authorized(rt: &impl Abort, alloc: Global, fields: &str, told: &str) {
+    let request = format!(in alloc; "GET /oai/a HTTP/1.1\r\nHost: h\r\n{fields}\r\n\r\n").expect(
+        rt, "memory",
+    );
+    let size = told.len().wrapping_add(12);
+    let wanted = format!(in alloc;
+        "HTTP/1.1 200 OK\r\nContent-Type: text/xml\r\nContent-Length: {size}\r\n\r\n1 0 GET [-] {told}"
+    ).expect(rt, "memory");
+    assert_answered(rt, alloc, request.as_str(), wanted.as_str(), false);
+}
+
+#[test]
+fn first_authorization_counts(rt: HostRuntime) {
+    for (fields, told) in authorized_heads() {
+        assert_authorized(&rt, rt.alloc(), fields, told);
     }
 }
 

@@ -3,6 +3,7 @@ use oai_device::{MemoryDevice, PageDevice};
 use oai_durable::{Journaled, Progress, recover, resume};
 use oai_host::{Config, Host};
 use oai_http::{Answer, Handler, Settled};
+use oai_item::Forms;
 use oai_journal::{FileJournal, Kind, LogRecord, Recovery};
 use oai_paged::{PagedVersions, VersionsOver};
 use oai_pool::Pool;
@@ -12,10 +13,11 @@ use std::panic::Expect;
 use std::process::Abort;
 use tests_fixtures::{answer_to, body_of, exchange_in, worked_configuration, write_exchanged};
 
-/// Of which configuration a host is, and how many pages its cache has.
+/// Of which configuration a host is, which forms its records may have, and how many pages its cache has.
 #[derive(Clone, Copy)]
 pub(crate) struct Setting {
     pub(crate) configuration: &'static str,
+    pub(crate) forms: Forms,
     pub(crate) cache: usize,
 }
 
@@ -23,6 +25,7 @@ pub(crate) struct Setting {
 pub(crate) fn worked(cache: usize) -> Setting {
     Setting {
         configuration: worked_configuration(),
+        forms: Forms::Fields,
         cache,
     }
 }
@@ -58,7 +61,10 @@ pub(crate) fn host_on<D: PageDevice + Drop>(
     device: D,
     setting: Setting,
 ) -> Pages<D> {
-    let config = Config::read(alloc, setting.configuration.as_bytes()).expect(rt, "Config::read");
+    let config = Config::read(alloc, setting.forms, setting.configuration.as_bytes()).expect(
+        rt,
+        "Config::read",
+    );
     assert!(rt; setting.cache >= 1);
     assert!(rt; setting.cache <= 65_536);
     let pool = Pool::new(alloc, device, setting.cache).expect(rt, "Pool::new");
@@ -81,7 +87,7 @@ pub(crate) fn begun_on<D: PageDevice + Drop>(
     setting: Setting,
 ) -> Archive<D> {
     let host = host_on(rt, alloc, device, setting);
-    Journaled::new(alloc, host, empty_journal(rt, alloc))
+    Journaled::new(alloc, host, empty_journal(rt, alloc), 0)
 }
 
 /// An archive that begins over pages in memory.
@@ -98,7 +104,7 @@ fn redo_all(
 ) -> Archive<MemoryDevice> {
     recovery.begin().expect(rt, "begin");
     recover(&mut host, &mut recovery, &mut Quiet).expect(rt, "recover");
-    resume(alloc, host, recovery).expect(rt, "resume")
+    resume(alloc, host, recovery, 0).expect(rt, "resume")
 }
 
 /// The archive that is found after a crash of the other.

@@ -4,6 +4,7 @@ use crate::recording_handler::{take_all, two_opened};
 use oai_catalogue::PlainVersions;
 use oai_front::{ConnId, Front};
 use oai_host::{Config, Host};
+use oai_item::Forms;
 use std::alloc::{AllocError, Global};
 use std::panic::Expect;
 use std::process::Abort;
@@ -25,7 +26,7 @@ fn configuration() -> &'static str {
 
 /// A front over a host of these; what is refused here is memory.
 fn hosting(alloc: Global, limit: usize) -> Result<Front<Host<PlainVersions>>, AllocError> {
-    let config = match Config::read(alloc, configuration().as_bytes()) {
+    let config = match Config::read(alloc, Forms::Fields, configuration().as_bytes()) {
         Ok(config) => config,
         Err(_) => return Err(AllocError),
     };

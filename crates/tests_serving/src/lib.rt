@@ -16,6 +16,8 @@ mod checkpoints;
 #[cfg(test)]
 mod connections;
 #[cfg(test)]
+mod elements;
+#[cfg(test)]
 mod ends;
 #[cfg(test)]
 mod faults;
@@ -25,6 +27,8 @@ mod handler;
 mod hostile_heads;
 #[cfg(test)]
 mod hosts;
+#[cfg(test)]
+mod keys;
 #[cfg(test)]
 mod limits;
 #[cfg(test)]

@@ -24,7 +24,7 @@ fn assert_other_served(
     assert_received(
         rt,
         &other,
-        b"HTTP/1.1 200 OK\r\nConnection: close\r\nContent-Length: 2\r\n\r\n/a",
+        b"HTTP/1.1 200 OK\r\nContent-Type: text/plain; version=0.0.4\r\nConnection: close\r\nContent-Length: 2\r\n\r\n/a",
     );
 }
 

@@ -2,6 +2,7 @@
 use crate::archives::{Setting, begun, found_after};
 use crate::written_lives::{configuration, lives};
 use oai_http::{Answer, Exchange, FORM, Handler, Settled};
+use oai_item::Forms;
 use std::alloc::Global;
 use std::panic::Expect;
 use std::process::Abort;
@@ -34,6 +35,7 @@ fn answer_to<H: Handler>(rt: &impl Abort, handler: &mut H, text: &str) -> Answer
         method: method.as_bytes(),
         target: target.as_bytes(),
         content_type: Some(FORM),
+        authorization: None,
         body: body.as_bytes(),
     };
     handler.exchange(moment.parse::<i64>().expect(rt, "a moment"), &exchange)
@@ -71,6 +73,7 @@ fn live<H: Settled>(rt: &impl Abort, handler: &mut H, line: &str) {
 fn assert_lives(rt: &impl Abort, alloc: Global, cache: usize) {
     let setting = Setting {
         configuration: configuration(),
+        forms: Forms::Fields,
         cache,
     };
     let mut archive = begun(rt, alloc, setting);

@@ -10,7 +10,9 @@ const SENT: &[u8] =
     b"GET /a HTTP/1.1\r\nHost: h\r\n\r\nPOST /b HTTP/1.1\nHost: h\nContent-Length: 6\n\n1\n\r\n\n2GET /c HTTP/1.0\r\n\r\nGET /d HTTP/1.0\r\n\r\n";
 
 const WANTED: &[u8] =
-    b"HTTP/1.1 200 OK\r\nContent-Length: 2\r\n\r\n/aHTTP/1.1 200 OK\r\nContent-Length: 2\r\n\r\n/bHTTP/1.1 200 OK\r\nConnection: close\r\nContent-Length: 2\r\n\r\n/c";
+    b"HTTP/1.1 200 OK\r\nContent-Type: text/plain; version=0.0.4\r\nContent-Length: 2\r\n\r\n/a\
+HTTP/1.1 200 OK\r\nContent-Type: text/plain; version=0.0.4\r\nContent-Length: 2\r\n\r\n/b\
+HTTP/1.1 200 OK\r\nContent-Type: text/plain; version=0.0.4\r\nConnection: close\r\nContent-Length: 2\r\n\r\n/c";
 
 /// A client of that manner sends the bytes, and is served in so many rounds.
 fn serve(
@@ -65,6 +67,7 @@ fn calls_that_would_block(rt: HostRuntime) {
 #[test]
 fn end_within_a_message(rt: HostRuntime) {
     let sent = b"GET /a HTTP/1.1\r\nHost: h\r\n\r\nGET /b HTTP/1.1\r\nHo";
-    let wanted = b"HTTP/1.1 200 OK\r\nContent-Length: 2\r\n\r\n/a";
+    let wanted =
+        b"HTTP/1.1 200 OK\r\nContent-Type: text/plain; version=0.0.4\r\nContent-Length: 2\r\n\r\n/a";
     assert!(&rt; received(&rt, rt.alloc(), sent, PLAIN, 20).as_slice() == wanted.as_slice());
 }

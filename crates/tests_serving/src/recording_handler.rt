@@ -35,6 +35,7 @@ fn planned(target: &str) -> Option<(Status, Option<i64>, Option<u64>)> {
     match target {
         "/oai/a" | "/deposit/a" => None,
         "/oai/later" => Some((Status::ServiceUnavailable, Some(50), None)),
+        "/deposit/barred" => Some((Status::Unauthorized, None, None)),
         "/deposit/later" => Some((Status::ServiceUnavailable, Some(60), Some(2))),
         "/deposit/failed" => Some((Status::InternalServerError, None, Some(1))),
         "/oai/failed" => Some((Status::InternalServerError, None, None)),
@@ -46,7 +47,7 @@ fn planned(target: &str) -> Option<(Status, Option<i64>, Option<u64>)> {
 }
 
 impl Teller {
-    /// How many exchanges came before, the moment, the method, the type and the body.
+    /// How many exchanges came before, the moment, the method, the type, the authorization if there is one, and the body.
     fn told(&self, moment: i64, exchange: &Exchange<'_>) -> Answer {
         match in_words(self.alloc, self.asked, moment, exchange) {
             Ok(words) => Answer {
@@ -70,7 +71,15 @@ fn in_words(
     let number = format!(in alloc; "{asked} {moment} ")?;
     let mut words = number.into_bytes();
     let content_type = exchange.content_type.unwrap_or(b"-");
-    let pieces: [&[u8]; 5] = [exchange.method, b" [", content_type, b"] ", exchange.body];
+    let key = exchange.authorization.unwrap_or(b"");
+    let pieces: [&[u8]; 6] = [
+        exchange.method,
+        b" [",
+        content_type,
+        b"] ",
+        key,
+        exchange.body,
+    ];
     for piece in pieces {
         words.extend_from_slice(piece)?;
     }
@@ -88,9 +97,14 @@ fn told_only(alloc: Global, status: Status, seconds: Option<i64>, done: Option<u
     }
 }
 
-/// A front over a handler that was asked nothing yet.
+/// A handler that was asked nothing yet.
+pub(crate) fn unasked(alloc: Global) -> Teller {
+    Teller { alloc, asked: 0 }
+}
+
+/// A front over such a handler.
 pub(crate) fn front(alloc: Global, limit: usize) -> Front<Teller> {
-    Front::new(alloc, Teller { alloc, asked: 0 }, limit)
+    Front::new(alloc, unasked(alloc), limit)
 }
 
 /// Hands the piece on, which is taken with all that it completes.

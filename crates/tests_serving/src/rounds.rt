@@ -11,7 +11,8 @@ use std::rc::Rc;
 
 const ASKED: &[u8] = b"GET /a HTTP/1.0\r\n\r\n";
 
-const ANSWERED: &[u8] = b"HTTP/1.1 200 OK\r\nConnection: close\r\nContent-Length: 2\r\n\r\n/a";
+const ANSWERED: &[u8] =
+    b"HTTP/1.1 200 OK\r\nContent-Type: text/plain; version=0.0.4\r\nConnection: close\r\nContent-Length: 2\r\n\r\n/a";
 
 /// A client comes that asks once, and behaves so.
 fn come_and_ask(

@@ -14,7 +14,7 @@ fn a_root_is_named_by_its_namespace_and_local_part(rt: HostRuntime) {
     ] {
         match ElementText::read(alloc, text) {
             Ok(element) => {
-                let root = Root::of(alloc, &element).expect(&rt, "memory");
+                let root = Root::of(alloc, element.as_str()).expect(&rt, "memory");
                 assert_eq!(&rt; root.namespace(), namespace.as_bytes(), "{text}");
                 assert_eq!(&rt; root.local(), local.as_bytes(), "{text}");
             }

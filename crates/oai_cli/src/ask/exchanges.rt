@@ -26,6 +26,7 @@ pub(crate) fn parse_exchange(line: &[u8]) -> Option<(i64, Exchange<'_>)>
             method,
             target,
             content_type: type_of(method),
+            authorization: None,
             body,
         },
     ))

@@ -1,5 +1,5 @@
 //! Deposits: why one is refused, and the item that it makes.
-ghost use Rattle.std.specs.Prelude.{◌≡◌, ◌≤◌, None, Some, false, length, IfOk, IsTrue, OnOk};
+ghost use Rattle.std.specs.Prelude.{◌≡◌, ◌≤◌, ◌⊎◌, None, Some, false, length, map, IfOk, IsTrue, OnErr, OnOk};
 ghost use Rattle.std.specs.List.{list_all};
 ghost use Rattle.std.specs.Option.{option_copied};
 ghost use Rattle.oai_names.specs.Names.{is_among};
@@ -10,20 +10,26 @@ ghost use Rattle.oai_item.specs.declared.sizes.TheConstants.{MAX_ITEM_BYTES};
 ghost use Rattle.oai_catalogue.specs.Calls.{OnlyReads};
 ghost use Rattle.oai_catalogue.specs.Store.{Spends};
 ghost use Rattle.oai_item.specs.Item.{IsStamp, has_record, live_item, record_named};
-ghost use Rattle.oai_item.specs.Known.{are_fields_of, has_format, has_known_fields};
+ghost use Rattle.oai_item.specs.Givens.{IsNoted, kept as as_kept, noted_given};
+ghost use Rattle.oai_item.specs.Known.{are_listed_in, has_format, has_listed_fields, is_given_in, is_of_format};
 ghost use Rattle.oai_item.specs.Membership.{reduced};
 ghost use Rattle.oai_holdings.specs.Calls.{fault_in};
 ghost use Rattle.oai_holdings.specs.Changes as spec;
 ghost use Rattle.oai_holdings.specs.Entries.{SetsStamp, count_with, stamp_in};
 ghost use Rattle.oai_holdings.specs.Index.{stored_items};
-ghost use Rattle.oai_holdings.specs.Indexing.{IsDoneOn, Moves, StandsOn};
+ghost use Rattle.oai_holdings.specs.Indexing.{IsDeposited, IsDoneOn, Moves, StandsOn};
 
 use crate::changes::ChangeContext;
+use crate::changes::sameness::is_held_so;
 use crate::item_index::ItemIndex;
 use oai_catalogue::Versions;
-use oai_item::{ChangeRefusal, Fault, Field, Format, Formats, Item, Records, Refusal};
+use oai_item::{
+    ChangeRefusal, Fault, Field, Format, Formats, GivenRecord, GivenRecords, Item, Records,
+    Refusal, is_root_of,
+};
 use oai_names::{Identifier, Sequence, SetSpec, SetTree, Text};
 use oai_settings::RepoConfig;
+use std::alloc::AllocError;
 
 /// A record of a deposit: the text that names its format, and its fields.
 type Record = (Text, Sequence<Field>);
@@ -48,7 +54,7 @@ pub(crate) fn put_deposit<V: Versions>(
     requires stands { StandsOn V.Versions index.old store.old }
     ensures done { let items = stored_items index.old (V.lists store.old) in
         let item = live_item deposit.now.identifier.now context.now.stamp
-        (reduced deposit.now.sets.now) deposit.now.records.now in
+        (reduced deposit.now.sets.now) (map as_kept deposit.now.records.now) in
         IsDoneOn V.Versions (spec.deposit_refusal context.now.config.now sets.now
         deposit.now.sets.now deposit.now.records.now)
         (spec.item_refusal context.now.config.now (item_named item.identifier items)
@@ -61,13 +67,59 @@ pub(crate) fn put_deposit<V: Versions>(
     ensures moves { Moves V.Versions result index.old store.old index.new store.new }
     ensures store { Spends V.room V.failures V.honest 1 (fault_in result) store.old store.new }
 {
-    match deposit_refusal(
-        context.config,
-        sets,
-        deposit.sets,
-        deposit.records.as_slice(),
-    ) {
-        Some(cause) => return Err(Refusal::Refused(cause)),
+    match deposited(context, sets, deposit)? {
+        Ok(item) => put_item(context, store, index, &item),
+        Err(cause) => Err(Refusal::Refused(cause)),
+    }
+}
+
+/// Adds the item of the deposit, unless the item with its identifier is live, in the same sets and with the same records;
+/// or refuses it by the first cause.
+pub(crate) fn put_if_new<V: Versions>(
+    context: &ChangeContext<'_>,
+    sets: &SetTree,
+    store: &mut V,
+    index: &mut ItemIndex,
+    deposit: &Deposit<'_>,
+) -> Result<(), Refusal>
+    requires stamped { IsStamp context.now.stamp }
+    requires stands { StandsOn V.Versions index.old store.old }
+    ensures done { let items = stored_items index.old (V.lists store.old) in
+        let item = live_item deposit.now.identifier.now context.now.stamp
+        (reduced deposit.now.sets.now) (map as_kept deposit.now.records.now) in
+        IsDoneOn V.Versions (spec.deposit_refusal context.now.config.now sets.now
+        deposit.now.sets.now deposit.now.records.now)
+        (spec.item_refusal context.now.config.now (item_named item.identifier items)
+        (length items) item)
+        (spec.with_put item items) result index.old store.old index.new store.new }
+    ensures stamped { OnOk result ((index.new.entries ≡ index.old.entries)
+        ⊎ SetsStamp deposit.now.identifier.now (Some context.now.stamp) index.old.entries
+        index.new.entries) }
+    ensures few { OnOk result (length index.old.entries ≤ context.now.config.now.items
+        → length index.new.entries ≤ context.now.config.now.items) }
+    ensures moves { Moves V.Versions result index.old store.old index.new store.new }
+    ensures store { Spends V.room V.failures V.honest 1 (fault_in result) store.old store.new }
+{
+    match deposited(context, sets, deposit)? {
+        Ok(item) => put_item_if_new(context, store, index, &item),
+        Err(cause) => Err(Refusal::Refused(cause)),
+    }
+}
+
+/// The item of the deposit, or why it is refused by itself: the first cause. The outer error is out of memory.
+fn deposited(
+    context: &ChangeContext<'_>,
+    sets: &SetTree,
+    deposit: &Deposit<'_>,
+) -> Result<Result<Item, ChangeRefusal>, AllocError>
+    requires stamped { IsStamp context.now.stamp }
+    ensures made { IfOk result (IsDeposited context.now.config.now context.now.stamp sets.now
+        deposit.now.identifier.now deposit.now.sets.now deposit.now.records.now) }
+    ensures err { OnErr result (spec.deposit_refusal context.now.config.now sets.now
+        deposit.now.sets.now deposit.now.records.now ≡ None) }
+{
+    match deposit_refusal(context.config, sets, deposit.sets, deposit.records) {
+        Some(cause) => return Ok(Err(cause)),
         None => {}
     }
     let item = Item::deposited(
@@ -78,7 +130,7 @@ pub(crate) fn put_deposit<V: Versions>(
         deposit.sets,
         deposit.records,
     )?;
-    put_item(context, store, index, &item)
+    Ok(Ok(item))
 }
 
 /// Adds the item, or refuses it by the first cause.
@@ -104,6 +156,37 @@ fn put_item<V: Versions>(
         Some(cause) => Err(Refusal::Refused(cause)),
         None => Ok(index.put(context.alloc, store, item)?),
     }
+}
+
+/// Adds the item, unless the one with its identifier is live, in the same sets and with the same records; or refuses it by
+/// the first cause.
+fn put_item_if_new<V: Versions>(
+    context: &ChangeContext<'_>,
+    store: &mut V,
+    index: &mut ItemIndex,
+    item: &Item,
+) -> Result<(), Refusal>
+    requires stands { StandsOn V.Versions index.old store.old }
+    ensures done { let items = stored_items index.old (V.lists store.old) in
+        IsDoneOn V.Versions None (spec.item_refusal context.now.config.now
+        (item_named item.now.identifier items) (length items) item.now)
+        (spec.with_put item.now items) result index.old store.old index.new store.new }
+    ensures stamped { OnOk result ((index.new.entries ≡ index.old.entries)
+        ⊎ SetsStamp item.now.identifier (Some item.now.stamp) index.old.entries index.new.entries) }
+    ensures few { OnOk result (length index.old.entries ≤ context.now.config.now.items
+        → length index.new.entries ≤ context.now.config.now.items) }
+    ensures moves { Moves V.Versions result index.old store.old index.new store.new }
+    ensures store { Spends V.room V.failures V.honest 1 (fault_in result) store.old store.new }
+{
+    let found = index.find(store, item.identifier().as_str())?;
+    match item_refusal(context.config, found.as_ref(), index.len(), item) {
+        Some(cause) => return Err(Refusal::Refused(cause)),
+        None => {}
+    }
+    if is_held_so(item, found.as_ref()) {
+        return Ok(());
+    }
+    Ok(index.put(context.alloc, store, item)?)
 }
 
 /// Why the item may not be added to the others: the first cause. Any fault but `TooManyPages` may come.
@@ -135,21 +218,24 @@ fn deposit_refusal(
     config: &RepoConfig,
     sets: &SetTree,
     specs: &[SetSpec],
-    records: &[Record],
+    records: &Records,
 ) -> Option<ChangeRefusal>
     ensures { result ≡ spec.deposit_refusal config.now sets.now specs.now records.now }
 {
     if !have_sets(sets, specs) {
         return Some(ChangeRefusal::UnknownSet);
     }
-    if !have_formats(config.formats(), records) {
+    if !have_formats(config.formats(), records.as_slice()) {
         return Some(ChangeRefusal::UnknownFormat);
     }
-    if !has_record(records, "oai_dc") {
+    if !has_record(records.as_slice(), "oai_dc") {
         return Some(ChangeRefusal::NoDc);
     }
-    if !have_known_fields(config.formats(), records) {
+    if !have_listed_fields(config.formats(), records.walk()) {
         return Some(ChangeRefusal::UnknownField);
+    }
+    if !are_of_formats(config.formats(), records.walk()) {
+        return Some(ChangeRefusal::NotOfFormat);
     }
     None
 }
@@ -211,30 +297,71 @@ fn record_named<'a>(records: &'a [Record], prefix: &str) -> Option<&'a Record>
     records.iter().find(|record| record.0.as_str() == prefix)
 }
 
-/// Whether each field of each record is one of its format's.
-fn have_known_fields(formats: &Formats, records: &[Record]) -> bool
-    ensures { result ≡ list_all (has_known_fields formats.now) records.now }
+/// Whether each field of each list is one of its format's.
+fn have_listed_fields(formats: &Formats, mut records: GivenRecords<'_>) -> bool
+    ensures { result ≡ list_all (has_listed_fields formats.now) records.entry }
 {
-    records
-        .iter()
-        .all(|record| has_known_fields(formats, record))
+    while let Some(record) = records.next() {
+        if !has_listed_fields(formats, &record) {
+            return false;
+        }
+    }
+    true
 }
 
-/// Whether each field of the record is one of its format's.
-fn has_known_fields(formats: &Formats, made: &Record) -> bool
-    ensures { result ≡ has_known_fields formats.now made.now }
+/// Whether each field of the record is one of its format's, if it is a list.
+fn has_listed_fields(formats: &Formats, given: &GivenRecord<'_>) -> bool
+    requires { IsNoted given.now.fields.now (option_copied given.now.root) }
+    ensures { result ≡ has_listed_fields formats.now
+        (given.now.prefix.now, noted_given given.now.fields.now (option_copied given.now.root)) }
 {
-    match formats.find_named(made.0.as_str()) {
-        Some(format) => are_fields_of(format, made.1.as_slice()),
+    match formats.find_named(given.prefix) {
+        Some(format) => given.root.is_some() || are_listed_in(format, given.fields),
         None => true,
     }
 }
 
 /// Whether each field is one of the format's.
-fn are_fields_of(format: &Format, fields: &[Field]) -> bool
-    ensures { result ≡ are_fields_of (Some format.now) fields.now }
+fn are_listed_in(format: &Format, fields: &[Field]) -> bool
+    ensures { result ≡ are_listed_in format.now fields.now }
 {
     fields.iter().all(|field| is_among(format.fields.as_slice(), field.name.as_str()))
+}
+
+/// Whether each element has the root of its format, and the format of each list has fields.
+fn are_of_formats(formats: &Formats, mut records: GivenRecords<'_>) -> bool
+    ensures { result ≡ list_all (is_of_format formats.now) records.entry }
+{
+    while let Some(record) = records.next() {
+        if !is_of_format(formats, &record) {
+            return false;
+        }
+    }
+    true
+}
+
+/// Whether the record has the root of its format, or its format has fields, if it is a list.
+fn is_of_format(formats: &Formats, given: &GivenRecord<'_>) -> bool
+    requires { IsNoted given.now.fields.now (option_copied given.now.root) }
+    ensures { result ≡ is_of_format formats.now
+        (given.now.prefix.now, noted_given given.now.fields.now (option_copied given.now.root)) }
+{
+    match formats.find_named(given.prefix) {
+        Some(format) => is_given_in(format, given),
+        None => true,
+    }
+}
+
+/// The same of its format.
+fn is_given_in(format: &Format, given: &GivenRecord<'_>) -> bool
+    requires { IsNoted given.now.fields.now (option_copied given.now.root) }
+    ensures { result ≡ is_given_in (Some format.now)
+        (noted_given given.now.fields.now (option_copied given.now.root)) }
+{
+    match given.root {
+        Some(root) => is_root_of(format, root),
+        None => !format.fields.is_empty(),
+    }
 }
 
 /// Whether the name is one of these.

@@ -134,10 +134,9 @@ fn has_repeat(alloc: Global, texts: &[Text]) -> Result<bool, AllocError>
     Ok(false)
 }
 
-/// Whether one more format fits beside these, with 1 to 256 fields.
+/// Whether one more format fits beside these, with at most 256 fields.
 fn has_room(formats: &[Format], format: &Format) -> bool
     ensures { result ≡ has_room formats.now format.now }
 {
-    let fields = format.fields.as_slice().len();
-    formats.len() < MAX_FORMATS && 0 < fields && fields <= MAX_FIELDS
+    formats.len() < MAX_FORMATS && format.fields.as_slice().len() <= MAX_FIELDS
 }

@@ -8,7 +8,9 @@ ghost use Rattle.oai_settings.specs.Settings as spec;
 ghost use Rattle.oai_settings.specs.SettingsWork.{AreDeclared, AreLimits, IsLimit};
 ghost use Rattle.oai_settings.specs.SettingsWork.{IsAssembled, IsDeclared, IsFormatOf, IsPrefixOf};
 
-use crate::settings::{ConfigFault, FormatSettings, Settings, has_shape, is_repository_name};
+use crate::settings::{
+    ConfigFault, FormatSettings, Settings, has_shape, have_forms, is_repository_name,
+};
 use oai_item::{Format, FormatFault, Formats};
 use oai_names::{NameFault, Prefix, Sequence, Text};
 use oai_time::{Bound, Granularity, LAST_TICK, read_bound};
@@ -64,6 +66,9 @@ pub(super) fn made_of(alloc: Global, settings: &mut Settings) -> Result<Made, Co
     }
     if !is_repository_name(settings.name.as_str()) {
         return Err(ConfigFault::BadName);
+    }
+    if !have_forms(settings.forms, settings.formats.as_slice()) {
+        return Err(ConfigFault::BadFormat);
     }
     let formats = mem::replace(&mut settings.formats, Sequence::new(Vec::new(alloc)));
     let formats = declared_formats(alloc, formats)?;

@@ -7,4 +7,4 @@ use Rattle.oai_config.proofs.formats.each_format.Given as goal
 
 abbrev pub invariant-loop-value : goal.invariant-loop-value
 invariant-loop-value l =
-    with_front l.formats.items (each_of format_in (map view (drop l.value-index l.values))) ≡ each_of format_in (map view l.values)
+    with_front l.formats.items (each_of (format_in l.forms) (map view (drop l.value-index l.values))) ≡ each_of (format_in l.forms) (map view l.values)

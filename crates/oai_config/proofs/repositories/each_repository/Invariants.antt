@@ -7,4 +7,4 @@ use Rattle.oai_config.proofs.repositories.each_repository.Given as goal
 
 abbrev pub invariant-loop-value : goal.invariant-loop-value
 invariant-loop-value l =
-    with_front l.repositories.items (each_of (settings_of l.base) (map view (drop l.value-index l.values))) ≡ each_of (settings_of l.base) (map view l.values)
+    with_front l.repositories.items (each_of (settings_of l.forms l.base) (map view (drop l.value-index l.values))) ≡ each_of (settings_of l.forms l.base) (map view l.values)

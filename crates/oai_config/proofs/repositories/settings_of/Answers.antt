@@ -9,22 +9,22 @@ pub returns-in_err-rules : goal.returns-in_err-rules
 returns-in_err-rules c =
     let whole = sym c.is_repository.ensures ∙ c.if-not-is_repository.false in
     let p = err_from_is_err_and c.from_residual.result c.from_residual.ensures.1 in
-    rw (p.1, p.2) (refused_view (λ (rules : Rules). rules) _ _ _ (no_rules c.args.base.now _ whole) c.in_err-rules.ensures)
+    rw (p.1, p.2) (refused_view (λ (rules : Rules). rules) _ _ _ (no_rules c.args.forms c.args.base.now _ whole) c.in_err-rules.ensures)
 
 pub returns-in_err-texts : goal.returns-in_err-texts
 returns-in_err-texts c =
     let whole = sym c.is_repository.ensures ∙ c.if-not-is_repository.false in
     let p = err_from_is_err_and c.from_residual-in_err-texts.result c.from_residual-in_err-texts.ensures.1 in
-    rw (p.1, p.2) (refused_read _ _ _ (no_texts c.args.base.now _ whole) c.in_err-texts.ensures)
+    rw (p.1, p.2) (refused_read _ _ _ (no_texts c.args.forms c.args.base.now _ whole) c.in_err-texts.ensures)
 
 pub returns-in_err-formats : goal.returns-in_err-formats
 returns-in_err-formats c =
     let whole = sym c.is_repository.ensures ∙ c.if-not-is_repository.false in
     let p = err_from_is_err_and c.from_residual-in_err-formats.result c.from_residual-in_err-formats.ensures.1 in
-    rw (p.1, p.2) (refused_read _ _ _ (no_formats c.args.base.now _ whole) c.in_err-formats.ensures)
+    rw (p.1, p.2) (refused_read _ _ _ (no_formats c.args.forms c.args.base.now _ whole) c.in_err-formats.ensures)
 
 pub returns : goal.returns
 returns c =
     let whole = sym c.is_repository.ensures ∙ c.if-not-is_repository.false in
     rw (← c.in_ok-new.ensures)
-    (settings_of-whole _ _ _ _ _ whole c.in_ok-texts.ensures c.in_ok-rules.ensures c.in_ok-formats.ensures)
+    (settings_of-whole _ _ _ _ _ _ whole c.in_ok-texts.ensures c.in_ok-rules.ensures c.in_ok-formats.ensures)

@@ -6,16 +6,16 @@ use Rattle.oai_daemon.proofs.starts.start_by.Goals as goal
 pub keep-requires : goal.keep-requires
 keep-requires g c = record {
   synced = λ clean.
-      let begun = c.in_ok-recovery.ensures.begun (c.in_ok-records.ensures.clean clean) in
-      let done = c.in_ok-records.ensures.recovered clean begun.0 begun.1 in
+      let begun = c.in_ok-recovery.ensures.begun (c.in_ok-replay.ensures.clean clean) in
+      let done = c.in_ok-replay.ensures.recovered clean begun.0 begun.1 in
       record { first = begun.0; entries = done.entries; has = done.has.read; whole = done.undamaged };
 }
 
-pub returns : goal.returns
-returns g c = record {
-  file = same_file g.P.Place.held _ _ (c.in_ok-records.ensures.seen ∙ c.in_ok-recovery.ensures.seen) c.in_ok-disk.ensures;
+pub returns-clause-replayed : goal.returns-clause-replayed
+returns-clause-replayed g c = record {
+  file = same_file g.P.Place.held _ _ (c.in_ok-replay.ensures.seen ∙ c.in_ok-recovery.ensures.seen) c.in_ok-disk.ensures;
   fresh = c.in_ok-keep.ensures.fresh;
   redone = λ clean.
-      let begun = c.in_ok-recovery.ensures.begun (c.in_ok-records.ensures.clean clean) in
-      (begun.0, begun.3, c.in_ok-records.ensures.recovered clean begun.0 begun.1);
+      let begun = c.in_ok-recovery.ensures.begun (c.in_ok-replay.ensures.clean clean) in
+      (begun.0, begun.3, c.in_ok-replay.ensures.recovered clean begun.0 begun.1);
 }

@@ -1,5 +1,6 @@
 use Rattle.std.proofs.Common.{◌≡◌, List, ◌++◌, map, length}
 use Rattle.serde_json.specs.View.{members_view}
+use Rattle.oai_item.specs.Givens.{given_back}
 use Rattle.oai_item.specs.Item.{Metadata}
 use Rattle.oai_json.specs.Json.{members_of}
 use Rattle.oai_deposit.specs.Shapes.{written_record}
@@ -7,7 +8,7 @@ use Rattle.oai_deposit.proofs.dump_values.records_value.Given as goal
 
 abbrev pub invariant-loop-record : goal.invariant-loop-record
 invariant-loop-record l =
-    (done : List Metadata) × (l.fn.records ≡ done ++ l.left) × (members_view l.members.entries ≡ members_of (map written_record done))
+    (done : List Metadata) × (l.fn.records ≡ done ++ l.left) × (members_view l.members.entries ≡ members_of (map written_record (map given_back done)))
 
 abbrev pub decreases-loop-record : goal.decreases-loop-record
 decreases-loop-record l = length l.left

@@ -6,4 +6,4 @@ use Rattle.oai_deposit.proofs.lines.read_any.Goals as goal
 
 pub returns-in-Some : goal.returns-in-Some
 returns-in-Some c =
-    line_gives c.args.line.now _ _ c.read_value.result (c.in_ok-value.ensures.ok ∙ ap (option_map view) c.in-Some.is) c.read_value.ensures
+    line_gives c.args.forms c.args.line.now _ _ c.read_value.result (c.in_ok-value.ensures.ok ∙ ap (option_map view) c.in-Some.is) c.read_value.ensures

@@ -7,4 +7,4 @@ use Rattle.oai_deposit.proofs.records.records_in.Given as goal
 
 abbrev pub invariant-loop-prefix : goal.invariant-loop-prefix
 invariant-loop-prefix l =
-    with_front l.records.items (each_of record_of (map seen l.prefix-iterator)) ≡ each_of record_of (map seen l.members.entries)
+    with_front l.records.items (each_of (record_of l.forms) (map seen l.prefix-iterator)) ≡ each_of (record_of l.forms) (map seen l.members.entries)

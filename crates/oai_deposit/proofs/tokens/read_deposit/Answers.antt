@@ -3,6 +3,7 @@ use Rattle.std.proofs.lemmas.List.{append-nil}
 use Rattle.std.specs.Str.{IsUtf8}
 use Rattle.json.specs.Lex.{tokens}
 use Rattle.oai_item.specs.Item.{are_rising}
+use Rattle.oai_deposit.specs.Lines.{are_of_forms}
 use Rattle.oai_deposit.specs.Tokens.{deposit_tokens}
 use Rattle.oai_deposit.proofs.TokenLemmas.{is_deposit_line}
 use Rattle.oai_deposit.proofs.tokens.read_deposit.Goals as goal
@@ -16,7 +17,8 @@ returns c =
     let same : text ≡ c.args.line.now = search rules in
     let utf8 : IsUtf8 c.args.line.now = search rules in
     let rise : are_rising records ≡ true = search rules in
+    let formed : are_of_forms c.args.forms records ≡ true = search rules in
     let none : c.take_deposit.new.reader ≡ [] = search rules in
     let are : tokens text ≡ deposit_tokens identifier sets records ++ c.take_deposit.new.reader = search rules in
-    is_deposit_line c.args.line.now text identifier sets records same utf8 rise
+    is_deposit_line c.args.forms c.args.line.now text identifier sets records same utf8 rise formed
     (are ∙ ap (λ ts. deposit_tokens identifier sets records ++ ts) none ∙ append-nil (deposit_tokens identifier sets records))

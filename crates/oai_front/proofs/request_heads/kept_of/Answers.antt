@@ -1,7 +1,8 @@
 use Rattle.std.proofs.Common.{drop, map, take, ap, ◌∙◌}
+use Rattle.std.specs.Prelude.{codes}
 use Rattle.httparse.specs.Spans.{header_bytes, span_bytes}
 use Rattle.oai_http.specs.Targets.{endpoint_of}
-use Rattle.oai_front.proofs.HeadLemmas.{read_begins, read_framing, read_type, within_len}
+use Rattle.oai_front.proofs.HeadLemmas.{read_begins, read_framing, read_value, within_len}
 use Rattle.oai_front.proofs.request_heads.kept_of.Goals as goal
 
 pub returns-in-Refused : goal.returns-in-Refused
@@ -41,5 +42,7 @@ returns-in-Body c =
       target = at.path;
       endpoint = endpoint ∙ ap endpoint_of at.path;
       type_in = read.content_type.within;
-      content_type = read_type bytes headers spans c.requires.read.0 _ at read.content_type.first;
+      content_type = read_value (codes "Content-Type") bytes headers spans c.requires.read.0 _ at read.content_type.first;
+      key_in = read.authorization.within;
+      authorization = read_value (codes "Authorization") bytes headers spans c.requires.read.0 _ at read.authorization.first;
     }

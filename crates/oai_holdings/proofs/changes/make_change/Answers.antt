@@ -7,7 +7,7 @@ use Rattle.oai_holdings.specs.Index.{holdings_of, stored_items}
 use Rattle.oai_holdings.specs.Kept.{is_too_large, is_well_kept}
 use Rattle.oai_holdings.specs.Purges.{is_in_core}
 use Rattle.oai_holdings.specs.Indexing.{MakesChange}
-use Rattle.oai_holdings.proofs.ChangeLemmas.{dated-made, deletion_done, deposit_done, kept-made, purge_done, set_done}
+use Rattle.oai_holdings.proofs.ChangeLemmas.{dated-made, deletion_done, deposit_done, kept-made, purge_done, put_done, set_done}
 use Rattle.oai_holdings.proofs.IndexLemmas.{on_ok}
 use Rattle.oai_holdings.proofs.changes.make_change.Goals as goal
 
@@ -25,6 +25,20 @@ returns-in-Deposit-clause-made g c =
       made = made;
       indexed = λ honest. record {
         agrees = c.put_deposit.ensures.done.agrees honest;
+        kept = kept-made _ _ _ _ _ _ (made honest) (c.requires.held.indexed honest).kept;
+        dated = dated-made _ _ _ _ _ _ (made honest) c.requires.stamped (c.requires.held.indexed honest).dated;
+      };
+    }
+
+pub returns-in-Put-clause-made : goal.returns-in-Put-clause-made
+returns-in-Put-clause-made g c =
+    let made : IsTrue (g.V.Versions.honest c.args.store.now) → MakesChange c.args.context.now.config.now c.args.context.now.stamp (holdings_of c.args.index.now c.args.sets.now (g.V.Versions.lists c.args.store.now)) c.args.change.now c.put_if_new.result (holdings_of c.put_if_new.new.index c.args.sets.now (g.V.Versions.lists c.put_if_new.new.store)) =
+    λ honest.
+    rw c.in-Put.is (put_done _ _ _ _ _ _ _ _ _ (rw c.as_slice-in-Put.ensures at (c.put_if_new.ensures.done.done honest))) in
+    record {
+      made = made;
+      indexed = λ honest. record {
+        agrees = c.put_if_new.ensures.done.agrees honest;
         kept = kept-made _ _ _ _ _ _ (made honest) (c.requires.held.indexed honest).kept;
         dated = dated-made _ _ _ _ _ _ (made honest) c.requires.stamped (c.requires.held.indexed honest).dated;
       };
@@ -83,6 +97,9 @@ returns-in-AddSet-clause-made g c =
 
 pub returns-in-Deposit-clause-kept : goal.returns-in-Deposit-clause-kept
 returns-in-Deposit-clause-kept g c = rw c.in-Deposit.is (on_ok c.put_deposit.result _ _ (λ stamped. record { entries = stamped; sets = refl }) c.put_deposit.ensures.stamped)
+
+pub returns-in-Put-clause-kept : goal.returns-in-Put-clause-kept
+returns-in-Put-clause-kept g c = rw c.in-Put.is (on_ok c.put_if_new.result _ _ (λ stamped. record { entries = stamped; sets = refl }) c.put_if_new.ensures.stamped)
 
 pub returns-in-Delete-clause-kept : goal.returns-in-Delete-clause-kept
 returns-in-Delete-clause-kept g c =

@@ -12,7 +12,7 @@ returns-clause-indexed g c = λ honest.
     let item = c.args.item.now in
     let old = c.args.index.now in
     let may : may_have_item config sets (length old.entries) item ≡ true =
-    ap (λ n. may_have_item config sets n item) (sym c.len.ensures) ∙ sym c.may_have_item.ensures.may ∙ c.if-not-may_have_item.false in
+    ap (λ n. may_have_item config sets n item) (sym c.len.ensures) ∙ sym c.in_ok-may_have_item.ensures.may ∙ c.if-not-branch.false in
     item_indexed config sets item c.put.result old c.put.new.self (g.V.Versions.lists c.args.store.now) (g.V.Versions.lists c.put.new.store)
     may c.may_have_item.ensures.stamped (c.requires.held.indexed honest)
     (on_ok c.put.result _ _ (λ made. made.list honest) c.put.ensures.made) (on_ok c.put.result _ _ (λ made. made.agrees honest) c.put.ensures.made)

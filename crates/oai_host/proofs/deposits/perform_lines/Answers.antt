@@ -27,15 +27,15 @@ loop-text-preserved g c =
     let next : c.loop-text.lines ≡ c.in-Some.text.now ∷ c.next.new.self = rw c.in-Some.is at c.next.ensures in
     let so_far = rw next at (simp to_z-of_z at c.loop-text.invariant.lines) in
     let done = rw c.in-Ok.is at (simp to_z-of_z at c.perform_line.ensures.ok) in
-    let line = subst (λ (honest : Bool). IsLinePerformed honest mid.config c.args.moment (line_of c.in-Some.text.now) (state_of mid between) done.text (state_of new after)) same done.line in
+    let line = subst (λ (honest : Bool). IsLinePerformed honest mid.config c.args.moment (line_of mid.config.forms c.in-Some.text.now) (state_of mid between) done.text (state_of new after)) same done.line in
     let kept = subst (λ (honest : Bool). Keeps honest mid between new after) same c.perform_line.ensures.kept in
     record {
       lines = simp to_z-of_z (one_done (V.honest c.args.store.now) old mid new before between after c.args.moment (lines_in c.args.body.now) c.next.new.self c.in-Some.text.now c.loop-text.told.items done.text c.perform_line.new.told.items c.loop-text.done
           so_far done.told line kept);
       room =
           let need = rw c.in-Ok.is at c.perform_line.ensures.store.room in
-          let used : V.room c.loop-text.store ≤ V.room c.perform_line.new.store + room_for_line old.config (line_of c.in-Some.text.now) =
-          subst (λ (config : RepositoryConfig). V.room c.loop-text.store ≤ V.room c.perform_line.new.store + room_for_line config (line_of c.in-Some.text.now)) c.loop-text.invariant.lines.kept.config need.used
+          let used : V.room c.loop-text.store ≤ V.room c.perform_line.new.store + room_for_line old.config (line_of old.config.forms c.in-Some.text.now) =
+          subst (λ (config : RepositoryConfig). V.room c.loop-text.store ≤ V.room c.perform_line.new.store + room_for_line config (line_of config.forms c.in-Some.text.now)) c.loop-text.invariant.lines.kept.config need.used
           in
           room_on old.config c.in-Some.text.now c.next.new.self (lines_in c.args.body.now) (V.room c.args.store.now) (V.room c.loop-text.store) (V.room c.perform_line.new.store)
           (rw next at c.loop-text.invariant.room) used;
@@ -55,8 +55,8 @@ returns-in-Err g c =
     let left = rw c.in-Err.is at c.perform_line.ensures.err in
     let kept = subst (λ (honest : Bool). Keeps honest mid (V.lists c.loop-text.store) c.perform_line.new.repo (V.lists c.perform_line.new.store)) same c.perform_line.ensures.kept in
     let line = rw c.in-Err.is at c.perform_line.ensures.store in
-    let need : NeedsRoom {A = Unit {0}} (room_for_line old.config (line_of c.in-Some.text.now)) (Err c.in-Err.fault) (V.room c.loop-text.store) (V.room c.perform_line.new.store) =
-    subst (λ (config : RepositoryConfig). NeedsRoom {A = Unit {0}} (room_for_line config (line_of c.in-Some.text.now)) (Err c.in-Err.fault) (V.room c.loop-text.store) (V.room c.perform_line.new.store)) so_far.kept.config line.room
+    let need : NeedsRoom {A = Unit {0}} (room_for_line old.config (line_of old.config.forms c.in-Some.text.now)) (Err c.in-Err.fault) (V.room c.loop-text.store) (V.room c.perform_line.new.store) =
+    subst (λ (config : RepositoryConfig). NeedsRoom {A = Unit {0}} (room_for_line config (line_of config.forms c.in-Some.text.now)) (Err c.in-Err.fault) (V.room c.loop-text.store) (V.room c.perform_line.new.store)) so_far.kept.config line.room
     in
     let told = fault_told c.in-Err.fault (Some c.loop-text.done) in record {
       performed = rw c.of_fault.ensures (record {

@@ -15,7 +15,7 @@ returns g c =
     let state = simp to_z-of_z at c.advance.ensures.moved in record {
       ok = record {
         text = text;
-        told = rw c.answer.ensures.line at c.put_line.ensures;
+        told = c.put_cause.ensures;
         line = record { so = record { told = refl; state = state }; exact = λ _. ap (λ (s : RepoState). (text, s)) (sym state) };
       };
       err = tt;

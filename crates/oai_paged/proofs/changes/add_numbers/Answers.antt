@@ -14,8 +14,8 @@ use Rattle.oai_paged.proofs.changes.add_numbers.Goals as goal
 
 pub overflow_add-overflow : goal.overflow_add-overflow
 overflow_add-overflow g c =
-    let items : List ItemState = between c.args.from c.args.to c.args.entries.now in
-    omega (arith, c.overflow-overflow.ensures, few_overflow items (storable-between c.args.from c.args.to c.args.entries.now c.len-all.ensures.storable) c.requires.alone)
+    let items : List ItemState = between c.args.range.from c.args.range.to c.args.range.entries.now in
+    omega (arith, c.overflow-overflow.ensures, few_overflow items (storable-between c.args.range.from c.args.range.to c.args.range.entries.now c.len-all.ensures.storable) c.requires.alone)
 
 pub loop-at-init : goal.loop-at-init
 loop-at-init g c = record {
@@ -27,14 +27,14 @@ loop-at-init g c = record {
 
 pub fill_page-requires-clause-there : goal.fill_page-requires-clause-there
 fill_page-requires-clause-there g c =
-    omega (arith, c.loop-at-test.true, c.overflow-overflow.ensures, length-pages (between c.args.from c.args.to c.args.entries.now))
+    omega (arith, c.loop-at-test.true, c.overflow-overflow.ensures, length-pages (between c.args.range.from c.args.range.to c.args.range.entries.now))
 
 pub add-requires : goal.add-requires
 add-requires g c =
-    let items : List ItemState = between c.args.from c.args.to c.args.entries.now in
+    let items : List ItemState = between c.args.range.from c.args.range.to c.args.range.entries.now in
     kind_fits items _ c.loop-at.at c.fill_page.new.page c.kind_for-kind.result c.kind_for-kind.ensures c.overflow-overflow.ensures
     (omega (arith, c.loop-at-test.true, c.overflow-overflow.ensures, length-pages items)) (c.fill_page.ensures [])
-    (storable-between c.args.from c.args.to c.args.entries.now c.len-all.ensures.storable) c.requires.alone
+    (storable-between c.args.range.from c.args.range.to c.args.range.entries.now c.len-all.ensures.storable) c.requires.alone
 
 pub unwrap-requires : goal.unwrap-requires
 unwrap-requires g c = c.push.ensures.succeeds (omega (arith, c.loop-at-test.true, c.loop-at.invariant.len, c.loop-at.invariant.room))
@@ -46,9 +46,9 @@ loop-at-preserved g c =
     let q = c.loop-at.pages in
     let r = c.add.new.self in
     let so_far = c.loop-at.invariant in
-    let all : List (List ℕ) = pages_of (between c.args.from c.args.to c.args.entries.now) in
+    let all : List (List ℕ) = pages_of (between c.args.range.from c.args.range.to c.args.range.entries.now) in
     let at = c.loop-at.at in
-    let within : at < length all = omega (arith, c.loop-at-test.true, c.overflow-overflow.ensures, length-pages (between c.args.from c.args.to c.args.entries.now)) in
+    let within : at < length all = omega (arith, c.loop-at-test.true, c.overflow-overflow.ensures, length-pages (between c.args.range.from c.args.range.to c.args.range.entries.now)) in
     let done : is_ok c.push.result ≡ true = c.push.ensures.succeeds (omega (arith, c.loop-at-test.true, so_far.len, so_far.room)) in
     let pushed : c.push.new.self.items ≡ c.loop-at.numbers.items ++ c.in-Ok.number ∷ [] = rw done at c.push.ensures.items in
     let next : take (at + 1) all ≡ take at all ++ c.fill_page.new.page ∷ [] = take_more all at [] within ∙ ap (λ page. take at all ++ page ∷ []) (sym (c.fill_page.ensures [])) in
@@ -81,7 +81,7 @@ returns-in-Err-clause-pool g c =
     let q = c.loop-at.pages in
     let r = c.add.new.self in
     let s = c.drop_numbers.new.pages in
-    let items : List ItemState = between c.args.from c.args.to c.args.entries.now in
+    let items : List ItemState = between c.args.range.from c.args.range.to c.args.range.entries.now in
     let at = c.loop-at.at in
     let few : at + 1 ≤ 1 + overflow_of items = omega (arith, c.loop-at-test.true, c.overflow-overflow.ensures) in
     let failed = spends_fault G 1 c.in-Err.fault q r c.in-Err.ensures.pool in
@@ -91,9 +91,9 @@ returns-in-Err-clause-pool g c =
 
 pub returns-clause-added : goal.returns-clause-added
 returns-clause-added g c =
-    let all : List (List ℕ) = pages_of (between c.args.from c.args.to c.args.entries.now) in
+    let all : List (List ℕ) = pages_of (between c.args.range.from c.args.range.to c.args.range.entries.now) in
     subst (λ (pages : List (List ℕ)). AddsNumbers g.P.PagePool pages c.loop-at.numbers.items c.args.pages.now c.loop-at.pages)
-    (take_all c.loop-at.at all (omega (arith, c.loop-at-test.false, c.overflow-overflow.ensures, length-pages (between c.args.from c.args.to c.args.entries.now))))
+    (take_all c.loop-at.at all (omega (arith, c.loop-at-test.false, c.overflow-overflow.ensures, length-pages (between c.args.range.from c.args.range.to c.args.range.entries.now))))
     c.loop-at.invariant.added
 
 pub returns-clause-pool : goal.returns-clause-pool
@@ -101,7 +101,7 @@ returns-clause-pool g c =
     let G = g.P.PagePool in
     let p = c.args.pages.now in
     let q = c.loop-at.pages in
-    let items : List ItemState = between c.args.from c.args.to c.args.entries.now in
+    let items : List ItemState = between c.args.range.from c.args.range.to c.args.range.entries.now in
     let at = c.loop-at.at in
     let few : at ≤ 1 + overflow_of items = omega (arith, c.loop-at.auto.at-end, c.overflow-overflow.ensures) in
     spends_more G at (1 + overflow_of items) (ok_of c.loop-at.numbers) p q few (spends_ok G at at c.loop-at.numbers p q c.loop-at.invariant.taken)

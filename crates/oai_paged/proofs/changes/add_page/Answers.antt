@@ -18,17 +18,17 @@ use Rattle.oai_paged.proofs.changes.add_page.Goals as goal
 pub returns-in-Ok-clause-added : goal.returns-in-Ok-clause-added
 returns-in-Ok-clause-added g c =
     let fits : FitsSigned w64 c.stamp-stamp.result = record { sfits = c.stamp-stamp.type_inv } in
-    let items : List ItemState = between c.args.from c.args.to c.args.entries.now in
+    let items : List ItemState = between c.args.range.from c.args.range.to c.args.range.entries.now in
     let place : PlaceState = c.in-Ok.place in
     let is = simp to_z-of_z at c.in-Ok.ensures in
     let d : ItemState = only_place (pos 0) [] in
-    let few = few_between c.args.entries.now c.args.from c.args.to (omega (arith, c.requires.order)) c.requires.within c.len-all.ensures.storable c.requires.alone in
+    let few = few_between c.args.range.entries.now c.args.range.from c.args.range.to (omega (arith, c.requires.order)) c.requires.within c.len-all.ensures.storable c.requires.alone in
     adds_page g.P.PagePool items place c.in_ok-numbers.numbers.items c.args.pages.now c.add_numbers.new.pages c.in_ok-numbers.ensures.added
-    (fit-between c.args.from c.args.to c.args.entries.now c.requires.order c.requires.within few.1 c.len-all.ensures.storable c.requires.rising) c.requires.alone
+    (fit-between c.args.range.from c.args.range.to c.args.range.entries.now c.requires.order c.requires.within few.1 c.len-all.ensures.storable c.requires.rising) c.requires.alone
     (ap (λ (p : PlaceState). p.pages) is ∙ c.as_slice.ensures.value)
     (ap (λ (p : PlaceState). begins_at p.stamp p.identifier items) is
-    ∙ begins-between c.stamp-stamp.result c.in_ok-identifier.identifier c.args.from c.args.to c.args.entries.now d c.requires.order c.requires.within (c.stamp-stamp.ensures d) (c.in_ok-identifier.ensures d))
-    (ap (λ (p : PlaceState). p.len) is ∙ sym (length-between c.args.from c.args.to c.args.entries.now c.requires.within))
+    ∙ begins-between c.stamp-stamp.result c.in_ok-identifier.identifier c.args.range.from c.args.range.to c.args.range.entries.now d c.requires.order c.requires.within (c.stamp-stamp.ensures d) (c.in_ok-identifier.ensures d))
+    (ap (λ (p : PlaceState). p.len) is ∙ sym (length-between c.args.range.from c.args.range.to c.args.range.entries.now c.requires.within))
     (ap (λ (p : PlaceState). p.size) is ∙ c.size_between-size.ensures)
     (ap (λ (p : PlaceState). have_records p.prefixes items) is ∙ c.in_ok-prefixes.ensures)
     (subst (λ (sets : Option (List SetTotal)). AreSetCounts sets items) (sym (ap (λ (p : PlaceState). p.sets) is)) c.set_counts-sets.ensures)

@@ -25,7 +25,7 @@ pub returns-in_err-add_part-2-clause-some : goal.returns-in_err-add_part-2-claus
 returns-in_err-add_part-2-clause-some g c =
     let p = c.args.pages.now in
     let start = adds_none g.P.PagePool p c.args.added.now.items c.requires.none in
-    let one : List ItemState = between 0 c.args.cuts.first c.args.entries.now in
+    let one : List ItemState = between 0 c.args.cut.cuts.first c.args.cut.entries.now in
     let first = c.in_ok-add_part.ensures.ok [] p start in
     on_err_of ((x : List ItemState) × Adds g.P.PagePool x c.add_part-2.new.added.items p c.add_part-2.new.pages) c.from_residual-in_err-add_part-2.result
     (one, c.in_err-add_part-2.ensures.err one p first)
@@ -33,23 +33,23 @@ returns-in_err-add_part-2-clause-some g c =
 pub returns-clause-ok : goal.returns-clause-ok
 returns-clause-ok g c =
     let p = c.args.pages.now in
-    let entries : List ItemState = c.args.entries.now in
+    let entries : List ItemState = c.args.cut.entries.now in
     let start = adds_none g.P.PagePool p c.args.added.now.items c.requires.none in
-    let one : List ItemState = between 0 c.args.cuts.first entries in
-    let two : List ItemState = one ++ between c.args.cuts.first c.args.cuts.second entries in
+    let one : List ItemState = between 0 c.args.cut.cuts.first entries in
+    let two : List ItemState = one ++ between c.args.cut.cuts.first c.args.cut.cuts.second entries in
     let first = c.in_ok-add_part.ensures.ok [] p start in
     let second = c.in_ok-add_part-2.ensures.ok one p first in
-    let all : two ++ between c.args.cuts.second c.len-len.result entries ≡ entries =
-    ap (λ n. two ++ between c.args.cuts.second n entries) c.len-len.ensures.len ∙ between-parts c.args.cuts.first c.args.cuts.second entries c.requires.cuts.first_below c.requires.cuts.second_below in
+    let all : two ++ between c.args.cut.cuts.second c.len-len.result entries ≡ entries =
+    ap (λ n. two ++ between c.args.cut.cuts.second n entries) c.len-len.ensures.len ∙ between-parts c.args.cut.cuts.first c.args.cut.cuts.second entries c.requires.cuts.first_below c.requires.cuts.second_below in
     subst (λ (xs : List ItemState). OnOk c.add_part-3.result (Adds g.P.PagePool xs c.add_part-3.new.added.items p c.add_part-3.new.pages)) all (c.add_part-3.ensures.ok two p second)
 
 pub returns-clause-some : goal.returns-clause-some
 returns-clause-some g c =
     let p = c.args.pages.now in
-    let entries : List ItemState = c.args.entries.now in
+    let entries : List ItemState = c.args.cut.entries.now in
     let start = adds_none g.P.PagePool p c.args.added.now.items c.requires.none in
-    let one : List ItemState = between 0 c.args.cuts.first entries in
-    let two : List ItemState = one ++ between c.args.cuts.first c.args.cuts.second entries in
+    let one : List ItemState = between 0 c.args.cut.cuts.first entries in
+    let two : List ItemState = one ++ between c.args.cut.cuts.first c.args.cut.cuts.second entries in
     let first = c.in_ok-add_part.ensures.ok [] p start in
     let second = c.in_ok-add_part-2.ensures.ok one p first in
     on_err_map (Adds g.P.PagePool two c.add_part-3.new.added.items p c.add_part-3.new.pages) ((x : List ItemState) × Adds g.P.PagePool x c.add_part-3.new.added.items p c.add_part-3.new.pages) c.add_part-3.result
@@ -60,7 +60,7 @@ returns-in_err-add_part-clause-pool g c =
     let G = g.P.PagePool in
     let p = c.args.pages.now in
     let q = c.add_part.new.pages in
-    let one : List ItemState = between 0 c.args.cuts.first c.args.entries.now in
+    let one : List ItemState = between 0 c.args.cut.cuts.first c.args.cut.entries.now in
     let is : c.from_residual.result ≡ Err c.in_err-add_part.field-0.0 = search rules in
     let none = overflow-one one c.requires.cuts.one in
     record {
@@ -74,19 +74,19 @@ returns-in_err-add_part-2-clause-pool g c =
     let p = c.args.pages.now in
     let q = c.add_part.new.pages in
     let r = c.add_part-2.new.pages in
-    let entries : List ItemState = c.args.entries.now in
+    let entries : List ItemState = c.args.cut.entries.now in
     let cuts = c.requires.cuts in
-    let one : List ItemState = between 0 c.args.cuts.first entries in
-    let two : List ItemState = between c.args.cuts.first c.args.cuts.second entries in
+    let one : List ItemState = between 0 c.args.cut.cuts.first entries in
+    let two : List ItemState = between c.args.cut.cuts.first c.args.cut.cuts.second entries in
     let result = c.from_residual-in_err-add_part-2.result in
     let is : result ≡ Err c.in_err-add_part-2.field-0.0 = search rules in
     let first = spends_more G (1 + overflow_of one) 1 (ok_of tt) p q (omega (arith, overflow-one one cuts.one)) c.in_ok-add_part.ensures.pool in
-    let most = few_overflow two (storable-between c.args.cuts.first c.args.cuts.second entries c.len-len.ensures.storable) cuts.two in
+    let most = few_overflow two (storable-between c.args.cut.cuts.first c.args.cut.cuts.second entries c.len-len.ensures.storable) cuts.two in
     let second = spends_failed G (1 + overflow_of two) 66 c.in_err-add_part-2.field-0.0 result q r is (omega (arith, most)) c.in_err-add_part-2.ensures.pool in
     record {
       pool = spends_both G 1 66 tt result p q r first second;
       few = λ fits. spends_both G 1 0 tt result p q r first
-          (spends_failed G 0 0 c.in_err-add_part-2.field-0.0 result q r is (omega arith) (c.in_err-add_part-2.ensures.none (whole_first c.args.cuts.first c.args.cuts.second entries cuts fits)));
+          (spends_failed G 0 0 c.in_err-add_part-2.field-0.0 result q r is (omega arith) (c.in_err-add_part-2.ensures.none (whole_first c.args.cut.cuts.first c.args.cut.cuts.second entries cuts fits)));
     }
 
 pub returns-clause-pool : goal.returns-clause-pool
@@ -97,20 +97,20 @@ returns-clause-pool g c =
     let r = c.add_part-2.new.pages in
     let s = c.add_part-3.new.pages in
     let result = c.add_part-3.result in
-    let entries : List ItemState = c.args.entries.now in
+    let entries : List ItemState = c.args.cut.entries.now in
     let cuts = c.requires.cuts in
-    let one : List ItemState = between 0 c.args.cuts.first entries in
-    let two : List ItemState = between c.args.cuts.first c.args.cuts.second entries in
-    let three : List ItemState = between c.args.cuts.second c.len-len.result entries in
+    let one : List ItemState = between 0 c.args.cut.cuts.first entries in
+    let two : List ItemState = between c.args.cut.cuts.first c.args.cut.cuts.second entries in
+    let three : List ItemState = between c.args.cut.cuts.second c.len-len.result entries in
     let first = spends_more G (1 + overflow_of one) 1 (ok_of tt) p q (omega (arith, overflow-one one cuts.one)) c.in_ok-add_part.ensures.pool in
-    let most = few_overflow two (storable-between c.args.cuts.first c.args.cuts.second entries c.len-len.ensures.storable) cuts.two in
+    let most = few_overflow two (storable-between c.args.cut.cuts.first c.args.cut.cuts.second entries c.len-len.ensures.storable) cuts.two in
     let second = spends_more G (1 + overflow_of two) 65 (ok_of tt) q r (omega (arith, most)) c.in_ok-add_part-2.ensures.pool in
-    let fits_third : fit_one three ≡ true = ap (λ n. fit_one (between c.args.cuts.second n entries)) c.len-len.ensures.len ∙ cuts.three in
+    let fits_third : fit_one three ≡ true = ap (λ n. fit_one (between c.args.cut.cuts.second n entries)) c.len-len.ensures.len ∙ cuts.three in
     let third = spends_more G (1 + overflow_of three) 1 result r s (omega (arith, overflow-one three fits_third)) c.add_part-3.ensures.pool in
     record {
       pool = spends_both G 66 1 tt result p r s (spends_both G 1 65 tt (ok_of tt) p q r first second) third;
       few = λ fits.
-          let whole : c.args.cuts.first ≡ c.args.cuts.second = whole_first c.args.cuts.first c.args.cuts.second entries cuts fits in
-          let all : c.args.cuts.second ≡ c.len-len.result = sym whole ∙ cuts.whole fits ∙ sym c.len-len.ensures.len in
+          let whole : c.args.cut.cuts.first ≡ c.args.cut.cuts.second = whole_first c.args.cut.cuts.first c.args.cut.cuts.second entries cuts fits in
+          let all : c.args.cut.cuts.second ≡ c.len-len.result = sym whole ∙ cuts.whole fits ∙ sym c.len-len.ensures.len in
           spends_both G 1 0 tt result p r s (spends_both G 1 0 tt (ok_of tt) p q r first (c.in_ok-add_part-2.ensures.none whole)) (c.add_part-3.ensures.none all);
     }

@@ -1,4 +1,4 @@
-use Rattle.std.proofs.Common.{◌≡◌, ◌∙◌, ℤ, Some, ap, subst, sym, w64}
+use Rattle.std.proofs.Common.{◌≡◌, ◌∙◌, ℤ, Some, ap, of_z, rules, subst, sym, to_z, w64}
 use Rattle.std.specs.Ordering.{is_eq}
 use Rattle.std.proofs.lemmas.Cmp.{is_eq_index}
 use Rattle.std.proofs.lemmas.Int.{to_z-of_z}
@@ -9,7 +9,8 @@ use Rattle.oai_places.proofs.finding.is_at.Goals as goal
 
 pub returns-in-Some : goal.returns-in-Some
 returns-in-Some c = λ item spelled.
-    let order : c.in-Some.order ≡ place_cmp item c.args.stamp c.args.identifier.now =
-    same_Some _ _ (subst (λ (s : ℤ). Some c.in-Some.order ≡ Some (place_cmp item s c.args.identifier.now)) (to_z-of_z w64 c.args.stamp c.ranges.stamp) (c.in-Some.ensures item spelled))
+    let is : to_z w64 (of_z w64 c.args.key.stamp) ≡ c.args.key.stamp = search (rules, to_z-of_z) in
+    let order : c.in-Some.order ≡ place_cmp item c.args.key.stamp c.args.key.identifier.now =
+    same_Some _ _ (subst (λ (s : ℤ). Some c.in-Some.order ≡ Some (place_cmp item s c.args.key.identifier.now)) is (c.in-Some.ensures item spelled))
     in
-    c.eq.ensures ∙ sym (is_eq_index c.in-Some.order) ∙ ap is_eq order ∙ sym (is_at-Equal c.args.stamp c.args.identifier.now item)
+    c.eq.ensures ∙ sym (is_eq_index c.in-Some.order) ∙ ap is_eq order ∙ sym (is_at-Equal c.args.key.stamp c.args.key.identifier.now item)

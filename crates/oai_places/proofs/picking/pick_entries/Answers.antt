@@ -8,7 +8,7 @@ use Rattle.oai_places.proofs.PickingLemmas.{next_item, none_picked, one_picked, 
 use Rattle.oai_places.proofs.picking.pick_entries.Goals as goal
 
 pub entries-init : goal.entries-init
-entries-init c = none_picked (is_wanted c.args.wanted.filter.now c.args.wanted.stamp c.args.wanted.identifier.now) c.args.most c.args.part.now.items c.args.skip c.args.entries.now
+entries-init c = none_picked (is_wanted c.args.portion.wanted.filter.now c.args.portion.wanted.key.stamp c.args.portion.wanted.key.identifier.now) c.args.portion.most c.args.part.now.items c.args.portion.skip c.args.entries.now
 
 pub returns-in_default : goal.returns-in_default
 returns-in_default c = λ items stored e.
@@ -16,7 +16,7 @@ returns-in_default c = λ items stored e.
     let some : 0 < length c.entries.rest.now = some_bytes (length c.entries.rest.now) (sym c.is_empty.ensures ∙ c.entries-test.true) in
     let so_far = c.entries.invariant items stored e in
     let x : ItemState = get_or items so_far.passed d in
-    let next = next_item (is_wanted c.args.wanted.filter.now c.args.wanted.stamp c.args.wanted.identifier.now) c.args.most c.args.part.now.items c.entries.part.items c.args.skip c.entries.left items d c.entries.rest.now stored some so_far in
+    let next = next_item (is_wanted c.args.portion.wanted.filter.now c.args.portion.wanted.key.stamp c.args.portion.wanted.key.identifier.now) c.args.portion.most c.args.part.now.items c.entries.part.items c.args.portion.skip c.entries.left items d c.entries.rest.now stored some so_far in
     c.in_default.ensures.parts x _ next.spelled next.parts
 
 pub returns-in-Err : goal.returns-in-Err
@@ -25,11 +25,11 @@ returns-in-Err c = λ items stored e.
     let some : 0 < length c.entries.rest.now = some_bytes (length c.entries.rest.now) (sym c.is_empty.ensures ∙ c.entries-test.true) in
     let so_far = c.entries.invariant items stored e in
     let x : ItemState = get_or items so_far.passed d in
-    let next = next_item (is_wanted c.args.wanted.filter.now c.args.wanted.stamp c.args.wanted.identifier.now) c.args.most c.args.part.now.items c.entries.part.items c.args.skip c.entries.left items d c.entries.rest.now stored some so_far in
-    let room : length c.entries.part.items < c.args.most = omega (arith, c.if-len-most.true, c.len.ensures, c.entries.part.ok.0) in
+    let next = next_item (is_wanted c.args.portion.wanted.filter.now c.args.portion.wanted.key.stamp c.args.portion.wanted.key.identifier.now) c.args.portion.most c.args.part.now.items c.entries.part.items c.args.portion.skip c.entries.left items d c.entries.rest.now stored some so_far in
+    let room : length c.entries.part.items < c.args.portion.most = omega (arith, c.if-len-portion.true, c.len.ensures, c.entries.part.ok.0) in
     let parts = c.in-Some.ensures.parts x _ next.spelled next.parts in
-    picking_ends (is_wanted c.args.wanted.filter.now c.args.wanted.stamp c.args.wanted.identifier.now) c.args.most c.args.part.now.items c.entries.part.items c.pick_next.new.part.items c.args.skip c.entries.left (x ∷ []) items c.in-Err.fault
-    (c.in-Err.ensures x c.args.most (subst (λ (bs : List ℕ). Spells bs x) (sym parts.0) next.spelled) room)
+    picking_ends (is_wanted c.args.portion.wanted.filter.now c.args.portion.wanted.key.stamp c.args.portion.wanted.key.identifier.now) c.args.portion.most c.args.part.now.items c.entries.part.items c.pick_next.new.part.items c.args.portion.skip c.entries.left (x ∷ []) items c.in-Err.fault
+    (c.in-Err.ensures x c.args.portion.most (subst (λ (bs : List ℕ). Spells bs x) (sym parts.0) next.spelled) room)
 
 pub entries-preserved : goal.entries-preserved
 entries-preserved c = λ items stored e.
@@ -37,18 +37,18 @@ entries-preserved c = λ items stored e.
     let some : 0 < length c.entries.rest.now = some_bytes (length c.entries.rest.now) (sym c.is_empty.ensures ∙ c.entries-test.true) in
     let so_far = c.entries.invariant items stored e in
     let x : ItemState = get_or items so_far.passed d in
-    let next = next_item (is_wanted c.args.wanted.filter.now c.args.wanted.stamp c.args.wanted.identifier.now) c.args.most c.args.part.now.items c.entries.part.items c.args.skip c.entries.left items d c.entries.rest.now stored some so_far in
-    let room : length c.entries.part.items < c.args.most = omega (arith, c.if-len-most.true, c.len.ensures, c.entries.part.ok.0) in
+    let next = next_item (is_wanted c.args.portion.wanted.filter.now c.args.portion.wanted.key.stamp c.args.portion.wanted.key.identifier.now) c.args.portion.most c.args.part.now.items c.entries.part.items c.args.portion.skip c.entries.left items d c.entries.rest.now stored some so_far in
+    let room : length c.entries.part.items < c.args.portion.most = omega (arith, c.if-len-portion.true, c.len.ensures, c.entries.part.ok.0) in
     let parts = c.in-Some.ensures.parts x _ next.spelled next.parts in
-    one_picked (is_wanted c.args.wanted.filter.now c.args.wanted.stamp c.args.wanted.identifier.now) c.args.most c.args.part.now.items c.entries.part.items _ c.args.skip c.entries.left _ items d c.entries.rest.now _ so_far next parts.1
-    (c.in-Ok.ensures x c.args.most (subst (λ (bs : List ℕ). Spells bs x) (sym parts.0) next.spelled) room)
+    one_picked (is_wanted c.args.portion.wanted.filter.now c.args.portion.wanted.key.stamp c.args.portion.wanted.key.identifier.now) c.args.portion.most c.args.part.now.items c.entries.part.items _ c.args.portion.skip c.entries.left _ items d c.entries.rest.now _ so_far next parts.1
+    (c.in-Ok.ensures x c.args.portion.most (subst (λ (bs : List ℕ). Spells bs x) (sym parts.0) next.spelled) room)
 
-pub returns-else-len-most : goal.returns-else-len-most
-returns-else-len-most c = λ items stored e.
-    picked_enough (is_wanted c.args.wanted.filter.now c.args.wanted.stamp c.args.wanted.identifier.now) c.args.most c.args.part.now.items c.entries.part.items c.args.skip c.entries.left items c.entries.rest.now
-    (omega (arith, c.if-len-most.false, c.len.ensures, c.entries.part.ok.0)) (c.entries.invariant items stored e)
+pub returns-else-len-portion : goal.returns-else-len-portion
+returns-else-len-portion c = λ items stored e.
+    picked_enough (is_wanted c.args.portion.wanted.filter.now c.args.portion.wanted.key.stamp c.args.portion.wanted.key.identifier.now) c.args.portion.most c.args.part.now.items c.entries.part.items c.args.portion.skip c.entries.left items c.entries.rest.now
+    (omega (arith, c.if-len-portion.false, c.len.ensures, c.entries.part.ok.0)) (c.entries.invariant items stored e)
 
 pub returns-after-entries : goal.returns-after-entries
 returns-after-entries c = λ items stored e.
-    picked_all (is_wanted c.args.wanted.filter.now c.args.wanted.stamp c.args.wanted.identifier.now) c.args.most c.args.part.now.items c.entries.part.items c.args.skip c.entries.left items c.entries.rest.now
+    picked_all (is_wanted c.args.portion.wanted.filter.now c.args.portion.wanted.key.stamp c.args.portion.wanted.key.identifier.now) c.args.portion.most c.args.part.now.items c.entries.part.items c.args.portion.skip c.entries.left items c.entries.rest.now
     (eqb-true (length c.entries.rest.now) 0 (sym c.is_empty.ensures ∙ c.entries-test.false)) (c.entries.invariant items stored e)

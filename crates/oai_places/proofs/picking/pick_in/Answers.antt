@@ -17,8 +17,8 @@ read_span-requires-clause-named g c =
 pub returns-in-Ok-clause-taken : goal.returns-in-Ok-clause-taken
 returns-in-Ok-clause-taken g c =
     let pages = g.P.PagePool.pages c.args.pages.now in
-    λ honest. span_picked pages c.args.place.now c.pages.result.now c.in_ok-bytes.bytes.items c.deref.result.now c.args.wanted.filter.now c.args.wanted.stamp c.args.wanted.identifier.now c.args.span c.args.most
-    c.args.part.now.items c.pick_entries.new.part.items c.args.skip (Ok c.in-Ok.left) c.pages.ensures c.requires.sound c.requires.pickable
+    λ honest. span_picked pages c.args.place.now c.pages.result.now c.in_ok-bytes.bytes.items c.deref.result.now c.args.portion.wanted.filter.now c.args.portion.wanted.key.stamp c.args.portion.wanted.key.identifier.now c.args.span c.args.portion.most
+    c.args.part.now.items c.pick_entries.new.part.items c.args.portion.skip (Ok c.in-Ok.left) c.pages.ensures c.requires.sound c.requires.pickable
     (c.in_ok-bytes.ensures.bytes honest) c.deref.ensures.value c.in-Ok.ensures
 
 pub returns-clause-pages : goal.returns-clause-pages
@@ -28,6 +28,6 @@ returns-clause-pages g c =
     let q = c.read_span.new.pages in
     reads_undecoded G c.in-Err.fault c.decoding_fault_of.result p q c.decoding_fault_of.ensures (read_more G c.read_span.result p p q (read_none G p) c.read_span.ensures.pages)
     (λ damage. false_from_ne_true (G.honest p)
-    (λ honest. span_picked (G.pages p) c.args.place.now c.pages.result.now c.in_ok-bytes.bytes.items c.deref.result.now c.args.wanted.filter.now c.args.wanted.stamp c.args.wanted.identifier.now c.args.span c.args.most
-    c.args.part.now.items c.pick_entries.new.part.items c.args.skip (Err Damaged) c.pages.ensures c.requires.sound c.requires.pickable
+    (λ honest. span_picked (G.pages p) c.args.place.now c.pages.result.now c.in_ok-bytes.bytes.items c.deref.result.now c.args.portion.wanted.filter.now c.args.portion.wanted.key.stamp c.args.portion.wanted.key.identifier.now c.args.span c.args.portion.most
+    c.args.part.now.items c.pick_entries.new.part.items c.args.portion.skip (Err Damaged) c.pages.ensures c.requires.sound c.requires.pickable
     (c.in_ok-bytes.ensures.bytes honest) c.deref.ensures.value (rw damage at c.in-Err.ensures)))

@@ -1,7 +1,5 @@
-use Rattle.std.proofs.Common.{◌∙◌, ◌<◌, ℤ, ℕ, [], ap, arith, get_or, length, refl, sym, unwrap_or, w64}
+use Rattle.std.proofs.Common.{◌∙◌, ◌<◌, ℕ, [], ap, arith, get_or, length, refl, sym, unwrap_or}
 use Rattle.std.proofs.lemmas.Bool.{false_from_ne_true}
-use Rattle.std.proofs.lemmas.Int.{to_z-of_z}
-use Rattle.oai_item.specs.Items.{item_at}
 use Rattle.oai_pool.specs.Names.{times}
 use Rattle.oai_places.specs.Places.{items_at, page_at}
 use Rattle.oai_places.proofs.HaveReadLemmas.{read_page}
@@ -29,7 +27,7 @@ returns-in-Ok-find_tested-clause-found g c =
     let items = items_at pages place in
     λ honest. c.in-Ok-find_tested.ensures items
     (page_of_one pages place c.pages.result.now c.deref.result.now c.pages.ensures c.requires.one c.requires.sound (c.deref.ensures ∙ sym (ap (λ o. unwrap_or o []) (c.in-Ok.ensures.value honest))))
-    c.requires.sound.counted c.requires.sound.begins ∙ ap (λ (s : ℤ). item_at s c.args.identifier.now items) (to_z-of_z w64 c.args.stamp c.ranges.stamp)
+    c.requires.sound.counted c.requires.sound.begins
 
 pub returns-in-Ok-clause-pages : goal.returns-in-Ok-clause-pages
 returns-in-Ok-clause-pages g c =

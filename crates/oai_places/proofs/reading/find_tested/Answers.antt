@@ -1,6 +1,5 @@
-use Rattle.std.proofs.Common.{◌≡◌, ◌∙◌, FitsSigned, ◌==◌, true, ℤ, List, ℕ, ap, arith, sym, w64}
+use Rattle.std.proofs.Common.{◌≡◌, ◌∙◌, ◌==◌, true, ℤ, List, ℕ, ap, arith, sym}
 use Rattle.std.proofs.lemmas.Bool.{both_ways}
-use Rattle.std.proofs.lemmas.Int.{to_z-of_z}
 use Rattle.oai_places.specs.Pages.{begins_at}
 use Rattle.oai_places.proofs.reading.find_tested.Goals as goal
 
@@ -13,7 +12,6 @@ returns-then-not-has_items c = λ items page many begins.
 
 pub returns-then-not-begins_on_page : goal.returns-then-not-begins_on_page
 returns-then-not-begins_on_page c = λ items page many begins.
-    let fits : FitsSigned w64 c.stamp.result = record { sfits = c.stamp.type_inv } in
     both_ways c.begins_on_page.result c.if-not-begins_on_page.true
-    (c.begins_on_page.ensures items page ∙ ap (λ (s : ℤ). begins_at s c.identifier.result.now items) (to_z-of_z w64 c.stamp.result fits ∙ c.stamp.ensures)
-    ∙ ap (λ (i : List ℕ). begins_at c.args.place.now.stamp i items) c.identifier.ensures ∙ begins)
+    (c.begins_on_page.ensures items page ∙ ap (λ (s : ℤ). begins_at s c.key.result.identifier.now items) c.key.ensures.stamp
+    ∙ ap (λ (i : List ℕ). begins_at c.args.place.now.stamp i items) c.key.ensures.identifier ∙ begins)

@@ -7,7 +7,7 @@ use Rattle.oai_lists.specs.Tokens.{token_of}
 use Rattle.oai_repo.specs.Fields.{frozen_in, has, is_counted, is_marked, open_lists_of, versions_in}
 use Rattle.oai_repo.specs.Listing.{prolonged, with_carried_on}
 use Rattle.oai_repo.specs.declared.responses.Replay.TheVariants.{Request, Tick}
-use Rattle.oai_repo.specs.Tables.{is_of_format}
+use Rattle.oai_repo.specs.Tables.{is_of_known_format}
 use Rattle.oai_repo.proofs.OpenListLemmas.{all_true, open_lists_kept, table_agrees_kept, left_kept, numbered_there, open_parts}
 use Rattle.oai_repo.proofs.ClockLemmas.{years_fit}
 use Rattle.oai_repo.proofs.NumberLemmas.{some_true, used_at}
@@ -31,7 +31,7 @@ reply_from-requires-clause-list g c =
     let numbered = open_parts found.0.list now (λ _. true) table.lists list there (all_true table.lists) in
     record {
       within = ltb-true c.in-Some.cursor list.size (valid_within c.chunk_of-chunk.result list.size list.given c.in-Some.cursor found.2.valid);
-      known = (open_parts found.0.list now (is_of_format config) table.lists list there c.requires.ready.kept.known).2;
+      known = (open_parts found.0.list now (is_of_known_format config) table.lists list there c.requires.ready.kept.known).2;
       lists = records_continued list.verb c.args.verb found.2.right;
       stands = some_true _ (used_at (v ∷ versions_in table) all list.version c.requires.ready.stands.used (or_right (eqb v list.version) (has (versions_in table) list.version) numbered.3));
       counted = λ honest. (open_parts found.0.list now (is_counted all) table.lists list there (c.requires.ready.agrees honest).counted).2;
@@ -77,7 +77,7 @@ returns-clause-reply g c = λ honest.
     ∙ ap (λ (next : Option ℕ). with_carried_on config repo.clock list.number next (open_lists_of repo.clock table all)) (c.in_ok-part.ensures.next honest)
     in
     let kept = simp to_z-of_z at c.carry_on.ensures in
-    let known = (open_parts token.0.list repo.clock (is_of_format config) table.lists list token.2.there c.requires.ready.kept.known).2 in
+    let known = (open_parts token.0.list repo.clock (is_of_known_format config) table.lists list token.2.there c.requires.ready.kept.known).2 in
     let is_part = part_continued config c.args.verb _ (prolonged config repo.clock (frozen_in all list)) c.in-Some.cursor known (records_continued list.verb c.args.verb token.2.right) in
     rw c.with_part.ensures
     (reply_as repo (attributes_of repo.asked) _ _ (record { reply = part.reply; replay = Request }) c.carry_on.new.lists (g.V.Versions.lists c.reply_from.new.store) on

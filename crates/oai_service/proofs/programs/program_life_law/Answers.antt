@@ -10,7 +10,7 @@ known_bytes None read first found nothing whole = nothing
 known_bytes (Some file) read first found same whole = subst (λ (bytes : List ℕ). IsUndamaged bytes first found) same whole
 
 pub returns : goal.returns
-returns g c = λ held text origin later result new lived left clean leaves.
+returns g c = λ held text rings origin later result new lived left clean leaves.
     let begins = lived.begins clean in (
       lived.rules,
       begins.first,

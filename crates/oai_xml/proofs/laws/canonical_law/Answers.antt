@@ -1,5 +1,5 @@
 use Rattle.std.proofs.Common.{◌∙◌, sym}
-use Rattle.oai_xml.proofs.CanonicalLemmas.{canonical_tree, canonical_again}
+use Rattle.oai_xml.proofs.CanonicalLemmas.{canonical_tree, canonical_again, element_tested, element_found}
 use Rattle.oai_xml.proofs.ReadWhole.{no_ok}
 use Rattle.oai_xml.proofs.laws.canonical_law.Goals as goal
 
@@ -11,6 +11,12 @@ returns-clause-tree c = canonical_tree
 
 pub returns-clause-again : goal.returns-clause-again
 returns-clause-again c = canonical_again
+
+pub returns-clause-tested : goal.returns-clause-tested
+returns-clause-tested c = element_tested
+
+pub returns-clause-found : goal.returns-clause-found
+returns-clause-found c = element_found
 
 pub returns-clause-faulty : goal.returns-clause-faulty
 returns-clause-faulty c = λ text offset is element. no_ok offset text (sym is ∙ canonical_again text element)

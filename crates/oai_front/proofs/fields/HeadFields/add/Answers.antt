@@ -14,5 +14,6 @@ returns c = λ fields read.
       transfer_encoding = c.add-2.ensures fields read.transfer_encoding;
       content_length = c.add-3.ensures fields read.content_length;
       content_type = c.add-4.ensures fields read.content_type;
+      authorization = c.add-5.ensures fields read.authorization;
       close = joined ∙ ap (λ (b : Bool). b || any_close (field ∷ [])) read.close ∙ sym (close_more fields field);
     }

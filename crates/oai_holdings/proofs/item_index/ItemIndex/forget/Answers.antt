@@ -2,8 +2,13 @@
 use Rattle.std.proofs.Common.{◌≡◌, ◌∙◌, ◌≤◌, ◌+◌, ℕ, Bool, true, false, cond, None, is_some, length, sym, ap, subst, arith}
 use Rattle.oai_holdings.specs.Index.{ItemIndex}
 use Rattle.oai_holdings.specs.Entries.{SetsStamp, stamp_in, entries_in}
-use Rattle.oai_holdings.proofs.IndexLemmas.{many_view, noted_view, updates_noted}
+use Rattle.oai_holdings.proofs.IndexLemmas.{dated_set, many_view, noted_view, updates_noted}
 use Rattle.oai_holdings.proofs.item_index.ItemIndex.forget.Goals as goal
+
+pub invariant_of-self : goal.invariant_of-self
+invariant_of-self c =
+    dated_set c.args.identifier.now None (entries_in c.self.inside.stamps) (entries_in c.remove.new.self)
+    (updates_noted c.self.inside.stamps c.remove.new.self c.args.identifier.now None c.remove.ensures.updates) tt c.self.invariant
 
 pub returns-clause-entries : goal.returns-clause-entries
 returns-clause-entries c =

@@ -7,8 +7,8 @@ use Rattle.oai_item.specs.Items.{with_item}
 use Rattle.oai_catalogue.specs.Store.{list_at}
 use Rattle.oai_holdings.specs.Changes.{with_new}
 use Rattle.oai_holdings.specs.Index.{IndexAgrees, ItemIndex, stored_items}
-use Rattle.oai_holdings.specs.Entries.{SetsStamp, IndexEntries, stamp_in, entries_in}
-use Rattle.oai_holdings.proofs.IndexLemmas.{many_view, noted_view, put_first, undone, updates_noted}
+use Rattle.oai_holdings.specs.Entries.{AreDated, SetsStamp, IndexEntries, stamp_in, entries_in}
+use Rattle.oai_holdings.proofs.IndexLemmas.{dated_set, many_view, noted_view, put_first, undone, updates_noted}
 use Rattle.oai_holdings.proofs.item_index.ItemIndex.insert.Goals as goal
 
 pub returns-in-Ok-clause-made : goal.returns-in-Ok-clause-made
@@ -73,3 +73,23 @@ returns-in-Err-clause-moves g c =
   where
     index_of : ℕ → IndexEntries → ItemIndex
     index_of version entries = record { version = version; entries = entries }
+
+pub invariant_of-self-in-Ok : goal.invariant_of-self-in-Ok
+invariant_of-self-in-Ok g c =
+    let fits : FitsSigned w64 c.stamp.result = record { sfits = c.stamp.type_inv } in
+    let item = c.args.item.now in
+    let old = c.self.inside.stamps in
+    let key : string_bytes c.in_ok-key.key ≡ item.identifier = c.in_ok-key.ensures.ok ∙ c.as_str-identifier.ensures.text ∙ c.identifier.ensures in
+    let put : SetsStamp (string_bytes c.in_ok-key.key) (Some item.stamp) (entries_in old) (entries_in c.insert.new.self) =
+    updates_noted old c.insert.new.self (string_bytes c.in_ok-key.key) (Some item.stamp) (rw c.stamp.ensures.stamp at (simp to_z-of_z at c.in_ok-insert.ensures.updates)) in
+    dated_set (string_bytes c.in_ok-key.key) (Some item.stamp) (entries_in old) (entries_in c.insert.new.self) put c.stamp.ensures.in_range c.self.invariant
+
+pub invariant_of-self-in-Err : goal.invariant_of-self-in-Err
+invariant_of-self-in-Err g c =
+    let olds : entries_in c.self.inside.stamps ≡ c.args.self.now.entries = ap (λ (s : ItemIndex). s.entries) c.self.view_is in
+    let key : string_bytes c.in_ok-key.key ≡ c.args.item.now.identifier = c.in_ok-key.ensures.ok ∙ c.as_str-identifier.ensures.text ∙ c.identifier.ensures in
+    let text : c.as_str-identifier.result.now ≡ c.args.item.now.identifier = c.as_str-identifier.ensures.text ∙ c.identifier.ensures in
+    let none : stamp_in c.args.item.now.identifier (entries_in c.self.inside.stamps) ≡ None = ap (λ (xs : IndexEntries). stamp_in c.args.item.now.identifier xs) olds ∙ c.requires.first in
+    let back : entries_in c.remove.new.self ≡ entries_in c.self.inside.stamps =
+    undone c.self.inside.stamps c.insert.new.self c.remove.new.self c.in_ok-key.key c.args.item.now.identifier _ key none c.in_ok-insert.ensures.entries (rw text at c.remove.ensures.entries) in
+    subst (λ (xs : IndexEntries). AreDated xs) (sym back) c.self.invariant

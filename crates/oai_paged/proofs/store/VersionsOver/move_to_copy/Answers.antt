@@ -77,11 +77,11 @@ invariant_of-self-in-Some-get_mut g c =
     let own = c.insert_reserved-own.result in
     let was : DirectoryState = c.in-Some.directory.now in
     let made : DirectoryState = c.in_ok-copy.copy in
-    let left : DirectoryState = record { places = c.directory.inside.places.items; versions = c.directory.inside.versions - 1 } in
+    let left : DirectoryState = record { places = c.directory.inside.leaves.places.items; versions = c.directory.inside.versions - 1 } in
     let mid : Shelves = slice_set before number (Some left) in
     let after : Shelves = c.insert_reserved-own.new.self.slots in
     let versions : DirectoryNumbers = slice_set self.versions.slots c.args.v (Some own) in
-    let seen : DirectoryState = record { places = c.directory.inside.places.items; versions = c.directory.inside.versions } in
+    let seen : DirectoryState = record { places = c.directory.inside.leaves.places.items; versions = c.directory.inside.versions } in
     let view : seen ≡ was = cc (c.directory.view_is) in
     let same_places : left.places ≡ was.places = ap (λ (directory : DirectoryState). directory.places) view in
     let same_count : c.directory.inside.versions ≡ was.versions = ap (λ (directory : DirectoryState). directory.versions) view in
@@ -111,11 +111,11 @@ returns-in-Some-get_mut-clause-own g c =
     let own = c.insert_reserved-own.result in
     let was : DirectoryState = c.in-Some.directory.now in
     let made : DirectoryState = c.in_ok-copy.copy in
-    let left : DirectoryState = record { places = c.directory.inside.places.items; versions = c.directory.inside.versions - 1 } in
+    let left : DirectoryState = record { places = c.directory.inside.leaves.places.items; versions = c.directory.inside.versions - 1 } in
     let mid : Shelves = slice_set before number (Some left) in
     let after : Shelves = c.insert_reserved-own.new.self.slots in
     let versions : DirectoryNumbers = slice_set self.versions.slots c.args.v (Some own) in
-    let seen : DirectoryState = record { places = c.directory.inside.places.items; versions = c.directory.inside.versions } in
+    let seen : DirectoryState = record { places = c.directory.inside.leaves.places.items; versions = c.directory.inside.versions } in
     let view : seen ≡ was = cc (c.directory.view_is) in
     let same_places : left.places ≡ was.places = ap (λ (directory : DirectoryState). directory.places) view in
     let same_count : c.directory.inside.versions ≡ was.versions = ap (λ (directory : DirectoryState). directory.versions) view in
@@ -155,11 +155,11 @@ returns-in-Some-get_mut-clause-lists g c =
     let own = c.insert_reserved-own.result in
     let was : DirectoryState = c.in-Some.directory.now in
     let made : DirectoryState = c.in_ok-copy.copy in
-    let left : DirectoryState = record { places = c.directory.inside.places.items; versions = c.directory.inside.versions - 1 } in
+    let left : DirectoryState = record { places = c.directory.inside.leaves.places.items; versions = c.directory.inside.versions - 1 } in
     let mid : Shelves = slice_set before number (Some left) in
     let after : Shelves = c.insert_reserved-own.new.self.slots in
     let versions : DirectoryNumbers = slice_set self.versions.slots c.args.v (Some own) in
-    let seen : DirectoryState = record { places = c.directory.inside.places.items; versions = c.directory.inside.versions } in
+    let seen : DirectoryState = record { places = c.directory.inside.leaves.places.items; versions = c.directory.inside.versions } in
     let view : seen ≡ was = cc (c.directory.view_is) in
     let same_places : left.places ≡ was.places = ap (λ (directory : DirectoryState). directory.places) view in
     let same_count : c.directory.inside.versions ≡ was.versions = ap (λ (directory : DirectoryState). directory.versions) view in

@@ -8,4 +8,4 @@ find-requires g c =
     let G = g.P.PagePool in
     let self = c.args.self.now in
     let found : Some c.in-Some.directory.now ≡ shelf_at self.directories.slots c.number_of-number.result = c.in-Some.ensures in
-    rw c.places.ensures (store_stands G self.directories.slots c.number_of-number.result c.in-Some.directory.now self.pool self.shelved (sym found))
+    rw c.as_list.ensures.places (store_stands G self.directories.slots c.number_of-number.result c.in-Some.directory.now self.pool self.shelved (sym found))

@@ -9,7 +9,7 @@ pub prove-unreachable-requires : goal.prove-unreachable-requires
 prove-unreachable-requires g c =
     let self = c.args.self.now in
     let number = c.number_of-number.result in
-    let was : DirectoryState = record { places = c.directory.inside.places.items; versions = c.directory.inside.versions } in
+    let was : DirectoryState = record { places = c.directory.inside.leaves.places.items; versions = c.directory.inside.versions } in
     let found : Some c.in-Some.directory.now ≡ shelf_at self.directories.slots number = c.in-Some.ensures.value in
     let stood : shelf_at self.directories.slots number ≡ Some was = sym found ∙ ap Some (cc (c.directory.view_is)) in
     let told : references_to number self.versions.slots ≡ c.directory.inside.versions = told_of self.versions.slots self.directories.slots number was
@@ -27,8 +27,8 @@ invariant_of-self-2 g c =
     let G = g.P.PagePool in
     let self = c.args.self.now in
     let number = c.number_of-number.result in
-    let was : DirectoryState = record { places = c.directory.inside.places.items; versions = c.directory.inside.versions } in
-    let more : DirectoryState = record { places = c.directory.inside.places.items; versions = c.directory.inside.versions + 1 } in
+    let was : DirectoryState = record { places = c.directory.inside.leaves.places.items; versions = c.directory.inside.versions } in
+    let more : DirectoryState = record { places = c.directory.inside.leaves.places.items; versions = c.directory.inside.versions + 1 } in
     let found : Some c.in-Some.directory.now ≡ shelf_at self.directories.slots number = c.in-Some.ensures.value in
     let stood : shelf_at self.directories.slots number ≡ Some was = sym found ∙ ap Some (cc (c.directory.view_is)) in
     let versions = puts_in self.versions c.reserve.new.self c.insert_reserved.new.self c.insert_reserved.result number
@@ -44,8 +44,8 @@ returns-clause-ok g c =
     let G = g.P.PagePool in
     let self = c.args.self.now in
     let number = c.number_of-number.result in
-    let was : DirectoryState = record { places = c.directory.inside.places.items; versions = c.directory.inside.versions } in
-    let more : DirectoryState = record { places = c.directory.inside.places.items; versions = c.directory.inside.versions + 1 } in
+    let was : DirectoryState = record { places = c.directory.inside.leaves.places.items; versions = c.directory.inside.versions } in
+    let more : DirectoryState = record { places = c.directory.inside.leaves.places.items; versions = c.directory.inside.versions + 1 } in
     let found : Some c.in-Some.directory.now ≡ shelf_at self.directories.slots number = c.in-Some.ensures.value in
     let stood : shelf_at self.directories.slots number ≡ Some was = sym found ∙ ap Some (cc (c.directory.view_is)) in
     let versions = puts_in self.versions c.reserve.new.self c.insert_reserved.new.self c.insert_reserved.result number

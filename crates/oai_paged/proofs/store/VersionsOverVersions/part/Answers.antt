@@ -13,7 +13,7 @@ part-requires-clause-stands g c =
     let number = c.number_of-number.result in
     let was : DirectoryState = c.in-Some.directory.now in
     let stood : shelf_at self.directories.slots number ≡ Some was = sym c.in-Some.ensures.value in
-    let places : c.places.result.now ≡ was.places = c.places.ensures ∙ ap (λ (directory : DirectoryState). directory.places) c.tend.ensures in
+    let places : c.as_list.result.places.now ≡ was.places = c.as_list.ensures.places ∙ ap (λ (directory : DirectoryState). directory.places) c.tend.ensures in
     subst (λ (places : List PlaceState). StandsIn G self.pool places) (sym places)
     (store_stands G self.directories.slots number was self.pool self.shelved stood)
 

@@ -34,7 +34,7 @@ put-requires-clause-stands g c =
     let self = c.args.self.now in
     let made = c.own.new.self in
     let number = c.in_ok-number.number in
-    let was : DirectoryState = record { places = c.directory.inside.places.items; versions = c.directory.inside.versions } in
+    let was : DirectoryState = record { places = c.directory.inside.leaves.places.items; versions = c.directory.inside.versions } in
     let found : Some c.in-Some.directory.now ≡ shelf_at made.directories.slots number = c.in-Some.ensures.value in
     let stood : shelf_at made.directories.slots number ≡ Some was = sym found ∙ ap Some (cc (c.directory.view_is)) in
     store_stands G made.directories.slots number was made.pool made.shelved stood
@@ -45,10 +45,10 @@ invariant_of-self g c =
     let self = c.args.self.now in
     let made = c.own.new.self in
     let number = c.in_ok-number.number in
-    let was : DirectoryState = record { places = c.directory.inside.places.items; versions = c.directory.inside.versions } in
+    let was : DirectoryState = record { places = c.directory.inside.leaves.places.items; versions = c.directory.inside.versions } in
     let found : Some c.in-Some.directory.now ≡ shelf_at made.directories.slots number = c.in-Some.ensures.value in
     let stood : shelf_at made.directories.slots number ≡ Some was = sym found ∙ ap Some (cc (c.directory.view_is)) in
-    let is : DirectoryState = record { places = c.put.new.places.items; versions = c.directory.inside.versions } in
+    let is : DirectoryState = record { places = c.put.new.self.places.items; versions = c.directory.inside.versions } in
     record {
       shelved = changed_shelved G 67 c.args.v number made.versions.slots made.directories.slots was is made.pool c.put.new.pages made.shelved made.shared stood
           c.put.result c.put.ensures.changes;
@@ -62,10 +62,10 @@ returns-clause-ok g c =
     let self = c.args.self.now in
     let made = c.own.new.self in
     let number = c.in_ok-number.number in
-    let was : DirectoryState = record { places = c.directory.inside.places.items; versions = c.directory.inside.versions } in
+    let was : DirectoryState = record { places = c.directory.inside.leaves.places.items; versions = c.directory.inside.versions } in
     let found : Some c.in-Some.directory.now ≡ shelf_at made.directories.slots number = c.in-Some.ensures.value in
     let stood : shelf_at made.directories.slots number ≡ Some was = sym found ∙ ap Some (cc (c.directory.view_is)) in
-    let is : DirectoryState = record { places = c.put.new.places.items; versions = c.directory.inside.versions } in
+    let is : DirectoryState = record { places = c.put.new.self.places.items; versions = c.directory.inside.versions } in
     let own = c.in_ok-number.ensures.own in
     let turned = changed_turned G 67 c.args.v number made.versions.slots made.directories.slots was is made.pool c.put.new.pages made.shelved made.shared stood
     c.put.result c.put.ensures.changes (lists_by (G.pages self.pool) self.versions.slots self.directories.slots) c.own.ensures.lists own.alone
@@ -78,10 +78,10 @@ returns-clause-err g c =
     let self = c.args.self.now in
     let made = c.own.new.self in
     let number = c.in_ok-number.number in
-    let was : DirectoryState = record { places = c.directory.inside.places.items; versions = c.directory.inside.versions } in
+    let was : DirectoryState = record { places = c.directory.inside.leaves.places.items; versions = c.directory.inside.versions } in
     let found : Some c.in-Some.directory.now ≡ shelf_at made.directories.slots number = c.in-Some.ensures.value in
     let stood : shelf_at made.directories.slots number ≡ Some was = sym found ∙ ap Some (cc (c.directory.view_is)) in
-    let is : DirectoryState = record { places = c.put.new.places.items; versions = c.directory.inside.versions } in
+    let is : DirectoryState = record { places = c.put.new.self.places.items; versions = c.directory.inside.versions } in
     let own = c.in_ok-number.ensures.own in
     let turned = changed_turned G 67 c.args.v number made.versions.slots made.directories.slots was is made.pool c.put.new.pages made.shelved made.shared stood
     c.put.result c.put.ensures.changes (lists_by (G.pages self.pool) self.versions.slots self.directories.slots) c.own.ensures.lists own.alone
@@ -94,10 +94,10 @@ returns-clause-list g c =
     let self = c.args.self.now in
     let made = c.own.new.self in
     let number = c.in_ok-number.number in
-    let was : DirectoryState = record { places = c.directory.inside.places.items; versions = c.directory.inside.versions } in
+    let was : DirectoryState = record { places = c.directory.inside.leaves.places.items; versions = c.directory.inside.versions } in
     let found : Some c.in-Some.directory.now ≡ shelf_at made.directories.slots number = c.in-Some.ensures.value in
     let stood : shelf_at made.directories.slots number ≡ Some was = sym found ∙ ap Some (cc (c.directory.view_is)) in
-    let is : DirectoryState = record { places = c.put.new.places.items; versions = c.directory.inside.versions } in
+    let is : DirectoryState = record { places = c.put.new.self.places.items; versions = c.directory.inside.versions } in
     let own = c.in_ok-number.ensures.own in
     let before : list_at (lists_by (G.pages self.pool) self.versions.slots self.directories.slots) c.args.v ≡ items_on (G.pages made.pool) was.places
     = ap (λ (lists : VersionLists). list_at lists c.args.v) (sym c.own.ensures.lists)
@@ -113,10 +113,10 @@ returns-clause-store g c =
     let self = c.args.self.now in
     let made = c.own.new.self in
     let number = c.in_ok-number.number in
-    let was : DirectoryState = record { places = c.directory.inside.places.items; versions = c.directory.inside.versions } in
+    let was : DirectoryState = record { places = c.directory.inside.leaves.places.items; versions = c.directory.inside.versions } in
     let found : Some c.in-Some.directory.now ≡ shelf_at made.directories.slots number = c.in-Some.ensures.value in
     let stood : shelf_at made.directories.slots number ≡ Some was = sym found ∙ ap Some (cc (c.directory.view_is)) in
-    let is : DirectoryState = record { places = c.put.new.places.items; versions = c.directory.inside.versions } in
+    let is : DirectoryState = record { places = c.put.new.self.places.items; versions = c.directory.inside.versions } in
     let own = c.in_ok-number.ensures.own in
     let stands = store_stands G made.directories.slots number was made.pool made.shelved stood in
     let places = places_by made.versions.slots made.directories.slots c.args.v number was own.named stood in

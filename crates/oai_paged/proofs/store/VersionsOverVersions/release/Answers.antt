@@ -14,8 +14,8 @@ invariant_of-self g c =
     let G = g.P.PagePool in
     let self = c.args.self.now in
     let number = c.number_of-number.result in
-    let was : DirectoryState = record { places = c.directory.inside.places.items; versions = c.directory.inside.versions } in
-    let left : DirectoryState = record { places = c.directory.inside.places.items; versions = c.directory.inside.versions - 1 } in
+    let was : DirectoryState = record { places = c.directory.inside.leaves.places.items; versions = c.directory.inside.versions } in
+    let left : DirectoryState = record { places = c.directory.inside.leaves.places.items; versions = c.directory.inside.versions - 1 } in
     let found : Some c.in-Some.directory.now ≡ shelf_at self.directories.slots number = c.in-Some.ensures.value in
     let stood : shelf_at self.directories.slots number ≡ Some was = sym found ∙ ap Some (cc (c.directory.view_is)) in
     let more = c.if-directory-gt0.true in
@@ -30,8 +30,8 @@ returns-then-directory-gt0-clause-ok g c =
     let G = g.P.PagePool in
     let self = c.args.self.now in
     let number = c.number_of-number.result in
-    let was : DirectoryState = record { places = c.directory.inside.places.items; versions = c.directory.inside.versions } in
-    let left : DirectoryState = record { places = c.directory.inside.places.items; versions = c.directory.inside.versions - 1 } in
+    let was : DirectoryState = record { places = c.directory.inside.leaves.places.items; versions = c.directory.inside.versions } in
+    let left : DirectoryState = record { places = c.directory.inside.leaves.places.items; versions = c.directory.inside.versions - 1 } in
     let found : Some c.in-Some.directory.now ≡ shelf_at self.directories.slots number = c.in-Some.ensures.value in
     let stood : shelf_at self.directories.slots number ≡ Some was = sym found ∙ ap Some (cc (c.directory.view_is)) in
     let more = c.if-directory-gt0.true in
@@ -46,15 +46,15 @@ drop_all-requires g c =
     let G = g.P.PagePool in
     let self = c.args.self.now in
     let number = c.number_of-number.result in
-    let was : DirectoryState = record { places = c.directory.inside.places.items; versions = c.directory.inside.versions } in
-    let left : DirectoryState = record { places = c.directory.inside.places.items; versions = c.directory.inside.versions - 1 } in
+    let was : DirectoryState = record { places = c.directory.inside.leaves.places.items; versions = c.directory.inside.versions } in
+    let left : DirectoryState = record { places = c.directory.inside.leaves.places.items; versions = c.directory.inside.versions - 1 } in
     let found : Some c.in-Some.directory.now ≡ shelf_at self.directories.slots number = c.in-Some.ensures.value in
     let stood : shelf_at self.directories.slots number ≡ Some was = sym found ∙ ap Some (cc (c.directory.view_is)) in
     let stands = set_stands self.directories.slots number was left stood in
     let out : Some c.remove-directory.result ≡ Some left = sym c.remove-directory.ensures.value ∙ stands in
-    let shown : record { places = c.directory-2.inside.places.items; versions = c.directory-2.inside.versions } ≡ c.remove-directory.result
+    let shown : record { places = c.directory-2.inside.leaves.places.items; versions = c.directory-2.inside.versions } ≡ c.remove-directory.result
     = cc (c.directory-2.view_is) in
-    let same : c.directory-2.inside.places.items ≡ was.places = ap (λ (directory : DirectoryState). directory.places)
+    let same : c.directory-2.inside.leaves.places.items ≡ was.places = ap (λ (directory : DirectoryState). directory.places)
     (shown ∙ same_Some c.remove-directory.result left out) in
     subst (λ (places : List PlaceState). (n : ℕ) → named_in places n ≤ count_of (G.counts self.pool) n) (sym same)
     (store_stands G self.directories.slots number was self.pool self.shelved stood).named
@@ -64,15 +64,15 @@ invariant_of-self-2 g c =
     let G = g.P.PagePool in
     let self = c.args.self.now in
     let number = c.number_of-number.result in
-    let was : DirectoryState = record { places = c.directory.inside.places.items; versions = c.directory.inside.versions } in
-    let left : DirectoryState = record { places = c.directory.inside.places.items; versions = c.directory.inside.versions - 1 } in
+    let was : DirectoryState = record { places = c.directory.inside.leaves.places.items; versions = c.directory.inside.versions } in
+    let left : DirectoryState = record { places = c.directory.inside.leaves.places.items; versions = c.directory.inside.versions - 1 } in
     let found : Some c.in-Some.directory.now ≡ shelf_at self.directories.slots number = c.in-Some.ensures.value in
     let stood : shelf_at self.directories.slots number ≡ Some was = sym found ∙ ap Some (cc (c.directory.view_is)) in
     let stands = set_stands self.directories.slots number was left stood in
     let out : Some c.remove-directory.result ≡ Some left = sym c.remove-directory.ensures.value ∙ stands in
-    let shown : record { places = c.directory-2.inside.places.items; versions = c.directory-2.inside.versions } ≡ c.remove-directory.result
+    let shown : record { places = c.directory-2.inside.leaves.places.items; versions = c.directory-2.inside.versions } ≡ c.remove-directory.result
     = cc (c.directory-2.view_is) in
-    let same : c.directory-2.inside.places.items ≡ was.places = ap (λ (directory : DirectoryState). directory.places)
+    let same : c.directory-2.inside.leaves.places.items ≡ was.places = ap (λ (directory : DirectoryState). directory.places)
     (shown ∙ same_Some c.remove-directory.result left out) in
     let last = c.if-directory-gt0.false in
     let some = self.shared.named number was stood in
@@ -90,15 +90,15 @@ returns-clause-ok g c =
     let G = g.P.PagePool in
     let self = c.args.self.now in
     let number = c.number_of-number.result in
-    let was : DirectoryState = record { places = c.directory.inside.places.items; versions = c.directory.inside.versions } in
-    let left : DirectoryState = record { places = c.directory.inside.places.items; versions = c.directory.inside.versions - 1 } in
+    let was : DirectoryState = record { places = c.directory.inside.leaves.places.items; versions = c.directory.inside.versions } in
+    let left : DirectoryState = record { places = c.directory.inside.leaves.places.items; versions = c.directory.inside.versions - 1 } in
     let found : Some c.in-Some.directory.now ≡ shelf_at self.directories.slots number = c.in-Some.ensures.value in
     let stood : shelf_at self.directories.slots number ≡ Some was = sym found ∙ ap Some (cc (c.directory.view_is)) in
     let stands = set_stands self.directories.slots number was left stood in
     let out : Some c.remove-directory.result ≡ Some left = sym c.remove-directory.ensures.value ∙ stands in
-    let shown : record { places = c.directory-2.inside.places.items; versions = c.directory-2.inside.versions } ≡ c.remove-directory.result
+    let shown : record { places = c.directory-2.inside.leaves.places.items; versions = c.directory-2.inside.versions } ≡ c.remove-directory.result
     = cc (c.directory-2.view_is) in
-    let same : c.directory-2.inside.places.items ≡ was.places = ap (λ (directory : DirectoryState). directory.places)
+    let same : c.directory-2.inside.leaves.places.items ≡ was.places = ap (λ (directory : DirectoryState). directory.places)
     (shown ∙ same_Some c.remove-directory.result left out) in
     let last = c.if-directory-gt0.false in
     let some = self.shared.named number was stood in
@@ -117,7 +117,7 @@ returns-clause-store g c =
     let p = c.args.self.now.pool in
     let q = c.drop_all.new.pages in
     record {
-      room = dropped_left G c.directory-2.inside.places.items p q c.drop_all.ensures.names c.drop_all.ensures.pool.room;
+      room = dropped_left G c.directory-2.inside.leaves.places.items p q c.drop_all.ensures.names c.drop_all.ensures.pool.room;
       count = c.drop_all.ensures.pool.count;
       honesty = c.drop_all.ensures.pool.honesty;
     }

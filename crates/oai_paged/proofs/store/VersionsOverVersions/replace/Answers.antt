@@ -33,7 +33,7 @@ replace-requires-clause-stands g c =
     let self = c.args.self.now in
     let made = c.own.new.self in
     let number = c.in_ok-number.number in
-    let was : DirectoryState = record { places = c.directory.inside.places.items; versions = c.directory.inside.versions } in
+    let was : DirectoryState = record { places = c.directory.inside.leaves.places.items; versions = c.directory.inside.versions } in
     let found : Some c.in-Some.directory.now ≡ shelf_at made.directories.slots number = c.in-Some.ensures.value in
     let stood : shelf_at made.directories.slots number ≡ Some was = sym found ∙ ap Some (cc (c.directory.view_is)) in
     store_stands G made.directories.slots number was made.pool made.shelved stood
@@ -44,10 +44,10 @@ invariant_of-self g c =
     let self = c.args.self.now in
     let made = c.own.new.self in
     let number = c.in_ok-number.number in
-    let was : DirectoryState = record { places = c.directory.inside.places.items; versions = c.directory.inside.versions } in
+    let was : DirectoryState = record { places = c.directory.inside.leaves.places.items; versions = c.directory.inside.versions } in
     let found : Some c.in-Some.directory.now ≡ shelf_at made.directories.slots number = c.in-Some.ensures.value in
     let stood : shelf_at made.directories.slots number ≡ Some was = sym found ∙ ap Some (cc (c.directory.view_is)) in
-    let is : DirectoryState = record { places = c.replace.new.places.items; versions = c.directory.inside.versions } in
+    let is : DirectoryState = record { places = c.replace.new.self.places.items; versions = c.directory.inside.versions } in
     record {
       shelved = changed_shelved G 68 c.args.v number made.versions.slots made.directories.slots was is made.pool c.replace.new.pages made.shelved made.shared stood
           c.replace.result c.replace.ensures.changes;
@@ -61,7 +61,7 @@ returns-clause-found g c =
     let self = c.args.self.now in
     let made = c.own.new.self in
     let number = c.in_ok-number.number in
-    let was : DirectoryState = record { places = c.directory.inside.places.items; versions = c.directory.inside.versions } in
+    let was : DirectoryState = record { places = c.directory.inside.leaves.places.items; versions = c.directory.inside.versions } in
     let found : Some c.in-Some.directory.now ≡ shelf_at made.directories.slots number = c.in-Some.ensures.value in
     let stood : shelf_at made.directories.slots number ≡ Some was = sym found ∙ ap Some (cc (c.directory.view_is)) in
     let own = c.in_ok-number.ensures.own in
@@ -71,7 +71,7 @@ returns-clause-found g c =
     let fits : FitsSigned w64 c.args.stamp = c.ranges.stamp in
     let stamp = to_z-of_z w64 c.args.stamp fits in
     if_ok_after c.replace.result c.replace.ensures.found
-    (λ found told honest. told (c.own.ensures.pool.honesty ∙ honest) ∙ cc (before, c.as_str.ensures.text, stamp))
+    (λ found told honest. told (c.own.ensures.pool.honesty ∙ honest) ∙ cc (before, c.as_str-identifier.ensures.text, stamp))
 
 pub returns-clause-ok : goal.returns-clause-ok
 returns-clause-ok g c =
@@ -79,10 +79,10 @@ returns-clause-ok g c =
     let self = c.args.self.now in
     let made = c.own.new.self in
     let number = c.in_ok-number.number in
-    let was : DirectoryState = record { places = c.directory.inside.places.items; versions = c.directory.inside.versions } in
+    let was : DirectoryState = record { places = c.directory.inside.leaves.places.items; versions = c.directory.inside.versions } in
     let found : Some c.in-Some.directory.now ≡ shelf_at made.directories.slots number = c.in-Some.ensures.value in
     let stood : shelf_at made.directories.slots number ≡ Some was = sym found ∙ ap Some (cc (c.directory.view_is)) in
-    let is : DirectoryState = record { places = c.replace.new.places.items; versions = c.directory.inside.versions } in
+    let is : DirectoryState = record { places = c.replace.new.self.places.items; versions = c.directory.inside.versions } in
     let own = c.in_ok-number.ensures.own in
     let turned = changed_turned G 68 c.args.v number made.versions.slots made.directories.slots was is made.pool c.replace.new.pages made.shelved made.shared stood
     c.replace.result c.replace.ensures.changes (lists_by (G.pages self.pool) self.versions.slots self.directories.slots) c.own.ensures.lists own.alone
@@ -95,10 +95,10 @@ returns-clause-err g c =
     let self = c.args.self.now in
     let made = c.own.new.self in
     let number = c.in_ok-number.number in
-    let was : DirectoryState = record { places = c.directory.inside.places.items; versions = c.directory.inside.versions } in
+    let was : DirectoryState = record { places = c.directory.inside.leaves.places.items; versions = c.directory.inside.versions } in
     let found : Some c.in-Some.directory.now ≡ shelf_at made.directories.slots number = c.in-Some.ensures.value in
     let stood : shelf_at made.directories.slots number ≡ Some was = sym found ∙ ap Some (cc (c.directory.view_is)) in
-    let is : DirectoryState = record { places = c.replace.new.places.items; versions = c.directory.inside.versions } in
+    let is : DirectoryState = record { places = c.replace.new.self.places.items; versions = c.directory.inside.versions } in
     let own = c.in_ok-number.ensures.own in
     let turned = changed_turned G 68 c.args.v number made.versions.slots made.directories.slots was is made.pool c.replace.new.pages made.shelved made.shared stood
     c.replace.result c.replace.ensures.changes (lists_by (G.pages self.pool) self.versions.slots self.directories.slots) c.own.ensures.lists own.alone
@@ -111,10 +111,10 @@ returns-clause-list g c =
     let self = c.args.self.now in
     let made = c.own.new.self in
     let number = c.in_ok-number.number in
-    let was : DirectoryState = record { places = c.directory.inside.places.items; versions = c.directory.inside.versions } in
+    let was : DirectoryState = record { places = c.directory.inside.leaves.places.items; versions = c.directory.inside.versions } in
     let found : Some c.in-Some.directory.now ≡ shelf_at made.directories.slots number = c.in-Some.ensures.value in
     let stood : shelf_at made.directories.slots number ≡ Some was = sym found ∙ ap Some (cc (c.directory.view_is)) in
-    let is : DirectoryState = record { places = c.replace.new.places.items; versions = c.directory.inside.versions } in
+    let is : DirectoryState = record { places = c.replace.new.self.places.items; versions = c.directory.inside.versions } in
     let own = c.in_ok-number.ensures.own in
     let before : list_at (lists_by (G.pages self.pool) self.versions.slots self.directories.slots) c.args.v ≡ items_on (G.pages made.pool) was.places
     = ap (λ (lists : VersionLists). list_at lists c.args.v) (sym c.own.ensures.lists)
@@ -124,7 +124,7 @@ returns-clause-list g c =
     let fits : FitsSigned w64 c.args.stamp = c.ranges.stamp in
     let stamp = to_z-of_z w64 c.args.stamp fits in
     on_ok_after c.replace.result c.replace.ensures.list
-    (λ told honest. after ∙ told (c.own.ensures.pool.honesty ∙ honest) ∙ cc (before, c.as_str.ensures.text, stamp))
+    (λ told honest. after ∙ told (c.own.ensures.pool.honesty ∙ honest) ∙ cc (before, c.as_str-identifier.ensures.text, stamp))
 
 pub returns-clause-store : goal.returns-clause-store
 returns-clause-store g c =
@@ -132,10 +132,10 @@ returns-clause-store g c =
     let self = c.args.self.now in
     let made = c.own.new.self in
     let number = c.in_ok-number.number in
-    let was : DirectoryState = record { places = c.directory.inside.places.items; versions = c.directory.inside.versions } in
+    let was : DirectoryState = record { places = c.directory.inside.leaves.places.items; versions = c.directory.inside.versions } in
     let found : Some c.in-Some.directory.now ≡ shelf_at made.directories.slots number = c.in-Some.ensures.value in
     let stood : shelf_at made.directories.slots number ≡ Some was = sym found ∙ ap Some (cc (c.directory.view_is)) in
-    let is : DirectoryState = record { places = c.replace.new.places.items; versions = c.directory.inside.versions } in
+    let is : DirectoryState = record { places = c.replace.new.self.places.items; versions = c.directory.inside.versions } in
     let own = c.in_ok-number.ensures.own in
     let stands = store_stands G made.directories.slots number was made.pool made.shelved stood in
     let places = places_by made.versions.slots made.directories.slots c.args.v number was own.named stood in

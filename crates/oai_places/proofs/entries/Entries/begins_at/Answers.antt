@@ -1,9 +1,7 @@
-use Rattle.std.proofs.Common.{◌∙◌, get_or, pos, [], ap, sym, arith, w64}
+use Rattle.std.proofs.Common.{◌∙◌, pos, [], ap, sym, arith}
 use Rattle.std.specs.Ordering.{is_eq}
 use Rattle.std.proofs.lemmas.Cmp.{is_eq_index}
-use Rattle.std.proofs.lemmas.Int.{to_z-of_z}
 use Rattle.oai_item.specs.Item.{ItemState}
-use Rattle.oai_item.specs.Order.{place_cmp}
 use Rattle.oai_item.proofs.Around.{only_place}
 use Rattle.oai_places.proofs.RisingItems.{first_at}
 use Rattle.oai_places.proofs.entries.Entries.begins_at.Goals as goal
@@ -11,7 +9,6 @@ use Rattle.oai_places.proofs.entries.Entries.begins_at.Goals as goal
 pub returns-then-len-gt0 : goal.returns-then-len-gt0
 returns-then-len-gt0 c =
     let d : ItemState = only_place (pos 0) [] in
-    let item : ItemState = get_or c.args.self.now 0 d in
     c.eq.ensures ∙ sym (is_eq_index c.order_to.result)
-    ∙ ap is_eq (c.order_to.ensures d ∙ ap (λ stamp. place_cmp item stamp c.args.identifier.now) (to_z-of_z w64 c.args.stamp c.ranges.stamp))
-    ∙ first_at c.args.stamp c.args.identifier.now c.args.self.now d (omega (arith, c.len.ensures.len, c.if-len-gt0.true))
+    ∙ ap is_eq (c.order_to.ensures d)
+    ∙ first_at c.args.key.stamp c.args.key.identifier.now c.args.self.now d (omega (arith, c.len.ensures.len, c.if-len-gt0.true))

@@ -15,8 +15,8 @@ returns-else-not-is_inside c =
     subst (λ (g : GroupState). IsSum sum (take g.len (drop g.first places))) (sym c.self.view_is) (c.requires.group sum (sym (ap (λ (g : GroupState). g.sum) c.self.view_is) ∙ c.in-Some.is)) in
     let here : IsSum sum (take c.self.inside.len (drop c.args.at places)) = subst (λ (f : ℕ). IsSum sum (take c.self.inside.len (drop f places))) c.if-self-at.false own in
     let known : known_in_sum sum asked.set ≡ Some c.in_ok-items.items = ap (known_in_sum sum) (sym (ap (λ (f : Filter). f.set) c.filter.view_is)) ∙ sym c.items_in.ensures ∙ c.in_ok-items.was in
-    stretch_from sum places asked c.args.wanted.stamp c.args.wanted.identifier.now c.args.at c.self.inside.len c.in_ok-items.items (omega (arith, c.if-len-eq0.false)) (omega (arith, c.if-len-places.false, c.requires.within)) here
-    known (inr (subst (λ (next : List PlaceState). IsSumInside sum next asked c.args.wanted.stamp c.args.wanted.identifier.now) (take_rest places (c.args.at + c.self.inside.len))
+    stretch_from sum places asked c.args.wanted.key.stamp c.args.wanted.key.identifier.now c.args.at c.self.inside.len c.in_ok-items.items (omega (arith, c.if-len-eq0.false)) (omega (arith, c.if-len-places.false, c.requires.within)) here
+    known (inr (subst (λ (next : List PlaceState). IsSumInside sum next asked c.args.wanted.key.stamp c.args.wanted.key.identifier.now) (take_rest places (c.args.at + c.self.inside.len))
     (c.is_inside.ensures c.if-not-is_inside.false)))
 
 pub returns-else-items-gt0 : goal.returns-else-items-gt0
@@ -28,5 +28,5 @@ returns-else-items-gt0 c =
     subst (λ (g : GroupState). IsSum sum (take g.len (drop g.first places))) (sym c.self.view_is) (c.requires.group sum (sym (ap (λ (g : GroupState). g.sum) c.self.view_is) ∙ c.in-Some.is)) in
     let here : IsSum sum (take c.self.inside.len (drop c.args.at places)) = subst (λ (f : ℕ). IsSum sum (take c.self.inside.len (drop f places))) c.if-self-at.false own in
     let known : known_in_sum sum asked.set ≡ Some c.in_ok-items.items = ap (known_in_sum sum) (sym (ap (λ (f : Filter). f.set) c.filter.view_is)) ∙ sym c.items_in.ensures ∙ c.in_ok-items.was in
-    stretch_from sum places asked c.args.wanted.stamp c.args.wanted.identifier.now c.args.at c.self.inside.len c.in_ok-items.items (omega (arith, c.if-len-eq0.false)) (omega (arith, c.if-len-places.false, c.requires.within)) here
+    stretch_from sum places asked c.args.wanted.key.stamp c.args.wanted.key.identifier.now c.args.at c.self.inside.len c.in_ok-items.items (omega (arith, c.if-len-eq0.false)) (omega (arith, c.if-len-places.false, c.requires.within)) here
     known (inl (omega (arith, c.if-items-gt0.false)))

@@ -1,0 +1,3 @@
+pub mod AdmissionLemmas
+pub mod ReadingLemmas
+pub mod GuardLemmas

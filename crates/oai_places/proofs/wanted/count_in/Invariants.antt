@@ -1,7 +1,0 @@
-use Rattle.std.specs.Prelude.{◌≡◌, ◌≤◌, filter, length, take}
-use Rattle.oai_places.specs.Places.{is_wanted}
-use Rattle.oai_places.proofs.wanted.count_in.Given as goal
-
-abbrev pub invariant-entries : goal.invariant-entries
-invariant-entries l =
-    (l.count ≡ length (filter (is_wanted l.wanted.filter.now l.wanted.stamp l.wanted.identifier.now) (take l.at l.entries))) × (l.count ≤ l.at)
