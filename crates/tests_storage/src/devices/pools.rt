@@ -1,5 +1,5 @@
 //! The pool: its counts, its numbers and its cache.
-ghost use Rattle.std.specs.Prelude.{◌+◌, ◌<◌, ◌≤◌};
+ghost use Rattle.std.specs.Prelude.{◌≢◌, ◌+◌, ◌<◌, ◌≤◌};
 ghost use Rattle.oai_device.specs.declared.devices.TheConstants.{PAGE_BYTES};
 ghost use Rattle.oai_pool.specs.Counts.{StaysNamed, count_of};
 
@@ -27,11 +27,20 @@ fn named_pages(rt: HostRuntime) {
     share_and_drop(&rt, &mut pool, first);
     assert_both(&rt, &mut pool, (first, 1), (second, 2));
     assert_same(&rt, pool.used(), 2);
-    drop_name(&mut pool, first);
-    assert_same(&rt, pool.used(), 1);
-    let third = add(&rt, &mut pool, 3);
-    assert_same(&rt, (third, pool.used()), (first, 2));
-    assert_both(&rt, &mut pool, (third, 3), (second, 2));
+    assert_given_again(&rt, &mut pool, first, second);
+}
+
+/// The number of the page that goes is given to a third one, of two pages of which the other stays.
+fn assert_given_again<P: PagePool>(rt: &impl Abort, pool: &mut P, goes: PageNo, stays: PageNo)
+    requires apart { stays ≢ goes }
+    requires goes { 0 < count_of (P.counts pool.old) goes }
+    requires stays { 0 < count_of (P.counts pool.old) stays }
+{
+    drop_name(pool, goes);
+    assert_same(rt, pool.used(), 1);
+    let third = add(rt, pool, 3);
+    assert_same(rt, (third, pool.used()), (goes, 2));
+    assert_both(rt, pool, (third, 3), (stays, 2));
 }
 
 /// A page that is added is not there where the device fails.
