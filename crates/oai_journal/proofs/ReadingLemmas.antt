@@ -1,5 +1,5 @@
 -- What is known of a frame that is read by its length first.
-use Rattle.std.proofs.Common.{◌≡◌, ◌≢◌, ◌∙◌, ℕ, ◌-◌, ◌<◌, ◌≤◌, min, Bool, List, ◌++◌, length, take, drop, Option, Some, None, MatchOption, sym, ap, subst, arith}
+use Rattle.std.proofs.Common.{◌≡◌, ◌≢◌, ◌∙◌, ℕ, ◌-◌, ◌<◌, ◌≤◌, min, Bool, List, ◌++◌, length, take, drop, Option, Some, None, MatchOption, sym, ap, subst, arith, ◌+◌, get_or}
 use Rattle.std.proofs.lemmas.Bool.{cases_lt}
 use Rattle.std.proofs.lemmas.List.{length-append, length-drop, length-take-le, take-append-drop, take_all, take_at}
 use Rattle.std.proofs.Common.{ext_get_or, get_or-drop, get_or-take, inl, inr}
@@ -17,6 +17,18 @@ held_part file bytes at size len holds =
     sym (ext_get_or 0 (take size (drop at file)) bytes (length-take-le size (drop at file) enough ∙ sym len)
     (λ i h. let low : i < size = omega (arith, h, length-take-le size (drop at file) enough) in
     get_or-take size (drop at file) i 0 low ∙ get_or-drop at file i 0 ∙ holds.each i (omega (arith, low, len))))
+
+-- bytes of a block that a file has at a place are a part of the file
+pub block_part : (file block : List ℕ) (start at size : ℕ) → Holds file start block → start ≤ at → at + size ≤ start + length block
+    → take size (drop (at - start) block) ≡ take size (drop at file)
+block_part file block start at size holds above below =
+    let there : size ≤ length (drop at file) = omega (arith, length-drop at file, holds.within, below) in
+    let here : size ≤ length (drop (at - start) block) = omega (arith, length-drop (at - start) block, above, below) in
+    sym (ext_get_or 0 (take size (drop at file)) (take size (drop (at - start) block)) (length-take-le size (drop at file) there ∙ sym (length-take-le size (drop (at - start) block) here))
+    (λ i h. let low : i < size = omega (arith, h, length-take-le size (drop at file) there) in
+    let moved : at + i ≡ start + (at - start + i) = omega (arith, above) in
+    get_or-take size (drop at file) i 0 low ∙ get_or-drop at file i 0 ∙ ap (λ n. get_or file n 0) moved ∙ holds.each (at - start + i) (omega (arith, low, above, below))
+    ∙ sym (get_or-drop (at - start) block i 0) ∙ sym (get_or-take size (drop (at - start) block) i 0 low)))
 
 take_least : (n m : ℕ) (xs : List ℕ) → m ≡ length xs → take (min n m) xs ≡ take n xs
 take_least n m xs size =

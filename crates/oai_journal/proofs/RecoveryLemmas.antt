@@ -3,6 +3,7 @@ use Rattle.std.proofs.Common.{◌≡◌, ◌⊎◌, ◌↔◌, ◌∙◌, IsTrue
 use Rattle.std.proofs.lemmas.Bool.{false≢true}
 use Rattle.std.proofs.lemmas.List.{append-nil, drop_at, length-append, map-append}
 use Rattle.sqlite_disk.specs.Disk.{Only}
+use Rattle.oai_journal.specs.Blocks.{IsBlock}
 use Rattle.oai_journal.specs.Changes.{GoesOn, IsChangedAt, IsUndamaged}
 use Rattle.oai_journal.specs.Files.{Gated, digest_after, front, is_commit_set}
 use Rattle.oai_journal.specs.Frames.{entry_in, frame, next_digest}
@@ -143,42 +144,45 @@ module _ {D : Type 0} (seen : D → List ℕ) (may_leave : D → List ℕ → Ty
 
   -- what a step may leave of the recovery: the disk, as it was, and the rest anew
   pub record Moves (old new : Recovery D) : Type 0 where
-    pub same : seen new.disk ≡ seen old.disk
-    pub crash : (c : List ℕ) → may_leave new.disk c → may_leave old.disk c
+    pub same : seen new.reader.disk ≡ seen old.reader.disk
+    pub crash : (c : List ℕ) → may_leave new.reader.disk c → may_leave old.reader.disk c
     pub size : new.len ≡ old.len
+    pub block : IsBlock seen new.reader
 
-  pub has_begun : (recovery : Recovery D) (digest : ℕ) → recovery.len ≡ length (seen recovery.disk) → Only (seen recovery.disk) (may_leave recovery.disk)
-      → recovery.digest ≡ digest → recovery.at ≡ 1 + length recovery.frame.items → recovery.ended ≡ false
-      → StartsAs (seen recovery.disk) recovery.frame.items digest → (first : Entry) × HasRecovered seen may_leave recovery first [] × (current recovery ≡ Some first)
-  has_begun recovery digest size only digest_is at going s = (
+  pub has_begun : (recovery : Recovery D) (digest : ℕ) → recovery.len ≡ length (seen recovery.reader.disk) → Only (seen recovery.reader.disk) (may_leave recovery.reader.disk)
+      → IsBlock seen recovery.reader → recovery.digest ≡ digest → recovery.at ≡ 1 + length recovery.frame.items → recovery.ended ≡ false
+      → StartsAs (seen recovery.reader.disk) recovery.frame.items digest → (first : Entry) × HasRecovered seen may_leave recovery first [] × (current recovery ≡ Some first)
+  has_begun recovery digest size only block digest_is at going s = (
     s.first,
     record {
-      reads = rw (digest_is, at) (started (seen recovery.disk) recovery.frame.items digest s);
+      reads = rw (digest_is, at) (started (seen recovery.reader.disk) recovery.frame.items digest s);
       size = size;
       durable = only;
+      block = block;
       ends = λ ended. absurd (false≢true (sym going ∙ ended));
     },
     ap entry_in s.read_is ∙ frame_read 0 s.first s.begins.fit,
   )
 
   pub has_continued : (old new : Recovery D) (first : Entry) (entries : List Entry) (digest : ℕ) → Moves old new → HasRecovered seen may_leave old first entries
-      → Continues (drop old.at (seen old.disk)) old.digest new.frame.items digest → new.digest ≡ digest → new.at ≡ old.at + (1 + length new.frame.items) → new.ended ≡ false
+      → Continues (drop old.at (seen old.reader.disk)) old.digest new.frame.items digest → new.digest ≡ digest → new.at ≡ old.at + (1 + length new.frame.items) → new.ended ≡ false
       → (e : Entry) × HasRecovered seen may_leave new first (entries ++ e ∷ []) × (current new ≡ Some e)
   has_continued old new first entries digest moves h s digest_is at going = (
     s.entry,
     record {
-      reads = rw (digest_is, at, moves.same) (continued (seen old.disk) old.at old.digest first entries h.reads new.frame.items digest s);
+      reads = rw (digest_is, at, moves.same) (continued (seen old.reader.disk) old.at old.digest first entries h.reads new.frame.items digest s);
       size = moves.size ∙ h.size ∙ ap length (sym moves.same);
-      durable = same_left old.disk new.disk moves.same moves.crash h.durable;
+      durable = same_left old.reader.disk new.reader.disk moves.same moves.crash h.durable;
+      block = moves.block;
       ends = λ ended. absurd (false≢true (sym going ∙ ended));
     },
     ap entry_in s.read_is ∙ frame_read old.digest s.entry s.fit,
   )
 
   pub has_ended : (old new : Recovery D) (first : Entry) (entries : List Entry) → Moves old new → HasRecovered seen may_leave old first entries
-      → EndsHere old.digest (drop old.at (seen old.disk)) → new.digest ≡ old.digest → new.at ≡ old.at → HasRecovered seen may_leave new first entries
+      → EndsHere old.digest (drop old.at (seen old.reader.disk)) → new.digest ≡ old.digest → new.at ≡ old.at → HasRecovered seen may_leave new first entries
   has_ended old new first entries moves h ends digest_is at =
-      let here = ended_here (seen old.disk) old.at old.digest first entries h.reads ends in
+      let here = ended_here (seen old.reader.disk) old.at old.digest first entries h.reads ends in
       let r = h.reads in
       record {
         reads = record {
@@ -192,16 +196,17 @@ module _ {D : Type 0} (seen : D → List ℕ) (may_leave : D → List ℕ → Ty
           last = digest_is ∙ r.last;
         };
         size = moves.size ∙ h.size ∙ ap length (sym moves.same);
-        durable = same_left old.disk new.disk moves.same moves.crash h.durable;
+        durable = same_left old.reader.disk new.reader.disk moves.same moves.crash h.durable;
+        block = moves.block;
         ends = λ ended. subst (λ n. EndsHere n r.rest) (sym digest_is) here;
       }
 
   -- what was read to its end is what the file is
-  pub whole_read : (recovery : Recovery D) (first : Entry) (entries : List Entry) → recovery.ended ≡ true → HasRecovered seen may_leave recovery first entries → IsUndamaged (seen recovery.disk) first entries
+  pub whole_read : (recovery : Recovery D) (first : Entry) (entries : List Entry) → recovery.ended ≡ true → HasRecovered seen may_leave recovery first entries → IsUndamaged (seen recovery.reader.disk) first entries
   whole_read recovery first entries ended h =
       let r = h.reads in
       let here = h.ends ended in
-      let file : List ℕ = seen recovery.disk in
+      let file : List ℕ = seen recovery.reader.disk in
       let is : file ≡ front first r.frames ++ here.gate ∷ here.behind = r.is ∙ ap (λ (l : List ℕ). front first r.frames ++ l) here.is in
       record {
         ends = record {
@@ -221,7 +226,7 @@ module _ {D : Type 0} (seen : D → List ℕ) (may_leave : D → List ℕ → Ty
       }
 
   pub holds_all : (recovery : Recovery D) (journal : FileJournal D) (first : Entry) (entries : List Entry) → recovery.ended ≡ true → HasRecovered seen may_leave recovery first entries
-      → IsAtEnd journal recovery.disk recovery.at recovery.digest → HoldsRecords seen may_leave journal entries (length entries)
+      → IsAtEnd journal recovery.reader.disk recovery.at recovery.digest → HoldsRecords seen may_leave journal entries (length entries)
   holds_all recovery journal first entries ended h is =
       let r = h.reads in
       let here = h.ends ended in

@@ -1,3 +1,4 @@
+pub mod Blocks
 pub mod Changes
 pub mod Files
 pub mod Frames

@@ -2,6 +2,7 @@
 //! ones; and its file, of frames in commit groups that no crash can tear.
 #![tactic(auto)]
 
+mod blocks;
 mod changes;
 mod file;
 mod frames;

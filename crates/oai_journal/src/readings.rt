@@ -1,10 +1,12 @@
 //! Reads frames from a disk one at a time, each into a buffer that grows to the longest of them.
 ghost use Rattle.std.specs.Prelude.{◌≡◌, ◌+◌, ◌<◌, ◌≤◌, ℕ, List, Option, Some, length, take, drop, vec_capacity, IsTrue, OnOk, IfOk, IfSome};
 ghost use Rattle.sqlite_disk.specs.Disk.{Only};
+ghost use Rattle.oai_journal.specs.Blocks.{IsBlock};
 ghost use Rattle.oai_journal.specs.Frames.{entry_in};
 ghost use Rattle.oai_journal.specs.Records.{as_entry};
 ghost use Rattle.oai_journal.specs.Recoveries.{Checks, FindsFrame, IsGateAt, IsLenAt};
 
+use crate::blocks::BlockReader;
 use crate::frames::{FRAME_ROOM, FRONT_ROOM, frame_digest, frame_len, record_in};
 use crate::journals::JournalFault;
 use crate::records::LogRecord;
@@ -22,106 +24,88 @@ pub(crate) struct FramePlace {
 }
 
 /// Reads the commit byte at that position; None if the file ends there.
-pub(crate) fn read_gate<D: Disk>(
-    disk: &mut D,
+pub(crate) fn read_gate<D: Disk + Drop>(
+    reader: &mut BlockReader<D>,
     len: usize,
     at: usize,
     frame: &mut Vec<u8>,
 ) -> Result<Option<u8>, JournalFault>
-    ensures found { IfOk result (λ gate. IsTrue (D.Disk.is_clean disk.new) → len ≡ length (D.Disk.seen disk.old)
-        → IsGateAt (D.Disk.seen disk.old) at gate) }
+    ensures found { IfOk result (λ gate. IsTrue (D.Disk.is_clean reader.new.disk) → IsBlock D.Disk.seen reader.old
+        → len ≡ length (D.Disk.seen reader.old.disk)
+        → IsGateAt (D.Disk.seen reader.old.disk) at gate) }
     ensures within { IfOk result (λ gate. IfSome gate (λ byte. at < len)) }
-    ensures seen { D.Disk.seen disk.new ≡ D.Disk.seen disk.old }
-    ensures crash { (c : List ℕ) → D.Disk.may_leave disk.new c → D.Disk.may_leave disk.old c }
-    ensures clean { IsTrue (D.Disk.is_clean disk.new) → IsTrue (D.Disk.is_clean disk.old) }
+    ensures block { OnOk result (IsTrue (D.Disk.is_clean reader.new.disk) → IsBlock D.Disk.seen reader.old
+        → IsBlock D.Disk.seen reader.new) }
+    ensures seen { D.Disk.seen reader.new.disk ≡ D.Disk.seen reader.old.disk }
+    ensures crash { (c : List ℕ) → D.Disk.may_leave reader.new.disk c → D.Disk.may_leave reader.old.disk c }
+    ensures clean { IsTrue (D.Disk.is_clean reader.new.disk) → IsTrue (D.Disk.is_clean reader.old.disk) }
 {
     if len <= at {
         return Ok(None);
     }
-    read_bytes(disk, at, 1, frame)?;
+    reader.read(len, at, 1, frame)?;
     Ok(Some(frame[0]))
 }
 
 /// Reads the frame at that place; returns its digest, or None if there is none. Its bytes are then in `frame`. `out`
 /// needs capacity for what precedes a record's bytes. Of a frame that is cut short, whose head is malformed or whose
 /// length is too great, only the head is read.
-pub(crate) fn read_frame<D: Disk>(
-    disk: &mut D,
+pub(crate) fn read_frame<D: Disk + Drop>(
+    reader: &mut BlockReader<D>,
     len: usize,
     place: FramePlace,
     frame: &mut Vec<u8>,
     out: &mut Vec<u8>,
 ) -> Result<Option<u64>, JournalFault>
     requires room { FRONT_ROOM ≤ vec_capacity out.old }
-    ensures found { IfOk result (λ found. IsTrue (D.Disk.is_clean disk.new) → len ≡ length (D.Disk.seen disk.old)
-        → FindsFrame place.first place.before (drop place.at (D.Disk.seen disk.old)) frame.new.items found) }
+    ensures found { IfOk result (λ found. IsTrue (D.Disk.is_clean reader.new.disk) → IsBlock D.Disk.seen reader.old
+        → len ≡ length (D.Disk.seen reader.old.disk)
+        → FindsFrame place.first place.before (drop place.at (D.Disk.seen reader.old.disk)) frame.new.items found) }
     ensures within { IfOk result (λ found. IfSome found (λ digest. place.at + length frame.new.items ≤ len)) }
     ensures room { vec_capacity out.old ≤ vec_capacity out.new }
-    ensures seen { D.Disk.seen disk.new ≡ D.Disk.seen disk.old }
-    ensures crash { (c : List ℕ) → D.Disk.may_leave disk.new c → D.Disk.may_leave disk.old c }
-    ensures clean { IsTrue (D.Disk.is_clean disk.new) → IsTrue (D.Disk.is_clean disk.old) }
+    ensures block { OnOk result (IsTrue (D.Disk.is_clean reader.new.disk) → IsBlock D.Disk.seen reader.old
+        → IsBlock D.Disk.seen reader.new) }
+    ensures seen { D.Disk.seen reader.new.disk ≡ D.Disk.seen reader.old.disk }
+    ensures crash { (c : List ℕ) → D.Disk.may_leave reader.new.disk c → D.Disk.may_leave reader.old.disk c }
+    ensures clean { IsTrue (D.Disk.is_clean reader.new.disk) → IsTrue (D.Disk.is_clean reader.old.disk) }
 {
-    match read_len(disk, len, place.at, frame, out)? {
+    match read_len(reader, len, place.at, frame, out)? {
         None => Ok(None),
         Some(size) => {
-            read_bytes(disk, place.at, size, frame)?;
+            reader.read(len, place.at, size, frame)?;
             Ok(check_frame(place.first, place.before, frame, out))
         }
     }
 }
 
 /// The length of the frame that begins at that position, or None if none does. The frame is within the file.
-fn read_len<D: Disk>(
-    disk: &mut D,
+fn read_len<D: Disk + Drop>(
+    reader: &mut BlockReader<D>,
     len: usize,
     at: usize,
     frame: &mut Vec<u8>,
     out: &mut Vec<u8>,
 ) -> Result<Option<usize>, JournalFault>
     requires room { FRONT_ROOM ≤ vec_capacity out.old }
-    ensures found { IfOk result (λ found. IsTrue (D.Disk.is_clean disk.new) → len ≡ length (D.Disk.seen disk.old)
-        → IsLenAt (drop at (D.Disk.seen disk.old)) found) }
+    ensures found { IfOk result (λ found. IsTrue (D.Disk.is_clean reader.new.disk) → IsBlock D.Disk.seen reader.old
+        → len ≡ length (D.Disk.seen reader.old.disk)
+        → IsLenAt (drop at (D.Disk.seen reader.old.disk)) found) }
     ensures some { IfOk result (λ found. IfSome found (λ size. 0 < size)) }
     ensures within { IfOk result (λ found. IfSome found (λ size. at + size ≤ len)) }
     ensures room { vec_capacity out.old ≤ vec_capacity out.new }
-    ensures seen { D.Disk.seen disk.new ≡ D.Disk.seen disk.old }
-    ensures crash { (c : List ℕ) → D.Disk.may_leave disk.new c → D.Disk.may_leave disk.old c }
-    ensures clean { IsTrue (D.Disk.is_clean disk.new) → IsTrue (D.Disk.is_clean disk.old) }
+    ensures block { OnOk result (IsTrue (D.Disk.is_clean reader.new.disk) → IsBlock D.Disk.seen reader.old
+        → IsBlock D.Disk.seen reader.new) }
+    ensures seen { D.Disk.seen reader.new.disk ≡ D.Disk.seen reader.old.disk }
+    ensures crash { (c : List ℕ) → D.Disk.may_leave reader.new.disk c → D.Disk.may_leave reader.old.disk c }
+    ensures clean { IsTrue (D.Disk.is_clean reader.new.disk) → IsTrue (D.Disk.is_clean reader.old.disk) }
 {
     if len <= at {
         return Ok(None);
     }
-    read_bytes(disk, at, FRAME_ROOM.min(len - at), frame)?;
+    reader.read(len, at, FRAME_ROOM.min(len - at), frame)?;
     match frame_len(frame, out) {
         Some(size) if size <= len - at => Ok(Some(size)),
         _ => Ok(None),
-    }
-}
-
-/// Reads that many bytes at that position. The errors: Failed if the disk fails, or has failed; NoRoom if out of
-/// memory.
-pub(crate) fn read_bytes<D: Disk>(
-    disk: &mut D,
-    at: usize,
-    size: usize,
-    bytes: &mut Vec<u8>,
-) -> Result<(), JournalFault>
-    requires { 0 < size }
-    ensures read { OnOk result (IsTrue (D.Disk.is_clean disk.new)
-        → bytes.new.items ≡ take size (drop at (D.Disk.seen disk.old))) }
-    ensures within { OnOk result (IsTrue (D.Disk.is_clean disk.new) → at + size ≤ length (D.Disk.seen disk.old)) }
-    ensures size { OnOk result (length bytes.new.items ≡ size) }
-    ensures seen { D.Disk.seen disk.new ≡ D.Disk.seen disk.old }
-    ensures crash { (c : List ℕ) → D.Disk.may_leave disk.new c → D.Disk.may_leave disk.old c }
-    ensures clean { IsTrue (D.Disk.is_clean disk.new) → IsTrue (D.Disk.is_clean disk.old) }
-{
-    if !disk.may_be_used() {
-        return Err(JournalFault::Failed);
-    }
-    bytes.resize(size, 0)?;
-    match disk.read_at(at, bytes) {
-        Ok(()) => Ok(()),
-        Err(_) => Err(JournalFault::Failed),
     }
 }
 

@@ -1,5 +1,6 @@
 //! Crash recovery: reads a journal's file from its first byte on, a record at a time.
 ghost use Rattle.std.specs.Prelude.{◌≡◌, ◌⊎◌, ◌<◌, ◌≤◌, ◌+◌, ◌++◌, [], ◌∷◌, ℕ, List, Some, true, false, length, drop, IsTrue, IfOk, IfErr, IfSome, OnOk};
+ghost use Rattle.oai_journal.specs.Blocks.{IsBlock};
 ghost use Rattle.oai_journal.specs.Changes.{IsChangedAt, IsUndamaged};
 ghost use Rattle.oai_journal.specs.Kept.{HoldsRecords, Survives};
 ghost use Rattle.oai_journal.specs.Records.{Entry, as_entry};
@@ -7,12 +8,13 @@ ghost use Rattle.oai_journal.specs.Recoveries.{IsDamagedAt, IsReadStep, Starts, 
 ghost use Rattle.std.specs.Option.{option_map};
 ghost use Rattle.oai_journal.specs.declared.recovery.RecoveryFault.TheVariants as fault;
 
+use crate::blocks::BlockReader;
 use crate::changes::goes_on;
 use crate::file::FileJournal;
 use crate::frames::{FRONT_ROOM, record_in};
 use crate::groups::{OPEN_GATE, is_open};
 use crate::journals::JournalFault;
-use crate::readings::{FramePlace, open_len, read_frame, read_gate};
+use crate::readings::{FramePlace, read_frame, read_gate};
 use crate::records::LogRecord;
 use sqlite_disk::{Crash, Disk};
 use std::alloc::Global;
@@ -54,7 +56,7 @@ pub(crate) enum Step {
 #[derive(Drop)]
 pub struct Recovery<D: Disk> {
     alloc: Global,
-    disk: D,
+    reader: BlockReader<D>,
     /// The length of the file in bytes.
     len: usize,
     /// The position of the commit byte that is read next.
@@ -76,7 +78,7 @@ impl<D: Disk + Drop> Recovery<D> {
     {
         Recovery {
             alloc,
-            disk,
+            reader: BlockReader::new(alloc, disk),
             len: 0,
             at: 0,
             digest: 0,
@@ -96,8 +98,8 @@ impl<D: Disk + Drop> Recovery<D> {
         ensures crash { (c : List ℕ) → D.Disk.may_leave (disk_of self.new) c → D.Disk.may_leave (disk_of self.old) c }
     {
         self.ended = false;
-        self.len = open_len(&mut self.disk)?;
-        let found = read_first(self.alloc, &mut self.disk, self.len, &mut self.frame)?;
+        self.len = self.reader.open_len()?;
+        let found = read_first(self.alloc, &mut self.reader, self.len, &mut self.frame)?;
         let Some(digest) = found else {
             return Err(RecoveryFault::Damaged(0));
         };
@@ -133,7 +135,7 @@ impl<D: Disk + Drop> Recovery<D> {
         }
         match read_step(
             self.alloc,
-            &mut self.disk,
+            &mut self.reader,
             self.len,
             self.at,
             self.digest,
@@ -179,25 +181,28 @@ impl<D: Disk + Drop> Recovery<D> {
         if !self.ended {
             return None;
         }
-        Some(FileJournal::at_end(self.alloc, self.disk, self.at, self.digest))
+        Some(FileJournal::at_end(self.alloc, self.reader.into_disk(), self.at, self.digest))
     }
 }
 
 /// Reads the first record of the journal; None if the file does not begin with a set commit byte and its frame.
-fn read_first<D: Disk>(
+fn read_first<D: Disk + Drop>(
     alloc: Global,
-    disk: &mut D,
+    reader: &mut BlockReader<D>,
     len: usize,
     frame: &mut Vec<u8>,
 ) -> Result<Option<u64>, JournalFault>
-    ensures found { IfOk result (λ found. IsTrue (D.Disk.is_clean disk.new) → len ≡ length (D.Disk.seen disk.old)
-        → Starts (D.Disk.seen disk.old) frame.new.items found) }
+    ensures found { IfOk result (λ found. IsTrue (D.Disk.is_clean reader.new.disk) → IsBlock D.Disk.seen reader.old
+        → len ≡ length (D.Disk.seen reader.old.disk)
+        → Starts (D.Disk.seen reader.old.disk) frame.new.items found) }
     ensures within { IfOk result (λ found. IfSome found (λ digest. 1 + length frame.new.items ≤ len)) }
-    ensures seen { D.Disk.seen disk.new ≡ D.Disk.seen disk.old }
-    ensures crash { (c : List ℕ) → D.Disk.may_leave disk.new c → D.Disk.may_leave disk.old c }
-    ensures clean { IsTrue (D.Disk.is_clean disk.new) → IsTrue (D.Disk.is_clean disk.old) }
+    ensures block { OnOk result (IsTrue (D.Disk.is_clean reader.new.disk) → IsBlock D.Disk.seen reader.old
+        → IsBlock D.Disk.seen reader.new) }
+    ensures seen { D.Disk.seen reader.new.disk ≡ D.Disk.seen reader.old.disk }
+    ensures crash { (c : List ℕ) → D.Disk.may_leave reader.new.disk c → D.Disk.may_leave reader.old.disk c }
+    ensures clean { IsTrue (D.Disk.is_clean reader.new.disk) → IsTrue (D.Disk.is_clean reader.old.disk) }
 {
-    match read_gate(disk, len, 0, frame)? {
+    match read_gate(reader, len, 0, frame)? {
         Some(gate) if gate == OPEN_GATE => {
             let mut out = Vec::with_capacity(alloc, FRONT_ROOM)?;
             let place = FramePlace {
@@ -205,7 +210,7 @@ fn read_first<D: Disk>(
                 first: true,
                 before: 0,
             };
-            read_frame(disk, len, place, frame, &mut out)
+            read_frame(reader, len, place, frame, &mut out)
         }
         _ => Ok(None),
     }
@@ -235,27 +240,30 @@ fn closed_step(on: bool) -> Step
 }
 
 /// Reads what the journal has at a position of a commit byte.
-fn read_step<D: Disk>(
+fn read_step<D: Disk + Drop>(
     alloc: Global,
-    disk: &mut D,
+    reader: &mut BlockReader<D>,
     len: usize,
     at: usize,
     digest: u64,
     frame: &mut Vec<u8>,
 ) -> Result<Step, JournalFault>
-    ensures found { IfOk result (λ step. IsTrue (D.Disk.is_clean disk.new) → len ≡ length (D.Disk.seen disk.old)
-        → IsReadStep (drop at (D.Disk.seen disk.old)) digest frame.new.items step) }
+    ensures found { IfOk result (λ step. IsTrue (D.Disk.is_clean reader.new.disk) → IsBlock D.Disk.seen reader.old
+        → len ≡ length (D.Disk.seen reader.old.disk)
+        → IsReadStep (drop at (D.Disk.seen reader.old.disk)) digest frame.new.items step) }
     ensures within { IfOk result (λ step. StepsWithin at frame.new.items len step) }
-    ensures seen { D.Disk.seen disk.new ≡ D.Disk.seen disk.old }
-    ensures crash { (c : List ℕ) → D.Disk.may_leave disk.new c → D.Disk.may_leave disk.old c }
-    ensures clean { IsTrue (D.Disk.is_clean disk.new) → IsTrue (D.Disk.is_clean disk.old) }
+    ensures block { OnOk result (IsTrue (D.Disk.is_clean reader.new.disk) → IsBlock D.Disk.seen reader.old
+        → IsBlock D.Disk.seen reader.new) }
+    ensures seen { D.Disk.seen reader.new.disk ≡ D.Disk.seen reader.old.disk }
+    ensures crash { (c : List ℕ) → D.Disk.may_leave reader.new.disk c → D.Disk.may_leave reader.old.disk c }
+    ensures clean { IsTrue (D.Disk.is_clean reader.new.disk) → IsTrue (D.Disk.is_clean reader.old.disk) }
 {
-    let Some(gate) = read_gate(disk, len, at, frame)? else {
+    let Some(gate) = read_gate(reader, len, at, frame)? else {
         return Ok(Step::Damage);
     };
     let mut out = Vec::with_capacity(alloc, FRONT_ROOM)?;
     if !is_open(gate) {
-        let on = goes_on(disk, len, at + 1, digest, frame, &mut out)?;
+        let on = goes_on(reader, len, at + 1, digest, frame, &mut out)?;
         return Ok(closed_step(on));
     }
     let place = FramePlace {
@@ -263,7 +271,7 @@ fn read_step<D: Disk>(
         first: false,
         before: digest,
     };
-    match read_frame(disk, len, place, frame, &mut out)? {
+    match read_frame(reader, len, place, frame, &mut out)? {
         Some(digest) => Ok(Step::Frame(digest)),
         None => Ok(Step::Damage),
     }

@@ -154,11 +154,12 @@ fn assert_durable(rt: &impl Abort, alloc: Global, bytes: &[u8], durable: u64) {
     assert!(rt; found == Found::Whole(durable) || found == Found::Whole(more));
 }
 
-/// A disk that fails while a journal is read: reading stops, and finds no damage.
+/// A disk that fails while a journal is read, at its sync, its length or the read of its only block: reading stops, and
+/// finds no damage.
 #[test]
 fn disk_that_fails_while_read(rt: HostRuntime) {
     let disk = example(&rt, rt.alloc()).into_disk();
-    for calls in 0..14 {
+    for calls in 0..3 {
         let fuse = Fuse::new(disk_of(&rt, rt.alloc(), disk.bytes()), calls);
         assert_stopped(&rt, found_in(rt.alloc(), fuse));
     }

@@ -6,23 +6,23 @@ use Rattle.oai_journal.proofs.ReadingLemmas.{len_end, len_read, len_within}
 use Rattle.oai_journal.proofs.readings.read_len.Goals as goal
 
 pub returns-then-len-at-clause-found : goal.returns-then-len-at-clause-found
-returns-then-len-at-clause-found g c clean size =
-    len_end (g.D.Disk.seen c.args.disk.now) c.args.len c.args.at size (search rules)
+returns-then-len-at-clause-found g c clean block size =
+    len_end (g.D.Disk.seen c.args.reader.now.disk) c.args.len c.args.at size (search rules)
 
 pub returns-in-Some-clause-found : goal.returns-in-Some-clause-found
-returns-in-Some-clause-found g c clean size before e after fit is =
-    let read = c.deref.ensures.value ∙ c.in_ok-read_bytes.ensures.read clean ∙ ap (λ n. take n (drop c.args.at (g.D.Disk.seen c.args.disk.now))) c.min.ensures in
-    sym c.in-Some.is ∙ c.frame_len.ensures.len ∙ len_read (g.D.Disk.seen c.args.disk.now) c.args.len c.args.at size c.deref.result.now read before e after fit is
+returns-in-Some-clause-found g c clean block size before e after fit is =
+    let read = c.deref.ensures.value ∙ c.in_ok-read.ensures.read clean block ∙ ap (λ n. take n (drop c.args.at (g.D.Disk.seen c.args.reader.now.disk))) c.min.ensures in
+    sym c.in-Some.is ∙ c.frame_len.ensures.len ∙ len_read (g.D.Disk.seen c.args.reader.now.disk) c.args.len c.args.at size c.deref.result.now read before e after fit is
 
 pub returns-in_default-clause-found : goal.returns-in_default-clause-found
-returns-in_default-clause-found g c clean size before e after fit is =
-    let file = g.D.Disk.seen c.args.disk.now in
-    let read = c.deref.ensures.value ∙ c.in_ok-read_bytes.ensures.read clean ∙ ap (λ n. take n (drop c.args.at file)) c.min.ensures in
+returns-in_default-clause-found g c clean block size before e after fit is =
+    let file = g.D.Disk.seen c.args.reader.now.disk in
+    let read = c.deref.ensures.value ∙ c.in_ok-read.ensures.read clean block ∙ ap (λ n. take n (drop c.args.at file)) c.min.ensures in
     let found : Some c.in-Some.size ≡ Some (length (frame before e)) = sym c.in-Some.is ∙ c.frame_len.ensures.len ∙ len_read file c.args.len c.args.at size c.deref.result.now read before e after fit is in
     absurd (omega (arith, c.if-size-len.false, some_same _ _ found, len_within file c.args.len c.args.at size before e after is))
 
 pub returns-in_default-2-clause-found : goal.returns-in_default-2-clause-found
-returns-in_default-2-clause-found g c clean size before e after fit is =
-    let file = g.D.Disk.seen c.args.disk.now in
-    let read = c.deref.ensures.value ∙ c.in_ok-read_bytes.ensures.read clean ∙ ap (λ n. take n (drop c.args.at file)) c.min.ensures in
+returns-in_default-2-clause-found g c clean block size before e after fit is =
+    let file = g.D.Disk.seen c.args.reader.now.disk in
+    let read = c.deref.ensures.value ∙ c.in_ok-read.ensures.read clean block ∙ ap (λ n. take n (drop c.args.at file)) c.min.ensures in
     sym c.in_default.is ∙ c.frame_len.ensures.len ∙ len_read file c.args.len c.args.at size c.deref.result.now read before e after fit is

@@ -10,21 +10,21 @@ returns-in_default-clause-damaged g c at is clean =
     let f = c.in_ok-found.ensures in
     let o = c.in_ok-self.ensures in
     let before = f.clean clean in
-    let size : c.in_ok-self.field-0 ≡ length (g.D.Disk.seen c.open_len.new.disk) = o.len before ∙ ap length (sym o.seen) in
-    let none : HasNoFirst (g.D.Disk.seen c.open_len.new.disk) =
-    subst (Starts (g.D.Disk.seen c.open_len.new.disk) c.read_first.new.frame.items) c.in_default.is (f.found clean size) in
-    damaged_first (g.D.Disk.seen c.read_first.new.disk) at is (subst HasNoFirst (sym f.seen) none)
+    let size : c.in_ok-self.field-0 ≡ length (g.D.Disk.seen c.open_len.new.self.disk) = o.len before ∙ ap length (sym o.seen) in
+    let none : HasNoFirst (g.D.Disk.seen c.open_len.new.self.disk) =
+    subst (Starts (g.D.Disk.seen c.open_len.new.self.disk) c.read_first.new.frame.items) c.in_default.is (f.found clean o.block size) in
+    damaged_first (g.D.Disk.seen c.read_first.new.reader.disk) at is (subst HasNoFirst (sym f.seen) none)
 
 pub returns-clause-begun : goal.returns-clause-begun
 returns-clause-begun g c clean =
     let f = c.in_ok-found.ensures in
     let o = c.in_ok-self.ensures in
     let before = f.clean clean in
-    let size : c.in_ok-self.field-0 ≡ length (g.D.Disk.seen c.open_len.new.disk) = o.len before ∙ ap length (sym o.seen) in
-    let there : StartsAs (g.D.Disk.seen c.open_len.new.disk) c.read_first.new.frame.items c.in-Some.digest =
-    subst (Starts (g.D.Disk.seen c.open_len.new.disk) c.read_first.new.frame.items) c.in-Some.is (f.found clean size) in
-    let only : Only (g.D.Disk.seen c.read_first.new.disk) (g.D.Disk.may_leave c.read_first.new.disk) =
-    same_left g.D.Disk.seen g.D.Disk.may_leave c.open_len.new.disk c.read_first.new.disk f.seen f.crash o.durable in
+    let size : c.in_ok-self.field-0 ≡ length (g.D.Disk.seen c.open_len.new.self.disk) = o.len before ∙ ap length (sym o.seen) in
+    let there : StartsAs (g.D.Disk.seen c.open_len.new.self.disk) c.read_first.new.frame.items c.in-Some.digest =
+    subst (Starts (g.D.Disk.seen c.open_len.new.self.disk) c.read_first.new.frame.items) c.in-Some.is (f.found clean o.block size) in
+    let only : Only (g.D.Disk.seen c.read_first.new.reader.disk) (g.D.Disk.may_leave c.read_first.new.reader.disk) =
+    same_left g.D.Disk.seen g.D.Disk.may_leave c.open_len.new.self.disk c.read_first.new.reader.disk f.seen f.crash o.durable in
     let at : 1 + c.len.result ≡ 1 + length c.read_first.new.frame.items = omega (arith, c.len.ensures, c.read_first.new.frame.ok.0) in
-    has_begun _ _ _ c.in-Some.digest (size ∙ ap length (sym f.seen)) only refl at refl
+    has_begun _ _ _ c.in-Some.digest (size ∙ ap length (sym f.seen)) only (f.block clean o.block) refl at refl
     (subst (λ (l : List ℕ). StartsAs l c.read_first.new.frame.items c.in-Some.digest) (sym f.seen) there)
