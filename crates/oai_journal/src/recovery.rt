@@ -51,8 +51,8 @@ pub(crate) enum Step {
     Damage,
 }
 
-/// The recovery of a journal from its file: its first record, and then one after the other. It reads each frame into
-/// one buffer, which grows to the longest of them, and writes nothing.
+/// The recovery of a journal from its file: its first record, and then one after the other. It reads the file in blocks
+/// of 1 MiB, copies each frame into one buffer, which grows to the longest of them, and writes nothing.
 #[derive(Drop)]
 pub struct Recovery<D: Disk> {
     alloc: Global,
