@@ -14,7 +14,7 @@ use Rattle.oai_item.specs.declared.refusals.LineRefusal.TheVariants.{BadIdentifi
 use Rattle.oai_json.specs.Json.{json_in}
 use Rattle.oai_names.specs.Names.{may_be_identifier}
 use Rattle.oai_names.specs.Sets.{may_be_set_spec}
-use Rattle.oai_deposit.specs.Lines.{Parts, Shape, adds_set, are_of_forms, as_deposit, as_put, asked_change, asked_parts, before_others, change_asked, deletes, deposits, puts, elements_read, given_element, have_xml_texts, is_of_forms, line_of, purges, shape_of, value_asked}
+use Rattle.oai_deposit.specs.Lines.{DepositParts, Shape, adds_set, are_of_forms, as_deposit, as_put, asked_change, asked_parts, before_others, change_asked, deletes, deposits, puts, elements_read, given_element, have_xml_texts, is_of_forms, line_of, purges, shape_of, value_asked}
 use Rattle.oai_deposit.proofs.ShapeLemmas.{shape_law_holds}
 
 -- a list is given as it is
@@ -52,7 +52,7 @@ shape_listed d (deposits identifier sets records) name specs given found is =
     deposit_listed identifier name sets specs records given (((shape_law_holds Fields d).fits (deposits identifier sets records)).0 found).formed is
 shape_listed d (puts identifier sets records) name specs given found is = absurd (no_put (asked_parts identifier sets (elements_read records)) is)
   where
-    no_put : (parts : Result Parts LineRefusal) → as_put parts ≡ Ok (change.Deposit name specs given) → ⊥
+    no_put : (parts : Result DepositParts LineRefusal) → as_put parts ≡ Ok (change.Deposit name specs given) → ⊥
     no_put (Ok parts) is = cc
     no_put (Err refusal) is = cc
 shape_listed d (deletes identifier) name specs given found is = absurd (by_test (may_be_identifier identifier) is)
@@ -86,7 +86,7 @@ shape_no_put : (d : Data) (shape : Shape) (name : List ℕ) (specs : List (List 
 unfolding asked_change
 shape_no_put d (deposits identifier sets records) name specs given found is = no_deposit (asked_parts identifier sets (elements_read records)) is
   where
-    no_deposit : (parts : Result Parts LineRefusal) → as_deposit parts ≡ Ok (change.Put name specs given) → ⊥
+    no_deposit : (parts : Result DepositParts LineRefusal) → as_deposit parts ≡ Ok (change.Put name specs given) → ⊥
     no_deposit (Ok parts) is = cc
     no_deposit (Err refusal) is = cc
 shape_no_put d (puts identifier sets records) name specs given found is =

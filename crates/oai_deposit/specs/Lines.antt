@@ -198,11 +198,11 @@ have_xml_texts records =
     list_all (λ metadata. list_all (λ field. is_xml_text field.text) metadata.1) records
 
 -- the identifier, the setSpecs and the records of a deposit
-abbrev pub Parts : Type 0
-Parts = List ℕ × List (List ℕ) × List GivenRecord
+abbrev pub DepositParts : Type 0
+DepositParts = List ℕ × List (List ℕ) × List GivenRecord
 
 -- these of records whose elements are read
-abbrev pub asked_parts : List ℕ → List (List ℕ) → Result (List GivenRecord) LineRefusal → Result Parts LineRefusal
+abbrev pub asked_parts : List ℕ → List (List ℕ) → Result (List GivenRecord) LineRefusal → Result DepositParts LineRefusal
 asked_parts identifier sets (Err refusal) = Err refusal
 asked_parts identifier sets (Ok records) =
     if not (may_be_identifier identifier) then Err BadIdentifier
@@ -211,11 +211,11 @@ asked_parts identifier sets (Ok records) =
     else Ok (identifier, sets, records)))
 
 -- the deposit of these parts, and the put
-abbrev pub as_deposit : Result Parts LineRefusal → Result Change LineRefusal
+abbrev pub as_deposit : Result DepositParts LineRefusal → Result Change LineRefusal
 as_deposit (Ok parts) = Ok (change.Deposit parts.0 parts.1 parts.2)
 as_deposit (Err refusal) = Err refusal
 
-abbrev pub as_put : Result Parts LineRefusal → Result Change LineRefusal
+abbrev pub as_put : Result DepositParts LineRefusal → Result Change LineRefusal
 as_put (Ok parts) = Ok (change.Put parts.0 parts.1 parts.2)
 as_put (Err refusal) = Err refusal
 

@@ -34,7 +34,7 @@ use Rattle.oai_item.specs.declared.deleted_record.DeletedRecord.TheVariants.{No,
 use Rattle.oai_repo.specs.Answers.{filter_of}
 use Rattle.oai_holdings.specs.Changes.{after_deletion, after_purge, changed, dead_refusal, deposit_refusal, drops_format, is_held_so, is_one_too_many, is_transient, item_refusal, limit_of, missing_refusal, purge_refusal, purged, refusal_of, stamp_at, with_new, with_tombstone}
 use Rattle.oai_settings.specs.Config.{RepositoryConfig}
-use Rattle.oai_laws.specs.Effects.{Effect, is_formed, is_frozen_of_format, has_known_records, is_live, IsEffected, IsLeftOver, IsPossible, IsPut, IsSound, effected, goes_below, holding, is_given, item_put, item_taken, items_purged, list_opened, list_carried_on, set_added, unchanged}
+use Rattle.oai_laws.specs.Effects.{Effect, is_formed, is_frozen_of_format, has_known_records, is_live, IsEffected, IsLeftOver, IsPossible, MayBePut, IsSound, effected, goes_below, holding, is_given, item_put, item_taken, items_purged, list_opened, list_carried_on, set_added, unchanged}
 use Rattle.oai_holdings.specs.Kept.{AreKept, is_too_large, is_well_kept}
 use Rattle.oai_repo.specs.Listing.{Response, request_response, opens_list, continued_response, has_no_sets, list_response, new_list, next_cursor, list_continued, carried_on, carried_on_at, format_response, selection_response, token_response, wait_at}
 use Rattle.oai_repo.specs.Machine.{Command, act, act_on_change, requesting, changing, rejecting}
@@ -60,7 +60,7 @@ sound_moved config moment state sound = record {
 }
 
 -- an item that is put
-put_kept : (config : RepositoryConfig) (state : RepoState) (item : ItemState) → IsPut config state item → AreKept config state.holdings
+put_kept : (config : RepositoryConfig) (state : RepoState) (item : ItemState) → MayBePut config state item → AreKept config state.holdings
     → AreKept config (record state.holdings { items = with_new item state.holdings.items })
 put_kept config state item put kept =
     let items : List ItemState = state.holdings.items in
@@ -73,7 +73,7 @@ put_kept config state item put kept =
     }
 
 -- which is live where no deleted one is kept
-put_live : (config : RepositoryConfig) (state : RepoState) (item : ItemState) → IsPut config state item → config.deleted ≡ No → item.live ≡ true
+put_live : (config : RepositoryConfig) (state : RepoState) (item : ItemState) → MayBePut config state item → config.deleted ≡ No → item.live ≡ true
 put_live config state item put none = by_test item.live put.dead
   where
     by_test : (live : Bool) → (live ≡ false → IsLeftOver config state item) → live ≡ true
@@ -341,7 +341,7 @@ none_dropped records (x ∷ kept) h =
 
 -- a deleted item takes the place of a live one that is there
 tombstone_put : (config : RepositoryConfig) (state : RepoState) (identifier : List ℕ) (item : ItemState) → config.deleted ≢ No → item_named identifier state.holdings.items ≡ Some item → item.live ≡ true
-    → AreKept config state.holdings → IsPut config state (tombstone_of (stamp_at config state.clock) item)
+    → AreKept config state.holdings → MayBePut config state (tombstone_of (stamp_at config state.clock) item)
 unfolding is_one_too_many
 tombstone_put config state identifier item policy is live kept =
     let found : item_named item.identifier state.holdings.items ≡ Some item = ap (λ (id : List ℕ). item_named id state.holdings.items) (found_name identifier state.holdings.items item is) ∙ is in
@@ -385,7 +385,7 @@ deleted_by config state identifier Persistent is dead kept = buried_by config st
 deposited_by : (config : RepositoryConfig) (state : RepoState) (identifier : List ℕ) (sets : List (List ℕ)) (records : List GivenRecord)
     → deposit_refusal config state.holdings.sets sets records ≡ None
     → item_refusal config (item_named identifier state.holdings.items) (length state.holdings.items) (live_item identifier (stamp_at config state.clock) (reduced sets) (map as_kept records)) ≡ None
-    → IsPut config state (live_item identifier (stamp_at config state.clock) (reduced sets) (map as_kept records))
+    → MayBePut config state (live_item identifier (stamp_at config state.clock) (reduced sets) (map as_kept records))
 deposited_by config state identifier sets records first later =
     let stamp : ℤ = stamp_at config state.clock in
     let fit = fits config (item_named identifier state.holdings.items) (length state.holdings.items) (live_item identifier stamp (reduced sets) (map as_kept records)) later in

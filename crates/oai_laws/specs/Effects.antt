@@ -62,7 +62,7 @@ pub record IsLeftOver (config : RepositoryConfig) (state : RepoState) (item : It
 -- an item is put: it has the datestamp of the clock and satisfies the repository's invariants; it has a record in each
 -- format in which the replaced item has one; if it replaces none there is room for it; and a deleted one is the
 -- tombstone of a live one
-pub record IsPut (config : RepositoryConfig) (state : RepoState) (item : ItemState) : Type 0 where
+pub record MayBePut (config : RepositoryConfig) (state : RepoState) (item : ItemState) : Type 0 where
   pub dated : item.stamp ≡ stamp_at config state.clock
   pub well : is_well_kept config state.holdings.sets item ≡ true
   pub formats : drops_format (item_named item.identifier state.holdings.items) item.formats ≡ false
@@ -94,7 +94,7 @@ pub record IsOpened (config : RepositoryConfig) (state : RepoState) (list : Froz
 -- 2.5.1)
 abbrev pub IsPossible : RepositoryConfig → RepoState → Effect → Type 0
 IsPossible config state unchanged = Unit {0}
-IsPossible config state (item_put item) = IsPut config state item
+IsPossible config state (item_put item) = MayBePut config state item
 IsPossible config state (item_taken identifier) = config.deleted ≡ No
 IsPossible config state (items_purged limit) = config.deleted ≡ Transient
 IsPossible config state (set_added set) = set_refusal state.holdings.sets set.0 ≡ None

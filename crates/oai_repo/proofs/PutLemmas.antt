@@ -10,7 +10,7 @@ use Rattle.oai_settings.specs.Config.{RepositoryConfig}
 use Rattle.oai_holdings.specs.Changes.{changed, deposit_cause, refusal_of, stamp_at, told_stamp}
 use Rattle.oai_holdings.specs.Holdings.{Holdings}
 use Rattle.oai_repo.specs.Machine.{Outcome, accepted, act, act_on_change, changing}
-use Rattle.oai_repo.specs.Puts.{AreAlike}
+use Rattle.oai_repo.specs.Puts.{AreAlikeButForStamps}
 use Rattle.oai_repo.specs.State.{RepoState, moved}
 use Rattle.oai_holdings.proofs.PutLemmas.{alike, is_again}
 
@@ -43,13 +43,13 @@ put_twice config state next identifier sets records =
     twice_by config state next identifier sets records (refusal_of config (stamp_at config state.clock) state.holdings (change.Put identifier sets records)) refl
 
 pub put_alike : (config : RepositoryConfig) (state : RepoState) (identifier : List ℕ) (sets : List (List ℕ)) (records : List GivenRecord)
-    → AreAlike (act config state (changing (change.Put identifier sets records))).1 (act config state (changing (change.Deposit identifier sets records))).1
+    → AreAlikeButForStamps (act config state (changing (change.Put identifier sets records))).1 (act config state (changing (change.Deposit identifier sets records))).1
 unfolding act refusal_of changed
 put_alike config state identifier sets records =
     by_refusal (deposit_cause config state.holdings sets records (live_item identifier (stamp_at config state.clock) (reduced sets) (map kept records)))
   where
     by_refusal : (refusal : Option ChangeRefusal)
-        → AreAlike (act_on_change config state (stamp_at config state.clock) (change.Put identifier sets records) refusal).1
+        → AreAlikeButForStamps (act_on_change config state (stamp_at config state.clock) (change.Put identifier sets records) refusal).1
         (act_on_change config state (stamp_at config state.clock) (change.Deposit identifier sets records) refusal).1
     by_refusal (Some cause) = record { clock = refl; open_lists = refl; sets = refl; items = λ q. refl }
     by_refusal None = record {

@@ -5,7 +5,7 @@ use Rattle.oai_holdings.specs.Changes.{undated}
 use Rattle.oai_repo.specs.State.{RepoState}
 
 -- the states have the same clock, sets and open lists, and under each identifier the same item, but for its datestamp
-pub record AreAlike (one other : RepoState) : Type 0 where
+pub record AreAlikeButForStamps (one other : RepoState) : Type 0 where
   pub clock : one.clock ≡ other.clock
   pub open_lists : one.open_lists ≡ other.open_lists
   pub sets : one.holdings.sets ≡ other.holdings.sets

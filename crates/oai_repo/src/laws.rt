@@ -8,7 +8,7 @@ ghost use Rattle.oai_holdings.specs.Kept.{AreKept};
 ghost use Rattle.oai_item.specs.Givens.{GivenRecord};
 ghost use Rattle.oai_deposit.specs.declared.changes.Change.TheVariants as change;
 ghost use Rattle.oai_repo.specs.Machine.{act_at, changing, requesting};
-ghost use Rattle.oai_repo.specs.Puts.{AreAlike};
+ghost use Rattle.oai_repo.specs.Puts.{AreAlikeButForStamps};
 ghost use Rattle.oai_repo.specs.Saved.{ended, parts_of, with_parts};
 ghost use Rattle.oai_holdings.specs.Holdings.{no_holdings};
 ghost use Rattle.oai_repo.specs.State.{RepoState, moved};
@@ -48,6 +48,6 @@ pub fn put_law()
         act_at config once.1 next put ≡ (once.0, moved next once.1)) }
     ensures alike { (config : RepositoryConfig) (state : RepoState) (moment : ℤ) (identifier : List ℕ)
         (sets : List (List ℕ)) (records : List GivenRecord)
-        → AreAlike (act_at config state moment (changing (change.Put identifier sets records))).1
+        → AreAlikeButForStamps (act_at config state moment (changing (change.Put identifier sets records))).1
         (act_at config state moment (changing (change.Deposit identifier sets records))).1 }
 {}
