@@ -26,6 +26,7 @@ ITEMS = int(os.environ.get("ITEMS", "100000"))
 
 POST = b"POST "
 BUSY = answer_of(b"503 Service Unavailable")
+EXPIRED = 'code="badResumptionToken"'
 HEADER = re.compile(r"<header( status=\"deleted\")?><identifier>([^<]*)</identifier><datestamp>([^<]*)")
 
 
@@ -78,13 +79,14 @@ class Archive:
             raise SystemExit(f"a deposit was answered {status}: {said}")
 
     def headers(self, name=NAME):
-        """Of each item whether it is deleted, and its datestamp."""
-        found, query = {}, "verb=ListIdentifiers&metadataPrefix=oai_dc"
+        """Of each item whether it is deleted, and its datestamp. Where a token has expired, the list is begun anew."""
+        found, first = {}, "verb=ListIdentifiers&metadataPrefix=oai_dc"
+        query = first
         while query:
             _, document = self.ask(f"/oai/{name}?{query}")
             found |= {identifier: (bool(status), stamp) for status, identifier, stamp in HEADER.findall(document)}
             token = token_of(document.encode())
-            query = token and f"verb=ListIdentifiers&resumptionToken={token}"
+            query = first if EXPIRED in document else token and f"verb=ListIdentifiers&resumptionToken={token}"
         return found
 
     def dump(self, name=NAME):
