@@ -4,6 +4,7 @@ What is read is told by expat. The place of a fault is told by a scanner, by the
 the beginning of what it could not read. An error of expat where the scanner finds no fault is an error of this module.
 """
 
+import os
 import re
 from typing import NamedTuple
 from xml.parsers import expat
@@ -51,18 +52,18 @@ class Scanner:
     def __init__(self, text):
         self.text, self.at = text, 0
 
-    def fault(self, at=None):
-        """The fault at this place, or at the one that is given."""
-        return NoElement(self.at if at is None else at)
+    def fault(self, more=0):
+        """The fault at this place, or so many bytes behind it."""
+        return NoElement(len(self.text[: self.at].encode()) + more)
 
     def stands(self, literal):
         return self.text.startswith(literal, self.at)
 
     def literal(self, literal):
-        """Passes over the literal; a fault is at the first character that is another."""
+        """Passes over the literal; a fault is at the first byte that is another."""
         for it in literal:
             if not self.stands(it):
-                raise self.fault()
+                raise self.fault(len(os.path.commonprefix([it.encode(), self.text[self.at : self.at + 1].encode()])))
             self.at += 1
 
     def spaces(self, least=0):
@@ -219,7 +220,7 @@ class Scanner:
         elif self.stands("&"):
             self.reference()
         elif self.stands("]]>"):
-            raise self.fault(self.at + 2)
+            raise self.fault(2)
         elif self.at == len(self.text):
             raise self.fault()
         else:
@@ -314,7 +315,7 @@ def fault_of(text):
     try:
         Scanner(front).document()
     except NoElement as fault:
-        return len(front[: fault.at].encode())
+        return fault.at
     return len(front.encode()) if illegal else None
 
 
