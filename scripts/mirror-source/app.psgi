@@ -1,6 +1,7 @@
 # The data provider that mirror-trial moves from: Dancer::Plugin::Catmandu::OAI over the items of the file that ITEMS names, one JSON object a
 # line. The protocol is all the plugin's; only what it searches is here. Lists come in parts of LIMIT records. Each format is a template in the
-# folder TEMPLATES; marc21 is there only if it has one. It is run by starman, and needs these packages of Debian:
+# folder TEMPLATES; marc21 is there only if it has one. If PREFIX is not empty, the protocol's elements have it. It is run by starman, and needs these
+# packages of Debian:
 #     apt-get install libdancer-plugin-catmandu-oai-perl starman
 
 # Items by their `_id`. It knows the queries that the plugin makes: of dates, and of one identifier.
@@ -55,6 +56,8 @@ package main;
 use Dancer;
 use Catmandu;
 use Cpanel::JSON::XS ();
+use Plack::Util;
+use XML::LibXML;
 
 my %sets = do { open my $file, '<', $ENV{SETS} or die "$ENV{SETS}: $!"; %{Cpanel::JSON::XS::decode_json(join '', <$file>)} };
 
@@ -79,4 +82,16 @@ set plugins => {'Catmandu::OAI' => {
 require Dancer::Plugin::Catmandu::OAI;
 Dancer::Plugin::Catmandu::OAI->import;
 oai_provider('/oai', deleted => sub { $_[0]{deleted} }, set_specs_for => sub { $_[0]{sets} });
-dance;
+my $app = dance;
+
+# A document whose elements of the protocol have the prefix.
+sub prefixed {
+    my ($answer) = @_;
+    my $document = XML::LibXML->load_xml(string => join '', @{$answer->[2]});
+    $document->documentElement->setNamespaceDeclPrefix('', $ENV{PREFIX});
+    $answer->[2] = [$document->toString];
+    Plack::Util::header_set($answer->[1], 'Content-Length', length $answer->[2][0]);
+    return $answer;
+}
+
+length $ENV{PREFIX} ? sub { prefixed($app->(@_)) } : $app;

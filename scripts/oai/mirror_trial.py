@@ -73,7 +73,7 @@ class Source:
 
     def __init__(self, folder):
         self.folder, self.random, self.items = folder, random.Random(SEED), {}
-        self.port, self.process, self.templates = free_port(), None, "scripts/mirror-source"
+        self.port, self.process, self.templates, self.prefix = free_port(), None, "scripts/mirror-source", ""
         for number in range(ITEMS):
             front = self.random.choice(["", "x/", "%C3%A9-", "(a);", "A+B="])
             self.set_item(f"{front}{number}", moved(stamp_now(), -self.random.randrange(10, 1_000_000)), deleted=number % 50 == 0)
@@ -114,7 +114,7 @@ class Source:
         self.write()
         environment = os.environ | {
             "ITEMS": f"{self.folder}/items.jsonl", "SETS": f"{self.folder}/sets.json",
-            "LIMIT": str(LIMIT), "TEMPLATES": os.path.abspath(self.templates),
+            "LIMIT": str(LIMIT), "TEMPLATES": os.path.abspath(self.templates), "PREFIX": self.prefix,
         }  # fmt: skip
         command = ["starman", "--host", "127.0.0.1", "--port", str(self.port), "--workers", "2", "scripts/mirror-source/app.psgi"]
         with open(f"{self.folder}/log", "ab") as log:
@@ -124,6 +124,12 @@ class Source:
     def kill(self):
         os.killpg(self.process.pid, signal.SIGKILL)
         self.process.wait()
+
+    def write_as(self, templates, prefix):
+        """From now on records are written by these templates, and the protocol's elements with a prefix, or without one."""
+        self.kill()
+        self.templates, self.prefix = templates, prefix
+        self.start()
 
 
 class Target:
@@ -161,9 +167,9 @@ def free_port():
         return it.getsockname()[1]
 
 
-def wait_for(port):
-    """Waits until a server listens there."""
-    for _ in range(100):
+def wait_for(port, tenths=100):
+    """Waits until a server listens there, at most for so many tenths of a second."""
+    for _ in range(tenths):
         try:
             socket.create_connection(("127.0.0.1", port), timeout=60).close()
             return
@@ -450,9 +456,7 @@ def compare_elements(trial, what):
 
 def check_elements(trial):
     """Moves of records with attributes and nested elements, to formats without fields, while source and target are killed."""
-    trial.source.kill()
-    trial.source.templates = "scripts/mirror-source/elements"
-    trial.source.start()
+    trial.source.write_as("scripts/mirror-source/elements", "")
     trial.new_target({name: it for name, it in JOURNAL.items() if name != "fields"}, MARC)
     trial.to_source.cuts += [(MARC["prefix"].encode(), lambda request, relay: relay.answer(request)), (TOKEN, cut_answer(trial.source, True))]
     trial.to_target.cuts += [(POST, lambda request, relay: relay.answer(request)), (POST, cut_request(trial.target, True)), (POST, drop_answer(trial.target, True))]
@@ -467,6 +471,7 @@ def check_elements(trial):
     os.remove(trial.state)
     trial.mirror("elements again, without a state", "--elements")
     trial.performed("elements again", [], [])
+    trial.source.write_as("scripts/mirror-source/elements", "oai")
     changed, deleted = trial.source.change(500, 50)
     trial.to_target.cuts += [(POST, drop_answer(trial.target, False))]
     trial.mirror("elements that have changed, and the target is killed", "--elements", status=1)
@@ -477,9 +482,7 @@ def check_elements(trial):
     trial.mirror("elements that have changed", "--elements")
     compare_elements(trial, "elements that have changed")
     trial.performed("elements that have changed", changed, deleted)
-    trial.source.kill()
-    trial.source.templates = "scripts/mirror-source"
-    trial.source.start()
+    trial.source.write_as("scripts/mirror-source", "")
 
 
 PARTS = {"moves": check_moves, "source": check_source, "target": check_target, "elements": check_elements}
@@ -499,7 +502,8 @@ def mirror_trial(*parts: typing.Literal["moves", "source", "target", "elements"]
       target   a whole archive each time, where the target is killed when half of a message has come, or when its answer is on the way, and started
                again; is killed so, and started for the next run
       elements a whole archive with --elements, in three formats, whose records have attributes, nested elements and prefixes in values, while source and
-               target are killed; again; 500 changes and 50 deletions, with kills. Each record is then the source's, as a tree and in the canonical form
+               target are killed; again; 500 changes and 50 deletions, with kills, where the protocol's elements have a prefix. Each record is then the
+               source's, as a tree and in the canonical form
     Between the two and the program stand relays, which cut. It ends with `N runs, M differences`; the status is 0 where
     M is 0. ITEMS is the number of items, 5000 if it is not set: at least 1000. Packages of Debian:
         apt-get install libhttp-oai-perl libdancer-plugin-catmandu-oai-perl starman
