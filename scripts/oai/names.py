@@ -30,6 +30,7 @@ GROUPS = {
         "valid": "documents",
         "well-formed": "documents",
         "mirror-trial": "mirror_trial",
+        "mirror-dachs": "mirror_dachs",
         "deposit-trial": "deposit_trial",
         "web": "web",
         "package": "package",
