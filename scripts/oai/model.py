@@ -381,7 +381,7 @@ class Repository:
         if verb == "Identify":
             return self.identity()
         if verb == "ListSets":
-            return "".join(element("set", text_element("setSpec", it), text_element("setName", name)) for it, name in self.sets.items())
+            return "".join(self.set(it, name) for it, name in self.sets.items())
         if verb == "ListMetadataFormats":
             return self.formats_of(self.items.get(identifier))
         if prefix not in (self.items[identifier].records if verb == "GetRecord" else self.formats):
@@ -401,8 +401,14 @@ class Repository:
                 text_element("earliestDatestamp", settings["earliestDatestamp"]),
                 text_element("deletedRecord", settings["deletedRecord"]),
                 text_element("granularity", "YYYY-MM-DD" if self.is_by_day else "YYYY-MM-DDThh:mm:ssZ"),
+                *(element("description", read_element(it).text) for it in settings.get("description", [])),
             ]
         )
+
+    def set(self, spec, name):
+        described = self.settings.get("sets", {}).get(spec, [])
+        containers = [element("setDescription", read_element(it).text) for it in described]
+        return element("set", text_element("setSpec", spec), text_element("setName", name), *containers)
 
     def formats_of(self, item):
         if item and not item.is_live:

@@ -18,6 +18,7 @@ EXCEPTIONS = {
     "element": "a production of XML's grammar: in oai_answers its bytes, in oai_xml the node of a tree",
     "start_tag": "a production of XML's grammar: in oai_answers without attributes, in oai_xml with those of a tree",
     "end_tag": "a production of XML's grammar: the same bytes, in oai_answers by the literals of its code",
+    "elements_of": "in oai_json those of an array, in oai_xml those that are kept under a name",
     "element_in": "in oai_xml a production of XML's grammar, in oai_item the element that fields keep",
     "root_in": "the root of an XML document: in oai_xml its production, in oai_item its name",
     "AreRecords": "the records of an item: in Givens in memory, in Walks in encoded bytes",

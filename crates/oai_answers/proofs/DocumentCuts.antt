@@ -9,17 +9,18 @@ use Rattle.oai_time.specs.TimeTexts.{datestamp_text, second_text}
 use Rattle.oai_time.specs.declared.granularity.Granularity.TheVariants.{Day}
 use Rattle.oai_item.specs.Item.{ItemState, fields_in}
 use Rattle.oai_item.specs.declared.formats.Format.{Format}
+use Rattle.oai_xml.specs.Documents.{is_canonical}
 use Rattle.oai_xml.specs.Trees.{Tree}
-use Rattle.oai_answers.specs.Answers.{Continuation, Description, Dissemination, Document, Page, VerbAnswer, completes, fails, gives_record, identifies, lists_formats, lists_headers, lists_records, lists_sets, remains, whole}
+use Rattle.oai_answers.specs.Answers.{Continuation, DescribedSet, Description, Dissemination, Document, Page, VerbAnswer, completes, fails, gives_record, identifies, lists_formats, lists_headers, lists_records, lists_sets, remains, whole}
 use Rattle.oai_answers.specs.Documents.{answer_element, document, error_element, extent_attributes, formats_element, identify_element, sets_element, get_record_element, head, header_element, header_start, identifiers_element, metadata, metadata_part, record_element, records_element, token_element}
 use Rattle.oai_answers.specs.Markup.{attribute_start, element, end_tag, plain, spelled_attribute, start_tag, text_element}
 use Rattle.oai_answers.specs.MetadataTrees.{metadata_tree}
-use Rattle.oai_answers.specs.Seen.{answer_seen, document_seen, empty_token, header_seen, identity_seen, metadata_seen, no_token, offer_seen, record_seen, seen_error, seen_formats, seen_headers, seen_identity, seen_record, seen_records, seen_sets, seen_token, token_seen}
+use Rattle.oai_answers.specs.Seen.{answer_seen, document_seen, empty_token, has_elements, header_seen, identity_seen, metadata_seen, no_token, offer_seen, record_seen, seen_error, seen_formats, seen_headers, seen_identity, seen_record, seen_records, seen_sets, seen_token, set_seen, token_seen}
 use Rattle.oai_answers.specs.declared.errors.ErrorCode.{ErrorCode}
 use Rattle.oai_answers.specs.declared.errors.ErrorCode.TheVariants.{BadVerb}
 use Rattle.oai_item.specs.declared.deleted_record.DeletedRecord.TheVariants.{No}
 use Rattle.oai_answers.specs.declared.tokens.Extent.{Extent}
-use Rattle.oai_answers.proofs.PartCuts.{error_cut, formats_cut, identify_cut, request_cut, second_cut, sets_cut}
+use Rattle.oai_answers.proofs.PartCuts.{error_cut, formats_cut, identify_cut, is_described, request_cut, second_cut, sets_cut}
 use Rattle.oai_answers.proofs.Printed.{decimal_lacks, quote_is, second_lacks}
 use Rattle.oai_answers.proofs.RecordCuts.{Content, Dated, freely, header_cut, is_plain_content, metadata_cut}
 use Rattle.oai_answers.proofs.Spelled.{attribute_cut, element_cut, elements_cut, tag_at, tag_closes}
@@ -299,12 +300,12 @@ answer_kind (gives_record d) = 4
 answer_kind (lists_headers page) = 5
 answer_kind (lists_records format page) = 6
 
--- what is asked of the records of an answer
+-- what is asked of the records of an answer, and of what describes a repository
 abbrev pub is_plain_answer : VerbAnswer → Bool
 is_plain_answer (fails code) = true
-is_plain_answer (identifies d) = true
+is_plain_answer (identifies d) = list_all is_canonical d.descriptions
 is_plain_answer (lists_formats formats) = true
-is_plain_answer (lists_sets sets) = true
+is_plain_answer (lists_sets sets) = list_all has_elements sets
 is_plain_answer (gives_record d) = is_plain_record d
 is_plain_answer (lists_headers page) = true
 is_plain_answer (lists_records format page) = are_plain_records (pair format page)
@@ -340,7 +341,7 @@ abbrev no_page : Page
 no_page = record { items = []; granularity = Day; continuation = whole }
 
 abbrev no_description : Description
-no_description = record { name = []; addresses = []; earliest = pos 0; deleted = No; granularity = Day }
+no_description = record { name = []; addresses = []; earliest = pos 0; deleted = No; granularity = Day; descriptions = [] }
 
 abbrev code_in : Based → ErrorCode
 code_in (base, fails code) = code
@@ -369,7 +370,7 @@ formats_in (base, gives_record d) = []
 formats_in (base, lists_headers page) = []
 formats_in (base, lists_records format page) = []
 
-abbrev sets_in : Based → List (List ℕ × List ℕ)
+abbrev sets_in : Based → List DescribedSet
 sets_in (base, fails code) = []
 sets_in (base, identifies d) = []
 sets_in (base, lists_formats formats) = []
@@ -417,10 +418,10 @@ is_kind_0 (base, lists_headers page) good h = cc
 is_kind_0 (base, lists_records format page) good h = cc
 
 is_kind_1 : (p : Based) → is_plain_answer p.1 ≡ true → eqb (answer_kind p.1) 1 ≡ true
-    → (any (identity_in p) ≡ true) × (answer_element p.0 p.1 ≡ identify_element (identity_in p).0 (identity_in p).1)
+    → (is_described (identity_in p) ≡ true) × (answer_element p.0 p.1 ≡ identify_element (identity_in p).0 (identity_in p).1)
     × (seen_identity (identity_seen (identity_in p).0 (identity_in p).1) ≡ answer_seen p.0 p.1)
 is_kind_1 (base, fails code) good h = cc
-is_kind_1 (base, identifies d) good h = (refl, refl, refl)
+is_kind_1 (base, identifies d) good h = (good, refl, refl)
 is_kind_1 (base, lists_formats formats) good h = cc
 is_kind_1 (base, lists_sets sets) good h = cc
 is_kind_1 (base, gives_record d) good h = cc
@@ -439,12 +440,12 @@ is_kind_2 (base, lists_headers page) good h = cc
 is_kind_2 (base, lists_records format page) good h = cc
 
 is_kind_3 : (p : Based) → is_plain_answer p.1 ≡ true → eqb (answer_kind p.1) 3 ≡ true
-    → (any (sets_in p) ≡ true) × (answer_element p.0 p.1 ≡ sets_element (sets_in p))
-    × (seen_sets (sets_in p) ≡ answer_seen p.0 p.1)
+    → (list_all has_elements (sets_in p) ≡ true) × (answer_element p.0 p.1 ≡ sets_element (sets_in p))
+    × (seen_sets (map set_seen (sets_in p)) ≡ answer_seen p.0 p.1)
 is_kind_3 (base, fails code) good h = cc
 is_kind_3 (base, identifies d) good h = cc
 is_kind_3 (base, lists_formats formats) good h = cc
-is_kind_3 (base, lists_sets sets) good h = (refl, refl, refl)
+is_kind_3 (base, lists_sets sets) good h = (good, refl, refl)
 is_kind_3 (base, gives_record d) good h = cc
 is_kind_3 (base, lists_headers page) good h = cc
 is_kind_3 (base, lists_records format page) good h = cc

@@ -1,7 +1,7 @@
 -- The parts of a document can be cut off what follows, in the order in which they are defined: the request, errors, Identify, formats and sets.
 use Rattle.std.proofs.Common.{◌≡◌, ◌∙◌, ℕ, ℤ, ◌+◌, Bool, true, false, eqb, cond, List, [], ◌∷◌, ◌++◌, get_or, map, codes, Option, None, Some, refl, sym, ap, arith}
 use Rattle.std.specs.Prelude.{nat_lt}
-use Rattle.std.specs.List.{flat_map}
+use Rattle.std.specs.List.{flat_map, list_all}
 use Rattle.std.proofs.lemmas.Bool.{true≢false}
 use Rattle.std.proofs.lemmas.Bool.Decides.{nat_tests}
 use Rattle.oai_names.specs.Escapes.{escaped_text}
@@ -11,16 +11,17 @@ use Rattle.oai_time.specs.TimeTexts.{datestamp_text, second_text}
 use Rattle.oai_time.specs.declared.granularity.Granularity.{Granularity}
 use Rattle.oai_time.specs.declared.granularity.Granularity.TheVariants.{Day, Second}
 use Rattle.oai_item.specs.declared.formats.Format.{Format}
-use Rattle.oai_answers.specs.Answers.{Attributes, Description, Document, arguments_told}
+use Rattle.oai_xml.specs.Documents.{is_canonical}
+use Rattle.oai_answers.specs.Answers.{Attributes, DescribedSet, Description, Document, arguments_told}
 use Rattle.oai_answers.specs.Documents.{attributes, code_of, deleted_text, error_element, format_element, formats_element, given_attribute, granularity_text, identify_element, message_of, request_element, set_element, sets_element}
-use Rattle.oai_answers.specs.Markup.{attribute, attribute_start, element, end_tag, plain, spelled_attribute, start_tag, text_element}
-use Rattle.oai_answers.specs.Seen.{identity_seen, offer_seen}
+use Rattle.oai_answers.specs.Markup.{attribute, attribute_start, container, element, end_tag, plain, spelled_attribute, start_tag, text_element}
+use Rattle.oai_answers.specs.Seen.{has_elements, identity_seen, offer_seen, set_seen}
 use Rattle.oai_answers.specs.declared.errors.ErrorCode.{ErrorCode}
 use Rattle.oai_answers.specs.declared.errors.ErrorCode.TheVariants.{BadVerb, BadArgument, BadResumptionToken, CannotDisseminateFormat, IdDoesNotExist, NoRecordsMatch, NoMetadataFormats, NoSetHierarchy}
 use Rattle.oai_item.specs.declared.deleted_record.DeletedRecord.{DeletedRecord}
 use Rattle.oai_item.specs.declared.deleted_record.DeletedRecord.TheVariants.{No, Transient, Persistent}
 use Rattle.oai_answers.proofs.Printed.{angle_is, datestamp_lacks, second_lacks}
-use Rattle.oai_answers.proofs.Spelled.{attribute_cut, element_cut, elements_cut, tag_at, text_element_cut}
+use Rattle.oai_answers.proofs.Spelled.{attribute_cut, containers_cut, element_cut, elements_cut, tag_at, text_element_cut}
 
 -- ---- the request
 
@@ -230,8 +231,11 @@ texts_cut name = seen_same map_same (where_good (λ texts _. all_any texts) (ele
 abbrev Identity : Type 0
 Identity = List ℕ × Description
 
-pub identify_cut : Cuts anything any (λ (p : Identity). identify_element p.0 p.1) (λ p. identity_seen p.0 p.1)
-unfolding identify_element element start_tag plain
+abbrev pub is_described : Identity → Bool
+is_described p = list_all is_canonical p.1.descriptions
+
+pub identify_cut : Cuts anything is_described (λ (p : Identity). identify_element p.0 p.1) (λ p. identity_seen p.0 p.1)
+unfolding identify_element element start_tag end_tag plain
 identify_cut =
     let name = of_part (λ (p : Identity). p.1.name) (text_element_cut (codes "repositoryName")) in
     let base = both name (of_part (λ (p : Identity). p.0) (text_element_cut (codes "baseURL"))) (λ p rest _ _. refl) in
@@ -240,8 +244,9 @@ identify_cut =
     let earliest = both addresses (element_cut (codes "earliestDatestamp") (of_part (λ (p : Identity). pair p.1.granularity p.1.earliest) datestamp_cut) (tag_at (codes "earliestDatestamp"))) (λ p rest _ _. refl) in
     let deleted = both earliest (element_cut (codes "deletedRecord") (of_part (λ (p : Identity). p.1.deleted) deleted_cut) (tag_at (codes "deletedRecord"))) (λ p rest _ _. refl) in
     let granularity = both deleted (element_cut (codes "granularity") (of_part (λ (p : Identity). p.1.granularity) granularity_cut) (tag_at (codes "granularity"))) (λ p rest _ _. refl) in
-    seen_as (λ s. record { name = s.0.0.0.0.0; base = s.0.0.0.0.1; addresses = s.0.0.0.1; earliest = s.0.0.1; deleted = s.0.1; granularity = s.1 })
-    (element_cut (codes "Identify") granularity (λ rest. refl))
+    let descriptions = both (where_good (λ p _. refl) granularity) (of_part (λ (p : Identity). p.1.descriptions) (containers_cut (codes "description"))) (λ p rest _ _. refl) in
+    seen_as (λ s. record { name = s.0.0.0.0.0.0; base = s.0.0.0.0.0.1; addresses = s.0.0.0.0.1; earliest = s.0.0.0.1; deleted = s.0.0.1; granularity = s.0.1; descriptions = s.1 })
+    (element_cut (codes "Identify") descriptions (λ rest. refl))
 
 -- ---- formats
 
@@ -261,14 +266,17 @@ formats_cut =
 
 -- ---- sets
 
-pub set_cut : Cuts anything any set_element (λ set. set)
-unfolding set_element
+pub set_cut : Cuts anything has_elements set_element set_seen
+unfolding set_element element start_tag end_tag plain
 set_cut =
-    let spec = of_part (λ (s : List ℕ × List ℕ). s.0) (text_element_cut (codes "setSpec")) in
-    element_cut (codes "set") (both spec (of_part (λ (s : List ℕ × List ℕ). s.1) (text_element_cut (codes "setName"))) (λ s rest _ _. refl)) (λ rest. refl)
+    let spec = of_part (λ (s : DescribedSet). s.spec) (text_element_cut (codes "setSpec")) in
+    let name = both spec (of_part (λ (s : DescribedSet). s.name) (text_element_cut (codes "setName"))) (λ s rest _ _. refl) in
+    let descriptions = both (where_good (λ s _. refl) name) (of_part (λ (s : DescribedSet). s.descriptions) (containers_cut (codes "setDescription"))) (λ s rest _ _. refl) in
+    seen_as (λ s. record { spec = s.0.0; name = s.0.1; descriptions = s.1 }) (element_cut (codes "set") descriptions (λ rest. refl))
 
-pub sets_cut : Cuts anything any sets_element (λ sets. sets)
+pub sets_cut : Cuts anything (list_all has_elements) sets_element (map set_seen)
 unfolding sets_element set_element element start_tag end_tag plain
 sets_cut =
-    let content : List ℕ × List ℕ → List ℕ = λ s. text_element (codes "setSpec") s.0 ++ text_element (codes "setName") s.1 in
-    element_cut (codes "ListSets") (seen_same map_same (where_good (λ sets _. all_any sets) (elements_cut (codes "set") content set_element (λ s. refl) set_cut))) (λ rest. refl)
+    let content : DescribedSet → List ℕ = λ s.
+    text_element (codes "setSpec") s.spec ++ text_element (codes "setName") s.name ++ flat_map (container (codes "setDescription")) s.descriptions in
+    element_cut (codes "ListSets") (elements_cut (codes "set") content set_element (λ s. refl) set_cut) (λ rest. refl)

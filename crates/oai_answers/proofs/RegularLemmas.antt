@@ -22,9 +22,9 @@ plain_records format page (item ∷ items) good h =
 
 regular_plain : (answer : VerbAnswer) → IsRegular answer → is_plain_answer answer ≡ true
 regular_plain (fails code) h = refl
-regular_plain (identifies d) h = refl
+regular_plain (identifies d) h = h
 regular_plain (lists_formats formats) h = refl
-regular_plain (lists_sets sets) h = refl
+regular_plain (lists_sets sets) h = h
 regular_plain (gives_record d) h = plain_record d h.0 h.1
 regular_plain (lists_headers page) h = refl
 regular_plain (lists_records format page) h = plain_records format page page.items h.0 h.1

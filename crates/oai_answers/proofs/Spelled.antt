@@ -2,9 +2,12 @@
 use Rattle.std.proofs.Common.{◌≡◌, ◌∙◌, ℕ, Bool, true, not, List, ◌++◌, map, codes, refl, ap}
 use Rattle.std.specs.List.{flat_map, list_all}
 use Rattle.std.proofs.lemmas.List.{append_assoc}
-use Rattle.oai_names.proofs.Cuts.{Cuts, Next, any, anything, at, begins, begins_own, behind, closed, each, without}
+use Rattle.oai_names.proofs.Cuts.{Cuts, Next, any, anything, at, begins, begins_own, behind, closed, each, seen_as, without}
 use Rattle.oai_names.proofs.EscapeCuts.{text_cut}
-use Rattle.oai_answers.specs.Markup.{attribute_start, element, end_tag, plain, spelled_attribute, start_tag, text_element}
+use Rattle.oai_xml.specs.Documents.{is_canonical}
+use Rattle.oai_xml.proofs.CanonicalLemmas.{element_tested, elements_cut as elements_end}
+use Rattle.oai_answers.specs.MetadataTrees.{element_tree}
+use Rattle.oai_answers.specs.Markup.{attribute_start, container, element, end_tag, plain, spelled_attribute, start_tag, text_element}
 
 -- ---- elements and attributes
 
@@ -47,3 +50,21 @@ elements_cut name content write is c =
       near_more = λ a rest _. refl;
       near_end = λ rest _. refl;
     })
+
+-- ---- containers of elements
+
+-- an element in canonical text shows where it ends
+element_text_cut : Cuts anything is_canonical plain (λ text. text)
+unfolding plain
+element_text_cut = record {
+  cut = λ a b rest more ga gb na nb same. elements_end a b rest more (element_tested a ga) (element_tested b gb) same;
+}
+
+pub container_cut : (name : List ℕ) → Cuts anything is_canonical (container name) element_tree
+unfolding container
+container_cut name = seen_as element_tree (element_cut name element_text_cut (λ rest. refl))
+
+-- those of a name, up to what is none of them
+pub containers_cut : (name : List ℕ) → Cuts (without (start_tag name)) (list_all is_canonical) (flat_map (container name)) (map element_tree)
+unfolding container
+containers_cut name = elements_cut name plain (container name) (λ text. refl) (container_cut name)

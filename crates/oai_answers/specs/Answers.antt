@@ -1,8 +1,9 @@
 -- What a document answers, as plain data. OAI-PMH 2.0, sections 2.5, 3.2, 3.5, 3.6 and 4.
-use Rattle.std.specs.Prelude.{ℕ, ℤ, Bool, true, List, Option, None, Some}
+use Rattle.std.specs.Prelude.{ℕ, ℤ, Bool, true, map, List, Option, None, Some}
 use Rattle.std.specs.List.{filter}
 use Rattle.oai_time.specs.Stamp.{IsWritable}
 use Rattle.oai_time.specs.declared.granularity.Granularity.{Granularity}
+use Rattle.oai_xml.specs.Named.{NamedList, elements_named}
 use Rattle.oai_item.specs.declared.formats.Format.{Format}
 use Rattle.oai_item.specs.Item.{ItemState, has_record}
 use Rattle.oai_answers.specs.declared.errors.ErrorCode.{ErrorCode}
@@ -34,13 +35,28 @@ no_arguments = record {
 }
 
 -- what Identify returns of a repository besides its base URL: its name, the addresses of its administrators, the
--- earliestDatestamp in seconds from 1970 on, its policy on deleted records, and its granularity (section 4.2)
+-- earliestDatestamp in seconds from 1970 on, its policy on deleted records, its granularity, and the elements in its containers
+-- `description`, in canonical text (section 4.2)
 pub record Description : Type 0 where
   pub name : List ℕ
   pub addresses : List (List ℕ)
   pub earliest : ℤ
   pub deleted : DeletedRecord
   pub granularity : Granularity
+  pub descriptions : List (List ℕ)
+
+-- a set: its setSpec, its setName, and the elements in its containers `setDescription`, in canonical text (section 4.6)
+pub record DescribedSet : Type 0 where
+  pub spec : List ℕ
+  pub name : List ℕ
+  pub descriptions : List (List ℕ)
+
+-- sets, with what describes them: of lists under setSpecs the one of each
+abbrev pub described_set : List NamedList → List ℕ × List ℕ → DescribedSet
+described_set lists set = record { spec = set.0; name = set.1; descriptions = elements_named lists set.0 }
+
+abbrev pub described_sets : List NamedList → List (List ℕ × List ℕ) → List DescribedSet
+described_sets lists sets = map (described_set lists) sets
 
 -- an item in a format: its record there is written, with datestamps at that granularity (section 2.5)
 pub record Dissemination : Type 0 where
@@ -68,7 +84,7 @@ pub data VerbAnswer : Type 0 where
   fails : ErrorCode → VerbAnswer
   identifies : Description → VerbAnswer
   lists_formats : List Format → VerbAnswer
-  lists_sets : List (List ℕ × List ℕ) → VerbAnswer
+  lists_sets : List DescribedSet → VerbAnswer
   gives_record : Dissemination → VerbAnswer
   lists_headers : Page → VerbAnswer
   lists_records : Format → Page → VerbAnswer

@@ -1,6 +1,6 @@
 -- The plain data that a `Doc` and its parts borrow.
 use Rattle.std.specs.Option.{option_copied}
-use Rattle.oai_answers.specs.Answers.{Attributes, Description, Dissemination, Continuation, whole, remains, completes, Page, VerbAnswer, fails, identifies, lists_formats, lists_sets, gives_record, lists_headers, lists_records, Document, offered}
+use Rattle.oai_answers.specs.Answers.{Attributes, Description, Dissemination, Continuation, whole, remains, completes, Page, VerbAnswer, fails, identifies, lists_formats, lists_sets, gives_record, lists_headers, lists_records, Document, described_sets, offered}
 use Rattle.oai_answers.specs.declared.documents.Body.{Body}
 use Rattle.oai_answers.specs.declared.documents.Body.TheVariants.{Error, Identify, ListMetadataFormats, ListSets, GetRecord, ListIdentifiers, ListRecords}
 use Rattle.oai_answers.specs.declared.documents.Doc.{Doc}
@@ -29,6 +29,7 @@ description_of i = record {
   earliest = i.earliest;
   deleted = i.deleted;
   granularity = i.granularity;
+  descriptions = i.descriptions.now;
 }
 
 abbrev pub dissemination_of : Record → Dissemination
@@ -55,7 +56,7 @@ body_answer (Error code) = fails code
 body_answer (Identify identity) = identifies (description_of identity)
 body_answer (ListMetadataFormats list) =
     lists_formats (offered list.formats.now (option_copied list.of))
-body_answer (ListSets sets) = lists_sets sets.now
+body_answer (ListSets listed) = lists_sets (described_sets listed.described.now listed.sets.now)
 body_answer (GetRecord r) = gives_record (dissemination_of r)
 body_answer (ListIdentifiers list) = lists_headers (page_of list)
 body_answer (ListRecords format list) = lists_records format.now (page_of list)

@@ -12,9 +12,9 @@ use Rattle.oai_time.specs.declared.granularity.Granularity.TheVariants.{Day, Sec
 use Rattle.oai_item.specs.Elements.{element_in}
 use Rattle.oai_item.specs.declared.fields.Field.{Field}
 use Rattle.oai_item.specs.declared.formats.Format.{Format}
-use Rattle.oai_answers.specs.Answers.{Attributes, arguments_told, Description, Dissemination, Continuation, whole, remains, completes, Page, VerbAnswer, fails, identifies, lists_formats, lists_sets, gives_record, lists_headers, lists_records, Document}
+use Rattle.oai_answers.specs.Answers.{Attributes, arguments_told, DescribedSet, Description, Dissemination, Continuation, whole, remains, completes, Page, VerbAnswer, fails, identifies, lists_formats, lists_sets, gives_record, lists_headers, lists_records, Document}
 use Rattle.oai_item.specs.Item.{ItemState, fields_in}
-use Rattle.oai_answers.specs.Markup.{plain, end_tag, element, text_element, spelled_attribute, attribute}
+use Rattle.oai_answers.specs.Markup.{container, plain, end_tag, element, text_element, spelled_attribute, attribute}
 use Rattle.oai_answers.specs.declared.errors.ErrorCode.{ErrorCode}
 use Rattle.oai_answers.specs.declared.errors.ErrorCode.TheVariants.{BadVerb, BadArgument, BadResumptionToken, CannotDisseminateFormat, IdDoesNotExist, NoRecordsMatch, NoMetadataFormats, NoSetHierarchy}
 use Rattle.oai_item.specs.declared.deleted_record.DeletedRecord.{DeletedRecord}
@@ -99,7 +99,7 @@ abbrev pub granularity_text : Granularity → List ℕ
 granularity_text Day = codes "YYYY-MM-DD"
 granularity_text Second = codes "YYYY-MM-DDThh:mm:ssZ"
 
--- a repository, at its base URL
+-- a repository, at its base URL, with the containers that describe it
 unfoldable pub identify_element : List ℕ → Description → List ℕ
 identify_element base d = element (codes "Identify")
     (text_element (codes "repositoryName") d.name
@@ -108,7 +108,8 @@ identify_element base d = element (codes "Identify")
     ++ flat_map (text_element (codes "adminEmail")) d.addresses
     ++ element (codes "earliestDatestamp") (datestamp_text d.granularity d.earliest)
     ++ element (codes "deletedRecord") (plain (deleted_text d.deleted))
-    ++ element (codes "granularity") (plain (granularity_text d.granularity)))
+    ++ element (codes "granularity") (plain (granularity_text d.granularity))
+    ++ flat_map (container (codes "description")) d.descriptions)
 
 -- Metadata formats. Section 4.4
 
@@ -124,13 +125,15 @@ formats_element formats = element (codes "ListMetadataFormats") (flat_map format
 
 -- Sets. Section 4.6
 
--- a set, its setSpec and its setName
-unfoldable pub set_element : List ℕ × List ℕ → List ℕ
+-- a set, its setSpec, its setName and the containers that describe it
+unfoldable pub set_element : DescribedSet → List ℕ
 set_element set =
     element (codes "set")
-    (text_element (codes "setSpec") set.0 ++ text_element (codes "setName") set.1)
+    (text_element (codes "setSpec") set.spec
+    ++ text_element (codes "setName") set.name
+    ++ flat_map (container (codes "setDescription")) set.descriptions)
 
-unfoldable pub sets_element : List (List ℕ × List ℕ) → List ℕ
+unfoldable pub sets_element : List DescribedSet → List ℕ
 sets_element sets = element (codes "ListSets") (flat_map set_element sets)
 
 -- Metadata. Section 2.5

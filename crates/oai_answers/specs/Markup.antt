@@ -24,6 +24,11 @@ element name content = start_tag name ++ content ++ end_tag name
 unfoldable pub text_element : List ℕ → List ℕ → List ℕ
 text_element name text = element name (escaped_text text)
 
+-- an element with an element in it, which is written as it stands: its canonical text declares a default namespace, so no name in it changes
+-- its meaning here (Namespaces in XML 1.0, section 6.2)
+unfoldable pub container : List ℕ → List ℕ → List ℕ
+container name inner = element name (plain inner)
+
 -- an attribute up to its value: the space before it, its name, the equals sign and the quote
 unfoldable pub attribute_start : List ℕ → List ℕ
 attribute_start name = plain (codes " ") ++ plain name ++ plain (codes "=\"")

@@ -6,7 +6,7 @@ use Rattle.oai_item.specs.declared.fields.Field.{Field}
 use Rattle.oai_item.specs.declared.formats.Format.{Format}
 use Rattle.oai_xml.specs.Documents.{tree_in}
 use Rattle.oai_xml.specs.Trees.{Attribute, Tree}
-use Rattle.oai_answers.specs.ElementParts.{bare_leaf, element_attribute, parent}
+use Rattle.oai_answers.specs.ElementParts.{bare_leaf, bare_parent, element_attribute, parent}
 
 -- ---- fields
 
@@ -55,6 +55,10 @@ fields_tree format fields =
 abbrev pub tree_or : Tree → Option Tree → Tree
 tree_or fields None = fields
 tree_or fields (Some tree) = tree
+
+-- an element in a container: the tree of its text, which is canonical
+abbrev pub element_tree : List ℕ → Tree
+element_tree text = tree_or (bare_parent [] []) (tree_in text)
 
 -- the metadata of a record: the tree of the element that its fields keep, or that of its fields
 unfoldable pub metadata_tree : Format → List Field → Tree

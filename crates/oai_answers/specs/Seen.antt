@@ -11,9 +11,10 @@ use Rattle.oai_item.specs.Item.{ItemState, fields_in}
 use Rattle.oai_item.specs.Known.{are_fields_of}
 use Rattle.oai_item.specs.Rules.{is_allowed}
 use Rattle.oai_item.specs.declared.formats.Format.{Format}
-use Rattle.oai_answers.specs.Answers.{Attributes, Continuation, Description, Document, VerbAnswer, arguments_told, completes, fails, gives_record, identifies, lists_formats, lists_headers, lists_records, lists_sets, remains, whole}
-use Rattle.oai_answers.specs.MetadataTrees.{metadata_tree}
+use Rattle.oai_answers.specs.Answers.{Attributes, Continuation, DescribedSet, Description, Document, VerbAnswer, arguments_told, completes, fails, gives_record, identifies, lists_formats, lists_headers, lists_records, lists_sets, remains, whole}
+use Rattle.oai_answers.specs.MetadataTrees.{element_tree, metadata_tree}
 use Rattle.oai_answers.specs.declared.errors.ErrorCode.{ErrorCode}
+use Rattle.oai_xml.specs.Documents.{is_canonical}
 use Rattle.oai_xml.specs.Trees.{Tree}
 use Rattle.oai_item.specs.declared.deleted_record.DeletedRecord.{DeletedRecord}
 
@@ -39,7 +40,8 @@ pub data SeenToken : Type 0 where
   seen_token : List ℕ → List ℕ → List ℕ → List ℕ → SeenToken
   empty_token : List ℕ → List ℕ → SeenToken
 
--- of Identify (section 4.2): all that it returns, the earliest datestamp as it is printed
+-- of Identify (section 4.2): all that it returns, the earliest datestamp as it is printed, and the trees of the elements that describe the
+-- repository
 pub record SeenIdentity : Type 0 where
   pub name : List ℕ
   pub base : List ℕ
@@ -47,6 +49,7 @@ pub record SeenIdentity : Type 0 where
   pub earliest : List ℕ
   pub deleted : DeletedRecord
   pub granularity : Granularity
+  pub descriptions : List Tree
 
 -- of a format in ListMetadataFormats (section 4.4)
 pub record SeenOffer : Type 0 where
@@ -54,12 +57,18 @@ pub record SeenOffer : Type 0 where
   pub schema : List ℕ
   pub namespace : List ℕ
 
+-- of a set (section 4.6): its setSpec, its setName, and the trees of the elements that describe it
+pub record SeenSet : Type 0 where
+  pub spec : List ℕ
+  pub name : List ℕ
+  pub descriptions : List Tree
+
 -- of an answer
 pub data SeenAnswer : Type 0 where
   seen_error : ErrorCode → SeenAnswer
   seen_identity : SeenIdentity → SeenAnswer
   seen_formats : List SeenOffer → SeenAnswer
-  seen_sets : List (List ℕ × List ℕ) → SeenAnswer
+  seen_sets : List SeenSet → SeenAnswer
   seen_record : SeenRecord → SeenAnswer
   seen_headers : List SeenHeader → SeenToken → SeenAnswer
   seen_records : List SeenRecord → SeenToken → SeenAnswer
@@ -105,16 +114,20 @@ identity_seen base d = record {
   earliest = datestamp_text d.granularity d.earliest;
   deleted = d.deleted;
   granularity = d.granularity;
+  descriptions = map element_tree d.descriptions;
 }
 
 abbrev pub offer_seen : Format → SeenOffer
 offer_seen format = record { prefix = format.prefix; schema = format.schema; namespace = format.namespace }
 
+abbrev pub set_seen : DescribedSet → SeenSet
+set_seen set = record { spec = set.spec; name = set.name; descriptions = map element_tree set.descriptions }
+
 abbrev pub answer_seen : List ℕ → VerbAnswer → SeenAnswer
 answer_seen base (fails code) = seen_error code
 answer_seen base (identifies d) = seen_identity (identity_seen base d)
 answer_seen base (lists_formats formats) = seen_formats (map offer_seen formats)
-answer_seen base (lists_sets sets) = seen_sets sets
+answer_seen base (lists_sets sets) = seen_sets (map set_seen sets)
 answer_seen base (gives_record d) = seen_record (record_seen d.granularity d.format d.item)
 answer_seen base (lists_headers page) = seen_headers (map (header_seen page.granularity) page.items) (token_seen page.continuation)
 answer_seen base (lists_records format page) = seen_records (map (record_seen page.granularity format) page.items) (token_seen page.continuation)
@@ -137,12 +150,16 @@ IsGoodFormat format = (format ≡ dublin_core) ⊎ (is_allowed format ≡ true)
 abbrev pub has_own_fields : Format → ItemState → Bool
 has_own_fields format item = are_fields_of (Some format) (fields_in format.prefix item.formats)
 
--- the records of an answer are in such formats, with such fields
+-- what describes a set are elements in canonical text
+abbrev pub has_elements : DescribedSet → Bool
+has_elements set = list_all is_canonical set.descriptions
+
+-- the records of an answer are in such formats, with such fields, and what describes a repository or a set are elements in canonical text
 abbrev pub IsRegular : VerbAnswer → Type 0
 IsRegular (fails code) = Unit {0}
-IsRegular (identifies d) = Unit {0}
+IsRegular (identifies d) = list_all is_canonical d.descriptions ≡ true
 IsRegular (lists_formats formats) = Unit {0}
-IsRegular (lists_sets sets) = Unit {0}
+IsRegular (lists_sets sets) = list_all has_elements sets ≡ true
 IsRegular (gives_record d) = IsGoodFormat d.format × (has_own_fields d.format d.item ≡ true)
 IsRegular (lists_headers page) = Unit {0}
 IsRegular (lists_records format page) = IsGoodFormat format × (list_all (has_own_fields format) page.items ≡ true)

@@ -14,9 +14,8 @@ use crate::markup::put;
 use crate::records::{Record, write_get_record};
 use crate::request::{RequestAttributes, write_request};
 use crate::rooms::room_of;
-use crate::sets::write_list_sets;
+use crate::sets::{DescribedSets, write_list_sets};
 use oai_item::Format;
-use oai_names::{SetSpec, Text};
 use std::alloc::{AllocError, Global};
 
 /// What a document answers: an error, or what the verb asks for.
@@ -28,8 +27,8 @@ pub enum Body<'a> {
     Identify(Identity<'a>),
     /// The metadata formats of the repository, or of an item (OAI-PMH 2.0, section 4.4).
     ListMetadataFormats(Offered<'a>),
-    /// The sets of the repository, each with its setSpec and its name (OAI-PMH 2.0, section 4.6).
-    ListSets(&'a [(SetSpec, Text)]),
+    /// The sets of the repository, each with its setSpec, its name and what describes it (OAI-PMH 2.0, section 4.6).
+    ListSets(DescribedSets<'a>),
     /// One record (OAI-PMH 2.0, section 4.1).
     GetRecord(Record<'a>),
     /// The headers of a list of items (OAI-PMH 2.0, section 4.3).
@@ -96,7 +95,7 @@ fn write_body(base: &str, body: &Body<'_>, out: &mut Vec<u8>) -> Result<(), Allo
         Body::Error(code) => write_error(*code, out),
         Body::Identify(identity) => write_identify(base, identity, out),
         Body::ListMetadataFormats(offered) => write_list_metadata_formats(offered, out),
-        Body::ListSets(sets) => write_list_sets(sets, out),
+        Body::ListSets(listed) => write_list_sets(listed, out),
         Body::GetRecord(record) => write_get_record(record, out),
         Body::ListIdentifiers(list) => write_list_identifiers(list, out),
         Body::ListRecords(format, list) => write_list_records(format, list, out),

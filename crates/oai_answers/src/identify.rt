@@ -8,7 +8,7 @@ ghost use Rattle.oai_answers.specs.Documents.{deleted_text, granularity_text, id
 ghost use Rattle.oai_answers.specs.Markup.{element, plain, text_element};
 
 use crate::dates::datestamp_element;
-use crate::markup::{end, plain_element, start, text_element, text_elements};
+use crate::markup::{containers, end, plain_element, start, text_element, text_elements};
 use oai_item::DeletedRecord;
 use oai_names::Text;
 use oai_time::Granularity;
@@ -27,6 +27,8 @@ pub struct Identity<'a> {
     pub deleted: DeletedRecord,
     /// The granularity of the datestamps.
     pub granularity: Granularity,
+    /// The elements that describe the repository, in canonical text.
+    pub descriptions: &'a [Text],
 }
 
 /// Appends the element `Identify`.
@@ -42,6 +44,7 @@ pub(crate) fn write_identify(
     start("Identify", out)?;
     write_names(base, identity, out)?;
     write_rules(identity, out)?;
+    containers("description", identity.descriptions, out)?;
     end("Identify", out)?;
     Ok(())
 }

@@ -29,4 +29,5 @@ pub use lists::Listed;
 pub use oai_item::DeletedRecord;
 pub use records::Record;
 pub use request::RequestAttributes;
+pub use sets::DescribedSets;
 pub use tokens::{Extent, Remaining, Resumption};

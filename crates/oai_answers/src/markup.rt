@@ -2,7 +2,7 @@ ghost use Rattle.std.specs.Prelude.{OnOk, codes};
 ghost use Rattle.std.specs.List.{flat_map};
 ghost use Rattle.oai_names.specs.Escapes.{escaped_attribute, escaped_text};
 ghost use Rattle.oai_answers.specs.Appends.{Appends};
-ghost use Rattle.oai_answers.specs.Markup.{attribute, attribute_start, element, end_tag, plain, spelled_attribute, start_tag, text_element};
+ghost use Rattle.oai_answers.specs.Markup.{attribute, attribute_start, container, element, end_tag, plain, spelled_attribute, start_tag, text_element};
 
 use crate::tags::{Tag, tagged_text};
 use oai_names::{SetSpec, Text, escape_attr, escape_text};
@@ -82,6 +82,25 @@ pub(crate) fn text_elements(name: &str, texts: &[Text], out: &mut Vec<u8>) -> Re
         text_element(name, text.as_str(), out)?;
     }
     Ok(())
+}
+
+/// Appends an element with that name around each element, which is written as it stands.
+pub(crate) fn containers(name: &str, elements: &[Text], out: &mut Vec<u8>) -> Result<(), AllocError>
+    ensures { OnOk result (Appends out.old.items out.new.items
+        (flat_map (container name.now) elements.now)) }
+{
+    for element in elements {
+        contain(name, element.as_str(), out)?;
+    }
+    Ok(())
+}
+
+/// Appends an element with that name around an element.
+#[tactic(auto, unfolding(crate::specs::Markup::container))]
+fn contain(name: &str, element: &str, out: &mut Vec<u8>) -> Result<(), AllocError>
+    ensures { OnOk result (Appends out.old.items out.new.items (container name.now element.now)) }
+{
+    plain_element(name, element, out)
 }
 
 /// Appends the element `setSpec` for each setSpec.

@@ -15,6 +15,7 @@ use Rattle.oai_time.specs.declared.granularity.Granularity.{Granularity}
 use Rattle.oai_names.specs.Optional.{◌>>=◌, each_of, tested}
 use Rattle.oai_json.specs.Json.{elements_at, elements_of, has_members, json_in, number_at, text_at}
 use Rattle.oai_json.proofs.ReadingLemmas.{Some-injective, bind-Some}
+use Rattle.oai_xml.specs.Named.{NamedList}
 use Rattle.oai_settings.specs.Config.{RepositoryConfig}
 use Rattle.oai_settings.specs.Settings.{Configures, earliest_of}
 use Rattle.oai_settings.specs.declared.settings.Settings.{Settings}
@@ -25,8 +26,8 @@ use Rattle.oai_archive.specs.Firsts.{AreSame, IsOf, IsSameConfig, versioned_body
 
 -- ---- a configuration is determined by its settings
 
-made : List ℕ → List ℕ → List (List ℕ) → ℤ → DeletedRecord → Granularity → ℕ → ℕ → ℕ → ℕ → List Format → Forms → RepositoryConfig
-made base name addresses earliest deleted granularity chunk lifetime lists items formats forms = record {
+made : List ℕ → List ℕ → List (List ℕ) → ℤ → DeletedRecord → Granularity → ℕ → ℕ → ℕ → ℕ → List Format → Forms → List (List ℕ) → List NamedList → RepositoryConfig
+made base name addresses earliest deleted granularity chunk lifetime lists items formats forms descriptions set_descriptions = record {
   base = base;
   repository_name = name;
   addresses = addresses;
@@ -39,13 +40,15 @@ made base name addresses earliest deleted granularity chunk lifetime lists items
   items = items;
   formats = formats;
   forms = forms;
+  descriptions = descriptions;
+  set_descriptions = set_descriptions;
 }
 
-same_made : (b b' n n' : List ℕ) (a a' : List (List ℕ)) (e e' : ℤ) (d d' : DeletedRecord) (g g' : Granularity) (c c' t t' l l' i i' : ℕ) (f f' : List Format) (h h' : Forms)
-    → b ≡ b' → n ≡ n' → a ≡ a' → e ≡ e' → d ≡ d' → g ≡ g' → c ≡ c' → t ≡ t' → l ≡ l' → i ≡ i' → f ≡ f' → h ≡ h'
-    → made b n a e d g c t l i f h ≡ made b' n' a' e' d' g' c' t' l' i' f' h'
-same_made b b' n n' a a' e e' d d' g g' c c' t t' l l' i i' f f' h h' p1 p2 p3 p4 p5 p6 p7 p8 p9 p10 p11 p12 =
-    rw (p1, p2, p3, p4, p5, p6, p7, p8, p9, p10, p11, p12) refl
+same_made : (b b' n n' : List ℕ) (a a' : List (List ℕ)) (e e' : ℤ) (d d' : DeletedRecord) (g g' : Granularity) (c c' t t' l l' i i' : ℕ) (f f' : List Format) (h h' : Forms) (x x' : List (List ℕ)) (y y' : List NamedList)
+    → b ≡ b' → n ≡ n' → a ≡ a' → e ≡ e' → d ≡ d' → g ≡ g' → c ≡ c' → t ≡ t' → l ≡ l' → i ≡ i' → f ≡ f' → h ≡ h' → x ≡ x' → y ≡ y'
+    → made b n a e d g c t l i f h x y ≡ made b' n' a' e' d' g' c' t' l' i' f' h' x' y'
+same_made b b' n n' a a' e e' d d' g g' c c' t t' l l' i i' f f' h h' x x' y y' p1 p2 p3 p4 p5 p6 p7 p8 p9 p10 p11 p12 p13 p14 =
+    rw (p1, p2, p3, p4, p5, p6, p7, p8, p9, p10, p11, p12, p13, p14) refl
 
 -- what two values are, where one thing is some of both
 both_some : {A : Type 0} (o : Option A) (x y : A) → o ≡ Some x → o ≡ Some y → x ≡ y
@@ -55,10 +58,10 @@ one_config : (s : Settings) (c d : RepositoryConfig) → Configures s c → Conf
 unfolding made
 one_config s c d p q =
     same_made c.base d.base c.repository_name d.repository_name c.addresses d.addresses c.earliest d.earliest c.deleted d.deleted c.granularity d.granularity
-    c.chunk d.chunk c.lifetime d.lifetime c.lists d.lists c.items d.items c.formats d.formats c.forms d.forms
+    c.chunk d.chunk c.lifetime d.lifetime c.lists d.lists c.items d.items c.formats d.formats c.forms d.forms c.descriptions d.descriptions c.set_descriptions d.set_descriptions
     (p.base ∙ sym q.base) (p.repository_name ∙ sym q.repository_name) (p.addresses ∙ sym q.addresses) (both_some _ _ _ p.earliest q.earliest)
     (p.deleted ∙ sym q.deleted) (p.granularity ∙ sym q.granularity) (both_some _ _ _ p.chunk q.chunk) (both_some _ _ _ p.lifetime q.lifetime)
-    (both_some _ _ _ p.lists q.lists) (both_some _ _ _ p.items q.items) (p.formats ∙ sym q.formats) (p.forms ∙ sym q.forms)
+    (both_some _ _ _ p.lists q.lists) (both_some _ _ _ p.items q.items) (p.formats ∙ sym q.formats) (p.forms ∙ sym q.forms) (p.descriptions ∙ sym q.descriptions) (p.set_descriptions ∙ sym q.set_descriptions)
 
 named : List ℕ → RepositoryConfig → NamedConfig
 named name config = record { name = name; config = config }

@@ -1,3 +1,4 @@
+pub mod SetLemmas
 pub mod SettingsLemmas
 pub mod CauseLemmas
 pub mod NamedLemmas

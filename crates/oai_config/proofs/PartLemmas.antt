@@ -1,4 +1,4 @@
--- What is read in parts: what is made of three parts, and a part that is refused.
+-- What is read in parts: what is made of three parts, or of four, and a part that is refused.
 use Rattle.std.proofs.Common.{◌≡◌, Option, Some, None, Err, refl}
 use Rattle.oai_names.specs.Optional.{◌>>=◌}
 use Rattle.oai_config.specs.declared.faults.ReadFault.{ReadFault}
@@ -20,14 +20,40 @@ pub second_missing : {A B C D : Type 0} (make : A → B → C → D) (a : Option
 second_missing make None c b is = refl
 second_missing make (Some x) c b is = rw is refl
 
-pub third_missing : {A B C D : Type 0} (make : A → B → C → D) (a : Option A) (b : Option B) (c : Option C) → c ≡ None → of_three make a b c ≡ None
-third_missing make None b c is = refl
-third_missing make (Some x) None c is = refl
-third_missing make (Some x) (Some y) c is = rw is refl
-
 pub none_missing : {A B C D : Type 0} (make : A → B → C → D) (a : Option A) (b : Option B) (c : Option C) (x : A) (y : B) (z : C)
     → a ≡ Some x → b ≡ Some y → c ≡ Some z → of_three make a b c ≡ Some (make x y z)
 none_missing make a b c x y z first second third = rw (first, second, third) refl
+
+-- made of four parts, none of which is missing
+abbrev pub of_four : {A B C D E : Type 0} → (A → B → C → D → E) → Option A → Option B → Option C → Option D → Option E
+of_four make a b c d = do
+  x ← a
+  y ← b
+  z ← c
+  w ← d
+  Some (make x y z w)
+
+pub first_left_out : {A B C D E : Type 0} (make : A → B → C → D → E) (b : Option B) (c : Option C) (d : Option D) (a : Option A) → a ≡ None → of_four make a b c d ≡ None
+first_left_out make b c d a is = rw is refl
+
+pub second_left_out : {A B C D E : Type 0} (make : A → B → C → D → E) (a : Option A) (c : Option C) (d : Option D) (b : Option B) → b ≡ None → of_four make a b c d ≡ None
+second_left_out make None c d b is = refl
+second_left_out make (Some x) c d b is = rw is refl
+
+pub third_left_out : {A B C D E : Type 0} (make : A → B → C → D → E) (a : Option A) (b : Option B) (d : Option D) (c : Option C) → c ≡ None → of_four make a b c d ≡ None
+third_left_out make None b d c is = refl
+third_left_out make (Some x) None d c is = refl
+third_left_out make (Some x) (Some y) d c is = rw is refl
+
+pub fourth_left_out : {A B C D E : Type 0} (make : A → B → C → D → E) (a : Option A) (b : Option B) (c : Option C) (d : Option D) → d ≡ None → of_four make a b c d ≡ None
+fourth_left_out make None b c d is = refl
+fourth_left_out make (Some x) None c d is = refl
+fourth_left_out make (Some x) (Some y) None d is = refl
+fourth_left_out make (Some x) (Some y) (Some z) d is = rw is refl
+
+pub none_left_out : {A B C D E : Type 0} (make : A → B → C → D → E) (a : Option A) (b : Option B) (c : Option C) (d : Option D) (x : A) (y : B) (z : C) (w : D)
+    → a ≡ Some x → b ≡ Some y → c ≡ Some z → d ≡ Some w → of_four make a b c d ≡ Some (make x y z w)
+none_left_out make a b c d x y z w first second third fourth = rw (first, second, third, fourth) refl
 
 -- a part was refused, and with it the whole
 pub refused_read : {A B : Type 0} (fault : ReadFault) (part : Option A) (whole : Option B) → (part ≡ None → whole ≡ None)

@@ -1,21 +1,26 @@
 -- What a value tells is what it is written as: the law of the shape.
-use Rattle.std.proofs.Common.{◌≡◌, ℕ, Bool, eqb, true, false, cond, Option, Some, None, List, [], ◌∷◌, codes, refl, sym, ap, subst, is_some, ◌∙◌}
+use Rattle.std.proofs.Common.{◌≡◌, ◌+◌, inl, inr, Result, Ok, Err, length, ℕ, Bool, eqb, true, false, cond, Option, Some, None, List, [], ◌∷◌, codes, refl, sym, ap, subst, is_some, map, ◌∙◌}
 use Rattle.std.proofs.lemmas.Bool.{and_from}
 use Rattle.std.proofs.lemmas.Bool.Decides.{Decides-eqb}
-use Rattle.serde_json.specs.Data.{Data, number, string}
-use Rattle.serde_json.specs.Find.{get}
+use Rattle.serde_json.specs.Data.{Data, array, boolean, null, number, object, string}
+use Rattle.serde_json.specs.Find.{as_str, get}
+use Rattle.std.specs.List.{AllZip}
+use Rattle.std.specs.Result.{result_ok}
+use Rattle.oai_xml.specs.Documents.{canonical, canonical_in}
 use Rattle.oai_item.specs.ShortTexts.{is_short_text}
 use Rattle.oai_item.specs.declared.forms.Forms.{Forms}
 use Rattle.oai_item.specs.declared.forms.Forms.TheVariants.{Fields, Elements}
-use Rattle.oai_json.specs.Json.{has_members, number_at, size, text_at, texts_at}
+use Rattle.oai_json.specs.Json.{array_of, elements_of, members_in, has_members, has_members_and, names_there, number_at, size, text_at, texts_at}
 use Rattle.oai_settings.specs.declared.settings.FormatSettings.{FormatSettings}
 use Rattle.oai_settings.specs.declared.settings.Settings.{Settings}
 use Rattle.oai_config.specs.declared.host_settings.HostSettings.{HostSettings}
-use Rattle.oai_names.specs.Optional.{◌>>=◌, tested}
-use Rattle.oai_config.specs.Shapes.{format_members, element_members, format_in, fields_at, fields_told, deleted_at, granularity_at, formats_at, repository_members, settings_of, base_at, repositories_at, host_members, told_of, format_from, settings_from, told_from}
-use Rattle.oai_config.specs.Written.{HasText, HasTexts, HasNumber, HasList, HasFields, IsFormat, IsRepository, IsHost, ConfigShapeLaw}
-use Rattle.oai_json.proofs.MemberLemmas.{of_size, of_another_size}
+use Rattle.oai_names.specs.Optional.{◌>>=◌, each_of, tested}
+use Rattle.oai_config.specs.Shapes.{canonical_of, set_description_of, set_descriptions_at, set_descriptions_of, format_members, element_members, format_in, fields_at, fields_told, deleted_at, granularity_at, canonical_at, descriptions_at, formats_at, further_members, is_repository, repository_members, settings_of, base_at, repositories_at, host_members, told_of, format_from, settings_from, told_from}
+use Rattle.oai_config.specs.Written.{HasText, HasTexts, HasNumber, HasList, HasFields, HasElements, HasDescriptions, IsElementList, HasSetDescriptions, IsFormat, IsRepository, IsHost, ConfigShapeLaw}
+use Rattle.oai_json.proofs.MemberLemmas.{of_size, of_size_and, of_another_size}
 use Rattle.oai_json.proofs.MemberLemmas.{number_again, number_takes, text_again, text_takes, texts_are, texts_take}
+use Rattle.oai_json.proofs.ReaderLemmas.{list, texts}
+use Rattle.oai_xml.specs.Named.{NamedList}
 use Rattle.oai_json.proofs.ReadingLemmas.{Some-injective, bind-Some}
 use Rattle.oai_config.proofs.MemberLemmas.{IsUndone, list_again, list_takes}
 use Rattle.oai_config.proofs.WordLemmas.{deleted_again, deleted_takes, granularity_again, granularity_takes}
@@ -186,8 +191,114 @@ formats_again : (forms : Forms) (d : Data) (fs : List FormatSettings) → HasLis
 unfolding formats_at
 formats_again forms d fs is = list_again (format_in forms) (IsFormat forms) (one_format forms) (codes "formats") d fs is
 
-repository_parts : (forms : Forms) (base : List ℕ) (d : Data) (s : Settings) → size d ≡ 11 → settings_from forms base d ≡ Some s → IsRepository forms base s d
-repository_parts forms base d s eleven is =
+-- elements that are read of texts are theirs
+each_element : (texts elements : List (List ℕ)) → each_of canonical_in texts ≡ Some elements → AllZip (λ text element. canonical text ≡ Ok element) texts elements
+each_element [] [] is = tt
+each_element [] (e ∷ elements) is = absurd cc
+each_element (text ∷ others) elements is =
+    let p = bind-Some (canonical_in text) (λ y. each_of canonical_in others >>= λ ys. Some (y ∷ ys)) elements is in
+    let q = bind-Some (each_of canonical_in others) (λ ys. Some (p.0 ∷ ys)) elements p.2 in
+    subst (λ zs. AllZip (λ text element. canonical text ≡ Ok element) (text ∷ others) zs) (Some-injective (p.0 ∷ q.0) elements q.2) (ok_is (canonical text) p.0 p.1, each_element others q.0 q.1)
+  where
+    ok_is : (r : Result (List ℕ) ℕ) (e : List ℕ) → result_ok r ≡ Some e → r ≡ Ok e
+    ok_is (Ok x) e is = ap (λ (e : List ℕ). Ok e) (Some-injective x e is)
+    ok_is (Err offset) e is = absurd cc
+
+elements_again : (texts elements : List (List ℕ)) → AllZip (λ text element. canonical text ≡ Ok element) texts elements → each_of canonical_in texts ≡ Some elements
+elements_again [] [] are = refl
+elements_again [] (e ∷ elements) are = absurd are
+elements_again (text ∷ others) [] are = absurd are
+elements_again (text ∷ others) (e ∷ elements) are =
+    ap (λ r. r >>= λ y. each_of canonical_in others >>= λ ys. Some (y ∷ ys)) (ap result_ok are.0) ∙ ap (λ r. r >>= λ ys. Some (e ∷ ys)) (elements_again others elements are.1)
+
+canonical_takes : (name : List ℕ) (d : Data) (es : List (List ℕ)) → canonical_at name d ≡ Some es → HasElements name es d
+unfolding canonical_at
+canonical_takes name d es is =
+    let p = bind-Some (texts_at name d) (each_of canonical_in) es is in
+    (p.0, texts_take name d p.0 p.1, each_element p.0 es p.2)
+
+canonical_again : (name : List ℕ) (d : Data) (es : List (List ℕ)) → HasElements name es d → canonical_at name d ≡ Some es
+unfolding canonical_at
+canonical_again name d es is = ap (λ o. o >>= each_of canonical_in) (texts_are name d is.0 is.1) ∙ elements_again is.0 es is.2
+
+-- the member `description`, which may be missing
+descriptions_take : (forms : Forms) (d : Data) (es : List (List ℕ)) → descriptions_at forms d ≡ Some es → HasDescriptions forms es d
+unfolding descriptions_at
+descriptions_take Fields d es is = sym (Some-injective [] es is)
+descriptions_take Elements d es is = by_member (get (codes "description") d) refl is
+  where
+    by_member : (o : Option Data) → get (codes "description") d ≡ o → cond (is_some o) (canonical_at (codes "description") d) (Some []) ≡ Some es → HasDescriptions Elements es d
+    by_member None none same = inl (sym (Some-injective [] es same), none)
+    by_member (Some m) some same = inr (canonical_takes (codes "description") d es same)
+
+descriptions_again : (forms : Forms) (d : Data) (es : List (List ℕ)) → HasDescriptions forms es d → descriptions_at forms d ≡ Some es
+unfolding descriptions_at
+descriptions_again Fields d es is = ap (λ (es : List (List ℕ)). Some es) (sym is)
+descriptions_again Elements d es (inl is) = rw is.1 (ap (λ (es : List (List ℕ)). Some es) (sym is.0))
+descriptions_again Elements d es (inr is) = rw is.1 (canonical_again (codes "description") d es is)
+
+-- a list of the texts of elements, as a value
+list_takes_elements : (d : Data) (es : List (List ℕ)) → canonical_of d ≡ Some es → IsElementList es d
+unfolding canonical_of
+list_takes_elements d es is =
+    let p = bind-Some (elements_of d >>= each_of as_str) (each_of canonical_in) es is in
+    let q = bind-Some (elements_of d) (each_of as_str) p.0 p.1 in
+    (p.0, list.takes d q.0 q.1 ∙ ap array_of (texts.takes q.0 p.0 q.2), each_element p.0 es p.2)
+
+list_again_elements : (d : Data) (es : List (List ℕ)) → IsElementList es d → canonical_of d ≡ Some es
+unfolding canonical_of
+list_again_elements d es is =
+    ap (λ d. elements_of d >>= each_of as_str >>= each_of canonical_in) is.1
+    ∙ ap (λ o. o >>= each_of as_str >>= each_of canonical_in) (list.again (map string is.0))
+    ∙ ap (λ o. o >>= each_of canonical_in) (texts.again is.0) ∙ elements_again is.0 es is.2
+
+IsDescribed : NamedList → List ℕ × Data → Type 0
+IsDescribed list m = (list.0 ≡ m.0) × IsElementList list.1 m.1
+
+members_take : (ms : List (List ℕ × Data)) (lists : List NamedList) → each_of set_description_of ms ≡ Some lists → AllZip IsDescribed lists ms
+unfolding set_description_of IsDescribed
+members_take [] [] is = tt
+members_take [] (list ∷ lists) is = absurd cc
+members_take (m ∷ ms) lists is =
+    let p = bind-Some (set_description_of m) (λ y. each_of set_description_of ms >>= λ ys. Some (y ∷ ys)) lists is in
+    let q = bind-Some (each_of set_description_of ms) (λ ys. Some (p.0 ∷ ys)) lists p.2 in
+    let e = bind-Some (canonical_of m.1) (λ elements. Some (m.0, elements)) p.0 p.1 in
+    let same = Some-injective (m.0, e.0) p.0 e.2 in
+    subst (λ zs. AllZip IsDescribed zs (m ∷ ms)) (Some-injective (p.0 ∷ q.0) lists q.2)
+    (subst (λ (list : NamedList). IsDescribed list m) same (refl, list_takes_elements m.1 e.0 e.1), members_take ms q.0 q.1)
+
+members_again : (ms : List (List ℕ × Data)) (lists : List NamedList) → AllZip IsDescribed lists ms → each_of set_description_of ms ≡ Some lists
+unfolding set_description_of IsDescribed
+members_again [] [] are = refl
+members_again [] (list ∷ lists) are = absurd are
+members_again (m ∷ ms) [] are = absurd are
+members_again (m ∷ ms) (list ∷ lists) are =
+    rw (list_again_elements m.1 list.1 are.0.1, members_again ms lists are.1, ← are.0.0) refl
+
+members_are : (d : Data) (lists : List NamedList) (o : Option Data) → get (codes "sets") d ≡ o → cond (is_some o) (o >>= set_descriptions_of) (Some []) ≡ Some lists
+    → HasSetDescriptions Elements lists d
+unfolding set_descriptions_of IsDescribed
+members_are d lists None none same = inl (sym (Some-injective [] lists same), none)
+members_are d lists (Some (object ms)) some same = inr (ms, some, members_take (members_in ms) lists same)
+members_are d lists (Some null) some same = absurd cc
+members_are d lists (Some (boolean b)) some same = absurd cc
+members_are d lists (Some (number n)) some same = absurd cc
+members_are d lists (Some (string t)) some same = absurd cc
+members_are d lists (Some (array ds)) some same = absurd cc
+
+sets_take : (forms : Forms) (d : Data) (lists : List NamedList) → set_descriptions_at forms d ≡ Some lists → HasSetDescriptions forms lists d
+unfolding set_descriptions_at
+sets_take Fields d lists is = sym (Some-injective [] lists is)
+sets_take Elements d lists is = members_are d lists (get (codes "sets") d) refl is
+
+sets_again : (forms : Forms) (d : Data) (lists : List NamedList) → HasSetDescriptions forms lists d → set_descriptions_at forms d ≡ Some lists
+unfolding set_descriptions_at set_descriptions_of IsDescribed
+sets_again Fields d lists is = ap (λ (w : List NamedList). Some w) (sym is)
+sets_again Elements d lists (inl is) = rw is.1 (ap (λ (w : List NamedList). Some w) (sym is.0))
+sets_again Elements d lists (inr is) = rw is.1 (members_again (members_in is.0) lists is.2)
+
+repository_parts : (forms : Forms) (base : List ℕ) (d : Data) (s : Settings) → size d ≡ 11 + length (names_there (further_members forms) d) → settings_from forms base d ≡ Some s → IsRepository forms base s d
+repository_parts forms base d s sized is =
     let name = bind-Some (text_at (codes "name") d) _ s is in
     let repository_name = bind-Some (text_at (codes "repositoryName") d) _ s name.2 in
     let addresses = bind-Some (texts_at (codes "adminEmail") d) _ s repository_name.2 in
@@ -199,6 +310,8 @@ repository_parts forms base d s eleven is =
     let lists = bind-Some (number_at (codes "lists") d) _ s lifetime.2 in
     let items = bind-Some (number_at (codes "items") d) _ s lists.2 in
     let formats = bind-Some (formats_at forms d) _ s items.2 in
+    let descriptions = bind-Some (descriptions_at forms d) _ s formats.2 in
+    let set_descriptions = bind-Some (set_descriptions_at forms d) _ s descriptions.2 in
     let made : Settings = record {
       base = base;
       name = name.0;
@@ -213,8 +326,10 @@ repository_parts forms base d s eleven is =
       items = items.0;
       formats = formats.0;
       forms = forms;
+      descriptions = descriptions.0;
+      set_descriptions = set_descriptions.0;
     } in
-    subst (λ (s : Settings). IsRepository forms base s d) {x = made} (Some-injective made s formats.2) (record {
+    subst (λ (s : Settings). IsRepository forms base s d) {x = made} (Some-injective made s set_descriptions.2) (record {
       formed = refl;
       below = refl;
       name = text_takes _ d name.0 name.1;
@@ -228,19 +343,21 @@ repository_parts forms base d s eleven is =
       lists = number_takes _ d lists.0 lists.1;
       items = number_takes _ d items.0 items.1;
       formats = formats_take forms d formats.0 formats.1;
-      no_other = eleven;
+      descriptions = descriptions_take forms d descriptions.0 descriptions.1;
+      set_descriptions = sets_take forms d set_descriptions.0 set_descriptions.1;
+      no_other = sized;
     })
 
 repository_takes : (forms : Forms) (base : List ℕ) (d : Data) (s : Settings) → settings_of forms base d ≡ Some s → IsRepository forms base s d
 unfolding settings_of
 repository_takes forms base d s is =
-    let p = passed (has_members repository_members) (settings_from forms base) d s is in
-    repository_parts forms base d s (of_size repository_members d p.0) p.1
+    let p = passed (is_repository forms) (settings_from forms base) d s is in
+    repository_parts forms base d s (of_size_and repository_members (further_members forms) d p.0) p.1
 
-are_repository : (forms : Forms) (base : List ℕ) (d : Data) (s : Settings) → IsRepository forms base s d → has_members repository_members d ≡ true
-unfolding has_members
+are_repository : (forms : Forms) (base : List ℕ) (d : Data) (s : Settings) → IsRepository forms base s d → is_repository forms d ≡ true
+unfolding has_members_and
 are_repository forms base d s is =
-    and_from _ _ (same_size d 11 is.no_other)
+    and_from _ _ (same_size d (11 + length (names_there (further_members forms) d)) is.no_other)
     (and_from _ _ (is_there _ _ is.name)
     (and_from _ _ (is_there _ _ is.repository_name)
     (and_from _ _ (is_there _ _ is.addresses)
@@ -257,7 +374,7 @@ repository_again : (forms : Forms) (base : List ℕ) (d : Data) (s : Settings) �
 repository_again forms base d s is =
     ap (λ b. settings_of forms b d) (sym is.below)
     ∙ ap (λ forms. settings_of forms s.base d) (sym is.formed)
-    ∙ settings_of-Some s d (are_repository forms base d s is)
+    ∙ settings_of-Some s d (ap (λ forms. is_repository forms d) is.formed ∙ are_repository forms base d s is)
     (text_again _ d s.name is.name)
     (text_again _ d s.repository_name is.repository_name)
     (texts_are _ d s.addresses is.addresses)
@@ -269,6 +386,8 @@ repository_again forms base d s is =
     (number_again _ d s.lists is.lists)
     (number_again _ d s.items is.items)
     (ap (λ forms. formats_at forms d) is.formed ∙ formats_again forms d s.formats is.formats)
+    (ap (λ forms. descriptions_at forms d) is.formed ∙ descriptions_again forms d s.descriptions is.descriptions)
+    (ap (λ forms. set_descriptions_at forms d) is.formed ∙ sets_again forms d s.set_descriptions is.set_descriptions)
 
 one_repository : (forms : Forms) (base : List ℕ) → IsUndone (settings_of forms base) (IsRepository forms base)
 one_repository forms base = record { takes = repository_takes forms base; again = repository_again forms base }

@@ -13,10 +13,11 @@ use Rattle.oai_settings.specs.declared.settings.Settings.{Settings}
 use Rattle.oai_config.specs.declared.faults.ReadFault.{ReadFault}
 use Rattle.oai_config.specs.declared.faults.ReadFault.TheVariants.{BadJson, BadShape, BadName, DuplicateName, BadFormat, BadDate, BadNumber, TooMany, NoMemory}
 use Rattle.oai_config.specs.declared.host_settings.HostSettings.{HostSettings}
+use Rattle.oai_config.specs.declared.repositories.Described.{Described}
 use Rattle.oai_config.specs.declared.repositories.Rules.{Rules}
 use Rattle.oai_config.specs.declared.repositories.Texts.{Texts}
 use Rattle.oai_config.specs.Configs.{NamedConfig, HostConfig}
-use Rattle.oai_config.specs.Shapes.{deleted_at, granularity_at, told_in}
+use Rattle.oai_config.specs.Shapes.{deleted_at, descriptions_at, set_descriptions_at, granularity_at, told_in}
 use Rattle.oai_config.specs.Causes.{is_wrong_alone, is_wrong_together, is_wrong, fault_number}
 use Rattle.oai_config.specs.Reading.{HasSettings, HaveSettings, IsLowest}
 
@@ -62,9 +63,16 @@ rules_from d = do
   items ← number_at (codes "items") d
   Some (record { deleted = deleted; granularity = granularity; chunk = chunk; lifetime = lifetime; lists = lists; items = items })
 
+-- what describes it and its sets, from these
+unfoldable pub described_from : Forms → Data → Option Described
+described_from forms d = do
+  descriptions ← descriptions_at forms d
+  set_descriptions ← set_descriptions_at forms d
+  Some (record { descriptions = descriptions; set_descriptions = set_descriptions })
+
 -- its settings, of these parts
-abbrev pub settings_with : Forms → List ℕ → Texts → Rules → List FormatSettings → Settings
-settings_with forms base texts rules formats = record {
+abbrev pub settings_with : Forms → List ℕ → Texts → Rules → List FormatSettings → Described → Settings
+settings_with forms base texts rules formats described = record {
   base = base;
   name = texts.name;
   repository_name = texts.repository_name;
@@ -78,6 +86,8 @@ settings_with forms base texts rules formats = record {
   items = rules.items;
   formats = formats;
   forms = forms;
+  descriptions = described.descriptions;
+  set_descriptions = described.set_descriptions;
 }
 
 -- the settings in the text, or why it has none

@@ -1,9 +1,10 @@
 -- The settings of the JSON object of a configuration, if its members are of their kinds (RFC 8259, sections 3 to 7).
 -- The members are this repository's own.
-use Rattle.std.specs.Prelude.{ℕ, Bool, true, false, ◌&&◌, if◌then◌else◌, List, [], ◌∷◌, codes, Option, Some, None}
+use Rattle.std.specs.Prelude.{ℕ, Bool, true, false, ◌&&◌, if◌then◌else◌, List, [], ◌∷◌, codes, Option, Some, None, is_some}
 use Rattle.std.specs.List.{find}
 use Rattle.std.specs.Str.{bytes_eq}
 use Rattle.serde_json.specs.Data.{Data}
+use Rattle.serde_json.specs.Find.{as_object, as_str, get}
 use Rattle.oai_time.specs.declared.granularity.Granularity.{Granularity}
 use Rattle.oai_time.specs.declared.granularity.Granularity.TheVariants.{Day, Second}
 use Rattle.oai_item.specs.ShortTexts.{is_short_text}
@@ -11,8 +12,10 @@ use Rattle.oai_item.specs.declared.forms.Forms.{Forms}
 use Rattle.oai_item.specs.declared.forms.Forms.TheVariants.{Fields, Elements}
 use Rattle.oai_item.specs.declared.deleted_record.DeletedRecord.{DeletedRecord}
 use Rattle.oai_item.specs.declared.deleted_record.DeletedRecord.TheVariants.{No, Transient, Persistent}
+use Rattle.oai_xml.specs.Documents.{canonical_in}
+use Rattle.oai_xml.specs.Named.{NamedList}
 use Rattle.oai_answers.specs.Documents.{deleted_text}
-use Rattle.oai_json.specs.Json.{elements_at, has_members, json_in, number_at, text_at, texts_at}
+use Rattle.oai_json.specs.Json.{elements_at, elements_of, members_in, has_members, has_members_and, json_in, number_at, text_at, texts_at}
 use Rattle.oai_settings.specs.declared.settings.FormatSettings.{FormatSettings}
 use Rattle.oai_settings.specs.declared.settings.Settings.{Settings}
 use Rattle.oai_config.specs.declared.host_settings.HostSettings.{HostSettings}
@@ -93,6 +96,35 @@ repository_members =
     codes "name" ∷ codes "repositoryName" ∷ codes "adminEmail" ∷ codes "earliestDatestamp" ∷ codes "deletedRecord"
     ∷ codes "granularity" ∷ codes "chunk" ∷ codes "lifetime" ∷ codes "lists" ∷ codes "items" ∷ codes "formats" ∷ []
 
+-- those that may be missing, and stand only where records may be elements
+abbrev pub further_members : Forms → List (List ℕ)
+further_members Fields = []
+further_members Elements = codes "description" ∷ codes "sets" ∷ []
+
+-- the canonical texts of the elements that a list of texts spells (XML 1.0, section 2.1), each of them
+unfoldable pub canonical_at : List ℕ → Data → Option (List (List ℕ))
+canonical_at name d = texts_at name d >>= each_of canonical_in
+
+-- those that describe the repository, from the member `description`: none where it is missing (OAI-PMH 2.0, section 4.2)
+unfoldable pub descriptions_at : Forms → Data → Option (List (List ℕ))
+descriptions_at Fields d = Some []
+descriptions_at Elements d = if is_some (get (codes "description") d) then canonical_at (codes "description") d else Some []
+
+-- those that describe a set, from a member of `sets`: its setSpec, and a list of texts (OAI-PMH 2.0, section 4.6)
+unfoldable pub canonical_of : Data → Option (List (List ℕ))
+canonical_of d = elements_of d >>= each_of as_str >>= each_of canonical_in
+
+unfoldable pub set_description_of : List ℕ × Data → Option NamedList
+set_description_of m = canonical_of m.1 >>= λ elements. Some (m.0, elements)
+
+unfoldable pub set_descriptions_of : Data → Option (List NamedList)
+set_descriptions_of d = as_object d >>= λ ms. each_of set_description_of (members_in ms)
+
+-- those of all sets, from the member `sets`, an object: none where it is missing
+unfoldable pub set_descriptions_at : Forms → Data → Option (List NamedList)
+set_descriptions_at Fields d = Some []
+set_descriptions_at Elements d = if is_some (get (codes "sets") d) then get (codes "sets") d >>= set_descriptions_of else Some []
+
 -- the settings of a repository below the base, from these members
 abbrev pub settings_from : Forms → List ℕ → Data → Option Settings
 settings_from forms base d = do
@@ -107,6 +139,8 @@ settings_from forms base d = do
   lists ← number_at (codes "lists") d
   items ← number_at (codes "items") d
   formats ← formats_at forms d
+  descriptions ← descriptions_at forms d
+  set_descriptions ← set_descriptions_at forms d
   Some (record {
     base = base;
     name = name;
@@ -121,11 +155,17 @@ settings_from forms base d = do
     items = items;
     formats = formats;
     forms = forms;
+    descriptions = descriptions;
+    set_descriptions = set_descriptions;
   })
+
+-- the object has exactly the members of a repository
+abbrev pub is_repository : Forms → Data → Bool
+is_repository forms d = has_members_and repository_members (further_members forms) d
 
 -- the object with exactly these members
 unfoldable pub settings_of : Forms → List ℕ → Data → Option Settings
-settings_of forms base d = tested (has_members repository_members) d >>= settings_from forms base
+settings_of forms base d = tested (is_repository forms) d >>= settings_from forms base
 
 -- ---- the host
 

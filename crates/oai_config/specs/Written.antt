@@ -1,17 +1,19 @@
 -- The JSON object that is written for a configuration. RFC 8259, sections 4 to 7.
-use Rattle.std.specs.Prelude.{◌≡◌, ◌↔◌, ℕ, true, List, [], ◌∷◌, map, codes, Option, Some}
+use Rattle.std.specs.Prelude.{◌≡◌, ◌↔◌, ◌⊎◌, ◌+◌, ℕ, true, List, [], ◌∷◌, length, map, codes, Option, Some, None, Ok}
 use Rattle.std.specs.List.{AllZip}
-use Rattle.serde_json.specs.Data.{Data, Num, string, number}
+use Rattle.serde_json.specs.Data.{Data, Num, Members, object, string, number}
 use Rattle.serde_json.specs.Find.{get, as_u64}
 use Rattle.oai_item.specs.ShortTexts.{is_short_text}
 use Rattle.oai_item.specs.declared.forms.Forms.{Forms}
 use Rattle.oai_item.specs.declared.forms.Forms.TheVariants.{Fields, Elements}
+use Rattle.oai_xml.specs.Documents.{canonical}
+use Rattle.oai_xml.specs.Named.{NamedList}
 use Rattle.oai_answers.specs.Documents.{deleted_text}
-use Rattle.oai_json.specs.Json.{size, array_of}
+use Rattle.oai_json.specs.Json.{size, array_of, members_in, names_there}
 use Rattle.oai_settings.specs.declared.settings.FormatSettings.{FormatSettings}
 use Rattle.oai_settings.specs.declared.settings.Settings.{Settings}
 use Rattle.oai_config.specs.declared.host_settings.HostSettings.{HostSettings}
-use Rattle.oai_config.specs.Shapes.{granularity_word, told_of}
+use Rattle.oai_config.specs.Shapes.{further_members, granularity_word, told_of}
 
 -- ---- a member of an object
 
@@ -47,6 +49,29 @@ pub record IsFormat (forms : Forms) (format : FormatSettings) (d : Data) : Type 
   pub root : HasText (codes "root") format.root d
   pub fields : HasFields forms format.fields d
 
+-- a list of strings, each a text of one of the elements, in order
+abbrev pub HasElements : List ℕ → List (List ℕ) → Data → Type 0
+HasElements name elements d = (texts : List (List ℕ)) × HasTexts name texts d × AllZip (λ text element. canonical text ≡ Ok element) texts elements
+
+-- the same as a value
+abbrev pub IsElementList : List (List ℕ) → Data → Type 0
+IsElementList elements d = (texts : List (List ℕ)) × (d ≡ array_of (map string texts)) × AllZip (λ text element. canonical text ≡ Ok element) texts elements
+
+-- those that describe the repository: of a member, or none where it is missing; it can be there only where records may be elements
+abbrev pub HasDescriptions : Forms → List (List ℕ) → Data → Type 0
+HasDescriptions Fields descriptions d = descriptions ≡ []
+HasDescriptions Elements descriptions d =
+    ((descriptions ≡ []) × (get (codes "description") d ≡ None)) ⊎ HasElements (codes "description") descriptions d
+
+-- those that describe sets: of the members of an object, each a setSpec and such a list, in the order of the names
+abbrev pub HasSetElements : List NamedList → Data → Type 0
+HasSetElements lists d = (ms : Members) × (get (codes "sets") d ≡ Some (object ms))
+    × AllZip (λ (list : NamedList) (m : List ℕ × Data). (list.0 ≡ m.0) × IsElementList list.1 m.1) lists (members_in ms)
+
+abbrev pub HasSetDescriptions : Forms → List NamedList → Data → Type 0
+HasSetDescriptions Fields lists d = lists ≡ []
+HasSetDescriptions Elements lists d = ((lists ≡ []) × (get (codes "sets") d ≡ None)) ⊎ HasSetElements lists d
+
 pub record IsRepository (forms : Forms) (base : List ℕ) (s : Settings) (d : Data) : Type 0 where
   pub formed : s.forms ≡ forms
   pub below : s.base ≡ base
@@ -61,7 +86,9 @@ pub record IsRepository (forms : Forms) (base : List ℕ) (s : Settings) (d : Da
   pub lists : HasNumber (codes "lists") s.lists d
   pub items : HasNumber (codes "items") s.items d
   pub formats : HasList (codes "formats") (IsFormat forms) s.formats d
-  pub no_other : size d ≡ 11
+  pub descriptions : HasDescriptions forms s.descriptions d
+  pub set_descriptions : HasSetDescriptions forms s.set_descriptions d
+  pub no_other : size d ≡ 11 + length (names_there (further_members forms) d)
 
 -- the base of all base URLs has 1 to 512 bytes, of characters that a document may hold (XML 1.0, section 2.2)
 pub record IsHost (forms : Forms) (base : List ℕ) (told : HostSettings) (d : Data) : Type 0 where

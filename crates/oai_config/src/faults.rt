@@ -19,7 +19,7 @@ pub enum ReadFault {
     /// A member is missing, unknown or of another kind; the base, the repositoryName or an address does not have 1 to
     /// 512 bytes, or has a character that no XML document may hold (XML 1.0, section 2.2); there are not 1 to 16
     /// addresses; the policy on deleted records is not `no`, `transient` or `persistent`; the granularity is not `days`
-    /// or `seconds`; or there is no repository. Number 2.
+    /// or `seconds`; what describes a repository or a set is no XML element; or there is no repository. Number 2.
     BadShape,
     /// A name is not 1 to 32 of `a` to `z`, `0` to `9` and `-`. Number 3.
     BadName,

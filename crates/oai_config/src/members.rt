@@ -3,11 +3,14 @@ ghost use Rattle.serde_json.specs.Find.{as_str};
 ghost use Rattle.serde_json.specs.View.{view};
 ghost use Rattle.oai_names.specs.Optional.{each_of};
 ghost use Rattle.oai_json.specs.Json as json;
+ghost use Rattle.oai_xml.specs.Documents.{canonical_in};
+ghost use Rattle.oai_config.specs.Shapes.{canonical_at, canonical_of};
 ghost use Rattle.oai_config.specs.ReadingWork.{GivesRead, GivesView, two_texts};
 
 use crate::faults::ReadFault;
 use oai_json::{elements_at, number_at, text_at};
 use oai_names::{Sequence, Text};
+use oai_xml::{ElementTexts, XmlFault};
 use serde_json::Value;
 use std::alloc::Global;
 
@@ -74,4 +77,41 @@ fn texts_in(alloc: Global, values: &[Value]) -> Result<Sequence<Text>, ReadFault
         texts.push(Text::new(alloc, text)?)?;
     }
     Ok(Sequence::new(texts))
+}
+
+/// The elements that the texts of the member with that name are; `BadShape` if there is no such list of strings, or one of
+/// them is no element.
+#[tactic(auto, unfolding(crate::specs::Shapes::canonical_at))]
+pub(crate) fn read_elements(
+    alloc: Global,
+    value: &Value,
+    name: &str,
+) -> Result<ElementTexts, ReadFault>
+    ensures { GivesRead result (canonical_at name.now (view value.now)) }
+{
+    let texts = read_texts(alloc, value, name)?;
+    elements_of(alloc, texts.as_slice())
+}
+
+/// The elements that the texts are; `BadShape` if one of them is none.
+pub(crate) fn elements_of(alloc: Global, texts: &[Text]) -> Result<ElementTexts, ReadFault>
+    ensures { GivesRead result (each_of canonical_in texts.now) }
+{
+    match ElementTexts::read(alloc, texts) {
+        Ok(elements) => Ok(elements),
+        Err(XmlFault::Refused { .. }) => Err(ReadFault::BadShape),
+        Err(XmlFault::NoMemory) => Err(ReadFault::NoMemory),
+    }
+}
+
+/// The elements that the texts of a list are; `BadShape` for any other value, or if a text is none.
+#[tactic(auto, unfolding(crate::specs::Shapes::canonical_of))]
+pub(crate) fn elements_in(alloc: Global, value: &Value) -> Result<ElementTexts, ReadFault>
+    ensures { GivesRead result (canonical_of (view value.now)) }
+{
+    let Some(values) = oai_json::elements_of(value) else {
+        return Err(ReadFault::BadShape);
+    };
+    let texts = texts_in(alloc, values)?;
+    elements_of(alloc, texts.as_slice())
 }

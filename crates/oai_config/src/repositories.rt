@@ -1,20 +1,22 @@
-ghost use Rattle.std.specs.Prelude.{◌≡◌, map};
-ghost use Rattle.oai_json.specs.Json.{has_members};
+ghost use Rattle.std.specs.Prelude.{◌≡◌, map, string_bytes};
+ghost use Rattle.oai_json.specs.Json.{has_members_and};
 ghost use Rattle.serde_json.specs.View.{view};
 ghost use Rattle.oai_names.specs.Optional.{each_of};
 ghost use Rattle.oai_config.specs.Shapes as shape;
-ghost use Rattle.oai_config.specs.ReadingWork.{GivesView, GivesRead, rules_from, texts_from};
+ghost use Rattle.oai_config.specs.ReadingWork.{GivesView, GivesRead, described_from, rules_from, texts_from};
 
 use crate::faults::ReadFault;
 use crate::formats::each_format;
-use crate::members::{read_number, read_text, read_texts};
+use crate::members::{elements_in, elements_of, read_elements, read_number, read_text, read_texts};
 use oai_item::{DeletedRecord, Forms};
-use oai_json::{elements_at, has_members, text_at};
+use oai_json::{elements_at, has_members_and, text_at};
 use oai_names::{Sequence, Text};
 use oai_settings::{FormatSettings, Settings};
 use oai_time::Granularity;
+use oai_xml::{ElementTexts, NamedElements};
 use serde_json::Value;
 use std::alloc::Global;
+use std::collections::BTreeMap;
 
 /// The settings of the repositories below the base, from the member `repositories`.
 #[tactic(auto, unfolding(crate::specs::Shapes::repositories_at))]
@@ -59,12 +61,13 @@ fn settings_of(
 ) -> Result<Settings, ReadFault>
     ensures { GivesRead result (shape.settings_of forms base.now (view value.now)) }
 {
-    if !is_repository(value) {
+    if !is_repository(forms, value) {
         return Err(ReadFault::BadShape);
     }
     let rules = rules_of(value)?;
     let texts = texts_of(alloc, value)?;
     let formats = formats_at(alloc, forms, value)?;
+    let described = described_of(alloc, forms, value)?;
     Ok(Settings {
         base: Text::new(alloc, base)?,
         name: texts.name,
@@ -79,6 +82,8 @@ fn settings_of(
         items: rules.items,
         formats,
         forms,
+        descriptions: described.descriptions,
+        set_descriptions: described.set_descriptions,
     })
 }
 
@@ -131,10 +136,22 @@ fn rules_of(value: &Value) -> Result<Rules, ReadFault>
 }
 
 /// Whether the value is an object with exactly the members of a repository.
-fn is_repository(value: &Value) -> bool
-    ensures { result ≡ has_members shape.repository_members (view value.now) }
+fn is_repository(forms: Forms, value: &Value) -> bool
+    ensures { result ≡ shape.is_repository forms (view value.now) }
 {
-    has_members(
+    match forms {
+        Forms::Fields => has_members_of(value, &[]),
+        Forms::Elements => has_members_of(value, &["description", "sets"]),
+    }
+}
+
+/// Whether the value is an object with exactly the members that each repository has, and those of the others that it
+/// has.
+fn has_members_of(value: &Value, others: &[&str]) -> bool
+    ensures { result ≡ has_members_and shape.repository_members (map (λ name. name.now) others.now)
+        (view value.now) }
+{
+    has_members_and(
         value,
         &[
             "name",
@@ -149,6 +166,7 @@ fn is_repository(value: &Value) -> bool
             "items",
             "formats",
         ],
+        others,
     )
 }
 
@@ -210,4 +228,78 @@ fn formats_at(
         Some(values) => each_format(alloc, forms, values),
         None => Err(ReadFault::BadShape),
     }
+}
+
+/// The elements that describe a repository and its sets.
+#[derive(Drop)]
+struct Described {
+    descriptions: ElementTexts,
+    set_descriptions: NamedElements,
+}
+
+/// These, from the members that may be missing; `BadShape` if one of them is of another kind, or a text is no element.
+#[tactic(auto, unfolding(crate::specs::ReadingWork::described_from))]
+fn described_of(alloc: Global, forms: Forms, value: &Value) -> Result<Described, ReadFault>
+    ensures { GivesRead result (described_from forms (view value.now)) }
+{
+    Ok(Described {
+        descriptions: descriptions_at(alloc, forms, value)?,
+        set_descriptions: set_descriptions_at(alloc, forms, value)?,
+    })
+}
+
+/// The elements that describe the repository, from the member `description`, if that may be there and is.
+#[tactic(auto, unfolding(crate::specs::Shapes::descriptions_at))]
+fn descriptions_at(alloc: Global, forms: Forms, value: &Value) -> Result<ElementTexts, ReadFault>
+    ensures { GivesRead result (shape.descriptions_at forms (view value.now)) }
+{
+    match forms {
+        Forms::Elements if value.get("description").is_some() => {
+            read_elements(alloc, value, "description")
+        }
+        _ => elements_of(alloc, &[]),
+    }
+}
+
+/// The elements that describe sets, from the member `sets`, if that may be there and is.
+#[tactic(auto, unfolding(crate::specs::Shapes::set_descriptions_at))]
+fn set_descriptions_at(
+    alloc: Global,
+    forms: Forms,
+    value: &Value,
+) -> Result<NamedElements, ReadFault>
+    ensures { GivesRead result (shape.set_descriptions_at forms (view value.now)) }
+{
+    match value.get("sets") {
+        Some(sets) if forms == Forms::Elements => set_descriptions_of(alloc, sets),
+        _ => Ok(NamedElements::new(alloc)),
+    }
+}
+
+/// The elements of the members of an object, each a list under a setSpec; `BadShape` for any other value.
+#[tactic(auto, unfolding(crate::specs::Shapes::set_descriptions_of))]
+fn set_descriptions_of(alloc: Global, value: &Value) -> Result<NamedElements, ReadFault>
+    ensures { GivesRead result (shape.set_descriptions_of (view value.now)) }
+{
+    match value {
+        Value::Object(members) => set_descriptions_in(alloc, members),
+        _ => Err(ReadFault::BadShape),
+    }
+}
+
+/// The elements of each member, in order; `BadShape` at the first that has none.
+#[tactic(auto, using(oai_json::proofs::ReadingLemmas::starts), unfolding(crate::specs::Shapes::set_description_of))]
+fn set_descriptions_in(
+    alloc: Global,
+    members: &BTreeMap<String, Value>,
+) -> Result<NamedElements, ReadFault>
+    ensures { GivesRead result (each_of shape.set_description_of
+        (map (λ m. (string_bytes m.0, view m.1)) members.now.entries)) }
+{
+    let mut lists = NamedElements::new(alloc);
+    for (spec, elements) in members.iter() {
+        let elements = elements_in(alloc, elements)?;
+        lists.push(Text::new(alloc, spec.as_str())?, elements)?;
+    }
+    Ok(lists)
 }

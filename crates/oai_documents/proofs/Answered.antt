@@ -1,12 +1,13 @@
 -- What a repository answers: no list of it is empty, and its records are in formats of its own, so of their namespaces.
-use Rattle.std.proofs.Common.{◌≡◌, ◌∙◌, ◌+◌, inl, inr, ℕ, ℤ, ◌<◌, Bool, true, false, cond, ◌&&◌, List, [], ◌∷◌, length, take, drop, codes, Option, None, Some, is_some, refl, sym, ap, subst, arith}
+use Rattle.std.proofs.Common.{◌≡◌, ◌∙◌, ◌+◌, inl, inr, ℕ, ℤ, ◌<◌, Bool, true, false, cond, ◌&&◌, List, [], ◌∷◌, length, take, drop, codes, map, Option, None, Some, is_some, refl, sym, ap, subst, arith}
 use Rattle.std.specs.Prelude.{filter, find, nat_le, nat_lt}
 use Rattle.std.specs.Int.{is_in_range}
 use Rattle.std.specs.List.{list_all}
 use Rattle.std.specs.Str.{bytes_eq}
-use Rattle.std.proofs.lemmas.Bool.{and_parts, cond_both, true≢false}
+use Rattle.std.proofs.lemmas.Bool.{and_from, and_parts, cond_both, true≢false}
 use Rattle.std.proofs.lemmas.Bool.Decides.{nat_tests}
 use Rattle.std.proofs.lemmas.List.{length-drop, length-take}
+use Rattle.oai_names.proofs.Lists.{all-filter}
 use Rattle.oai_names.specs.declared.list_verbs.ListVerb.{ListVerb}
 use Rattle.oai_names.specs.declared.list_verbs.ListVerb.TheVariants as list
 use Rattle.oai_lists.specs.Tokens.{token_of}
@@ -24,11 +25,13 @@ use Rattle.oai_item.specs.declared.formats.Format.{Format}
 use Rattle.oai_item.specs.declared.refusals.ChangeRefusal.{ChangeRefusal}
 use Rattle.oai_args.specs.Asks.{AskOrError, asks, bad_argument, bad_verb}
 use Rattle.oai_args.specs.declared.requests.Ask.TheVariants as ask
-use Rattle.oai_answers.specs.Answers.{Attributes, Document, Page, VerbAnswer, is_offered, offered}
+use Rattle.oai_answers.specs.Answers.{Attributes, DescribedSet, Document, described_sets, Page, VerbAnswer, is_offered, offered}
 use Rattle.oai_answers.specs.Seen.{IsRegular}
+use Rattle.oai_xml.specs.Documents.{is_canonical}
+use Rattle.oai_xml.specs.Named.{NamedList, elements_named, elements_of}
 use Rattle.oai_xml.specs.Whole.{is_whole}
 use Rattle.oai_settings.specs.Config.{IsConfig, RepositoryConfig, are_limits, is_chunk, is_described, is_items, is_lifetime, is_lists}
-use Rattle.oai_repo.specs.Answers.{arguments_of_request, disseminated, filter_of, formats_answer, item_formats_answer, record_answer, sets_answer}
+use Rattle.oai_repo.specs.Answers.{arguments_of_request, disseminated, elements_alone, filter_of, formats_answer, item_formats_answer, record_answer, sets_answer}
 use Rattle.oai_holdings.specs.Changes.{refusal_of, stamp_at}
 use Rattle.oai_repo.specs.Listing.{Response, answer_by_verb, complete_answer, complete_page, continued_response, format_response, has_no_sets, is_continued, is_handed_out, is_of_number, is_same_verb, is_valid_cursor, list_response, new_list, opens_list, part_answer, part_from, prolonged, request_response, retry_after, selection_response, token_response, wait_at, where_continued, with_answer}
 use Rattle.oai_repo.specs.Machine.{Command, Outcome, accepted, act, act_on_change, changing, documented, later, outcome_of, refused_with, rejecting, requesting}
@@ -45,7 +48,7 @@ use Rattle.oai_holdings.specs.Kept.{is_well_kept}
 use Rattle.oai_documents.specs.Answering.{have_namespaces}
 use Rattle.oai_documents.specs.DocumentTrees.{document_tree}
 use Rattle.oai_documents.specs.Schema.{IsOfSchema}
-use Rattle.oai_documents.specs.WellFormed.{HasMembers, HasNamespace, HasFittingElements, IsFilled, is_foreign, may_be_default}
+use Rattle.oai_documents.specs.WellFormed.{HasMembers, has_root_in, HasNamespace, HasFittingElements, IsFilled, is_foreign, may_be_default}
 use Rattle.oai_documents.proofs.SchemaLemmas.{document_is}
 use Rattle.oai_documents.proofs.WholeTrees.{document_whole}
 
@@ -53,7 +56,9 @@ use Rattle.oai_documents.proofs.WholeTrees.{document_whole}
 
 pub record Rules (passes : List ℕ → Bool) (config : RepositoryConfig) : Type 0 where
   pub formats : AreRepositoryFormats config.formats
-  pub namespaces : have_namespaces passes config ≡ true
+  pub namespaces : list_all (λ (f : Format). passes f.namespace) config.formats ≡ true
+  pub descriptions : list_all (has_root_in passes) config.descriptions ≡ true
+  pub set_descriptions : list_all (λ (list : NamedList). list_all (has_root_in passes) list.1) config.set_descriptions ≡ true
   pub chunk : 0 < config.chunk
   pub addresses : HasMembers config.addresses
 
@@ -78,7 +83,11 @@ addresses_some config is =
     members config.addresses (from_one 0 16 (length config.addresses) (and_parts (is_short_text config.repository_name) (is_in_range 1 16 (length config.addresses)) outer.0).1)
 
 pub rules_of : (passes : List ℕ → Bool) (config : RepositoryConfig) → IsConfig config → AreRepositoryFormats config.formats → have_namespaces passes config ≡ true → Rules passes config
-rules_of passes config rules formats all = record { formats = formats; namespaces = all; chunk = chunk_some config rules; addresses = addresses_some config rules }
+rules_of passes config rules formats all =
+    let last = and_parts (list_all (λ (f : Format). passes f.namespace) config.formats && list_all (has_root_in passes) config.descriptions)
+    (list_all (λ (list : NamedList). list_all (has_root_in passes) list.1) config.set_descriptions) all in
+    let parts = and_parts (list_all (λ (f : Format). passes f.namespace) config.formats) (list_all (has_root_in passes) config.descriptions) last.0 in
+    record { formats = formats; namespaces = parts.0; descriptions = parts.1; set_descriptions = last.1; chunk = chunk_some config rules; addresses = addresses_some config rules }
 
 -- ---- formats
 
@@ -221,16 +230,36 @@ of_formats passes config state (Some identifier) rules sound =
     of_item_formats passes config state.holdings.sets (item_named identifier state.holdings.items) rules
     (λ item found. of_named (is_well_kept config state.holdings.sets) identifier state.holdings.items item found sound.kept.well)
 
-of_sets : (passes : List ℕ → Bool) (sets : List NamedSet) → IsGiven passes (sets_answer sets)
-of_sets passes [] = (tt, tt)
-of_sets passes (set ∷ sets) = (tt, tt)
+-- of lists of which each passes the found one does
+found_passes : (passes : List ℕ → Bool) (lists : List NamedList) (spec : List ℕ) → list_all (λ (list : NamedList). list_all (has_root_in passes) list.1) lists ≡ true
+    → list_all (has_root_in passes) (elements_named (map elements_alone lists) spec) ≡ true
+unfolding elements_named
+found_passes passes [] spec all = refl
+found_passes passes (list ∷ lists) spec all = by_test (bytes_eq list.0 spec)
+  where
+    parts : _
+    parts = and_parts (list_all (has_root_in passes) list.1) (list_all (λ (list : NamedList). list_all (has_root_in passes) list.1) lists) all
+
+    by_test : (b : Bool) → list_all (has_root_in passes) (elements_of (cond b (Some (elements_alone list)) (find (λ (l : NamedList). bytes_eq l.0 spec) (map elements_alone lists)))) ≡ true
+    by_test true = all-filter (has_root_in passes) is_canonical list.1 parts.0
+    by_test false = found_passes passes lists spec parts.1
+
+described_pass : (passes : List ℕ → Bool) (config : RepositoryConfig) (sets : List NamedSet) → Rules passes config
+    → list_all (λ (set : DescribedSet). list_all (has_root_in passes) set.descriptions) (described_sets (map elements_alone config.set_descriptions) sets) ≡ true
+described_pass passes config [] rules = refl
+described_pass passes config (set ∷ sets) rules =
+    and_from _ _ (found_passes passes config.set_descriptions set.0 rules.set_descriptions) (described_pass passes config sets rules)
+
+of_sets : (passes : List ℕ → Bool) (config : RepositoryConfig) (sets : List NamedSet) → Rules passes config → IsGiven passes (sets_answer config sets)
+of_sets passes config [] rules = (tt, tt)
+of_sets passes config (set ∷ sets) rules = (described_pass passes config (set ∷ sets) rules, tt)
 
 done : (passes : List ℕ → Bool) (config : RepositoryConfig) (state : RepoState) (request : AskOrError) → Rules passes config → IsSound config state → IsDone passes (request_response config state request)
 done passes config state bad_verb rules sound = (tt, tt)
 done passes config state bad_argument rules sound = (tt, tt)
-done passes config state (asks ask.Identify) rules sound = (tt, rules.addresses)
+done passes config state (asks ask.Identify) rules sound = (all-filter (has_root_in passes) is_canonical config.descriptions rules.descriptions, rules.addresses)
 done passes config state (asks (ask.Formats identifier)) rules sound = of_formats passes config state identifier rules sound
-done passes config state (asks ask.Sets) rules sound = of_sets passes state.holdings.sets
+done passes config state (asks ask.Sets) rules sound = of_sets passes config state.holdings.sets rules
 done passes config state (asks (ask.Get identifier prefix)) rules sound = of_record passes config prefix (item_named identifier state.holdings.items) rules
 done passes config state (asks (ask.List verb prefix from until set)) rules sound =
     of_list passes config state.clock state.open_lists state.holdings.sets verb prefix set (selected (filter_of prefix from until set) state.holdings.items) rules

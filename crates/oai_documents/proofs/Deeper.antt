@@ -215,3 +215,17 @@ element_behind outer t two room is =
     let own : is_tag_whole outer t.name t.attributes ≡ true = ap (λ (s : Scope). is_tag_whole s t.name t.attributes) (sym (append-nil outer)) ∙ tag_behind outer [] t.name t.attributes few.0 tag.1 in
     and_from _ (is_content_whole 123 (within outer t.attributes) t.content) (and_from true (is_tag_whole outer t.name t.attributes) refl own)
     (content_behind t.content (MAX_DEPTH - 1) 123 outer (within [] t.attributes) deep few.1 inside.1)
+
+-- the same, where one level more may come
+pub element_behind_more : (outer : Scope) (t : Tree) → length outer ≡ 2 → fits_in_document t ≡ true → is_whole t ≡ true → is_whole_in 125 outer t ≡ true
+unfolding is_whole_in
+element_behind_more outer t two room is =
+    let rooms = and_parts (nat_le (levels_of t.content) 123) (nat_le (length (declared t.attributes) + declarations_of t.content) 126) room in
+    let deep : levels_of t.content ≤ 124 = grind (arith, nat_tests, rooms.0) in
+    let many : length (declared t.attributes) + declarations_of t.content ≤ 126 = grind (arith, nat_tests, rooms.1) in
+    let inside = and_parts (not (eqb MAX_DEPTH 0) && is_tag_whole [] t.name t.attributes) (is_content_whole (MAX_DEPTH - 1) (within [] t.attributes) t.content) is in
+    let tag = and_parts (not (eqb MAX_DEPTH 0)) (is_tag_whole [] t.name t.attributes) inside.0 in
+    let few = few_within outer [] t.attributes (declarations_of t.content) (omega (arith, two, many)) in
+    let own : is_tag_whole outer t.name t.attributes ≡ true = ap (λ (s : Scope). is_tag_whole s t.name t.attributes) (sym (append-nil outer)) ∙ tag_behind outer [] t.name t.attributes few.0 tag.1 in
+    and_from _ (is_content_whole 124 (within outer t.attributes) t.content) (and_from true (is_tag_whole outer t.name t.attributes) refl own)
+    (content_behind t.content (MAX_DEPTH - 1) 124 outer (within [] t.attributes) deep few.1 inside.1)

@@ -29,10 +29,12 @@ use Rattle.oai_args.specs.Asks.{AskOrError, asks, bad_argument, bad_verb}
 use Rattle.oai_args.specs.declared.requests.Ask.TheVariants as ask
 use Rattle.oai_answers.specs.Answers.{Attributes, Document, Page, completes, is_offered, offered, remains}
 use Rattle.oai_answers.specs.Documents.{document}
+use Rattle.oai_xml.specs.Named.{NamedList, elements_named, elements_of}
+use Rattle.oai_answers.specs.Answers.{described_sets}
 use Rattle.oai_xml.specs.LegalTexts.{is_legal_text}
-use Rattle.oai_xml.specs.Documents.{tree_in}
+use Rattle.oai_xml.specs.Documents.{is_canonical, tree_in}
 use Rattle.oai_settings.specs.Config.{IsConfig, RepositoryConfig}
-use Rattle.oai_repo.specs.Answers.{arguments_of_request, disseminated, filter_of, formats_answer, item_formats_answer, record_answer, sets_answer}
+use Rattle.oai_repo.specs.Answers.{arguments_of_request, disseminated, elements_alone, filter_of, formats_answer, item_formats_answer, record_answer, sets_answer}
 use Rattle.oai_holdings.specs.Changes.{after_deletion, after_purge, changed, is_held_so, is_past, limit_of, purged, refusal_of, stamp_at, with_new, with_put, with_tombstone}
 use Rattle.oai_repo.specs.Listing.{Response, answer_by_verb, carried_on_at, complete_answer, complete_page, continued_response, extent_at, format_response, has_no_sets, is_continued, is_of_number, items_from, list_response, new_list, next_cursor, opens_list, part_answer, part_from, prolonged, request_response, retry_after, selection_response, token_response, wait_at, where_continued, with_answer}
 use Rattle.oai_repo.specs.Machine.{Command, Outcome, accepted, act, act_on_change, changing, documented, later, outcome_of, refused_with, rejecting, requesting}
@@ -49,7 +51,7 @@ use Rattle.oai_documents.specs.DocumentTrees.{document_tree}
 use Rattle.oai_documents.specs.Texts.{are_legal_commands, have_legal_arguments, is_legal_change, is_legal_command, is_legal_config, is_legal_format, is_legal_item, is_legal_record, is_legal_set}
 use Rattle.oai_documents.specs.WellFormed.{HasFittingElements, may_be_default}
 use Rattle.oai_documents.proofs.Answered.{IsGivenDocument, given_whole, some_answer}
-use Rattle.oai_documents.proofs.LegalTrees.{IsLegalAnswer, document_legal, is_legal_token, token_legal}
+use Rattle.oai_documents.proofs.LegalTrees.{is_legal_described, IsLegalAnswer, document_legal, is_legal_token, token_legal}
 use Rattle.oai_documents.proofs.ReadBack.{file_tested, tree_read}
 use Rattle.oai_documents.proofs.Records.{document_written}
 use Rattle.oai_documents.proofs.Tags.{both}
@@ -81,13 +83,19 @@ record Texts (config : RepositoryConfig) : Type 0 where
   pub name : is_legal_text config.repository_name ≡ true
   pub addresses : list_all is_legal_text config.addresses ≡ true
   pub formats : list_all is_legal_format config.formats ≡ true
+  pub descriptions : list_all is_legal_text config.descriptions ≡ true
+  pub set_descriptions : list_all (λ (list : NamedList). list_all is_legal_text list.1) config.set_descriptions ≡ true
 
 texts : (config : RepositoryConfig) → is_legal_config config ≡ true → Texts config
 texts config is =
-    let four = and_parts (is_legal_text config.base && is_legal_text config.repository_name && list_all is_legal_text config.addresses) (list_all is_legal_format config.formats) is in
+    let six = and_parts (is_legal_text config.base && is_legal_text config.repository_name && list_all is_legal_text config.addresses && list_all is_legal_format config.formats
+    && list_all is_legal_text config.descriptions) (list_all (λ (list : NamedList). list_all is_legal_text list.1) config.set_descriptions) is in
+    let five = and_parts (is_legal_text config.base && is_legal_text config.repository_name && list_all is_legal_text config.addresses && list_all is_legal_format config.formats)
+    (list_all is_legal_text config.descriptions) six.0 in
+    let four = and_parts (is_legal_text config.base && is_legal_text config.repository_name && list_all is_legal_text config.addresses) (list_all is_legal_format config.formats) five.0 in
     let three = and_parts (is_legal_text config.base && is_legal_text config.repository_name) (list_all is_legal_text config.addresses) four.0 in
     let two = and_parts (is_legal_text config.base) (is_legal_text config.repository_name) three.0 in
-    record { base = two.0; name = two.1; addresses = three.1; formats = four.1 }
+    record { base = two.0; name = two.1; addresses = three.1; formats = four.1; descriptions = five.1; set_descriptions = six.1 }
 
 format_legal : (config : RepositoryConfig) (prefix : List ℕ) (format : Format) → Texts config → format_named prefix config.formats ≡ Some format → is_legal_format format ≡ true
 unfolding format_named
@@ -302,9 +310,30 @@ of_formats : (config : RepositoryConfig) (items : List ItemState) (identifier : 
 of_formats config items None so = offered_legal config None so
 of_formats config items (Some identifier) so = of_item_formats config (item_named identifier items) so
 
-of_sets : (sets : List NamedSet) → list_all is_legal_set sets ≡ true → IsLegalAnswer (sets_answer sets)
-of_sets [] all = tt
-of_sets (set ∷ sets) all = all
+-- of lists of which each is legal the found one is
+found_legal : (lists : List NamedList) (spec : List ℕ) → list_all (λ (list : NamedList). list_all is_legal_text list.1) lists ≡ true
+    → list_all is_legal_text (elements_named (map elements_alone lists) spec) ≡ true
+unfolding elements_named
+found_legal [] spec all = refl
+found_legal (list ∷ lists) spec all = by_test (bytes_eq list.0 spec)
+  where
+    parts : _
+    parts = and_parts (list_all is_legal_text list.1) (list_all (λ (list : NamedList). list_all is_legal_text list.1) lists) all
+
+    by_test : (b : Bool) → list_all is_legal_text (elements_of (cond b (Some (elements_alone list)) (find (λ (l : NamedList). bytes_eq l.0 spec) (map elements_alone lists)))) ≡ true
+    by_test true = all-filter is_legal_text is_canonical list.1 parts.0
+    by_test false = found_legal lists spec parts.1
+
+described_legal : (config : RepositoryConfig) (sets : List NamedSet) → Texts config → list_all is_legal_set sets ≡ true
+    → list_all is_legal_described (described_sets (map elements_alone config.set_descriptions) sets) ≡ true
+described_legal config [] so all = refl
+described_legal config (set ∷ sets) so all =
+    let parts = and_parts (is_legal_set set) (list_all is_legal_set sets) all in
+    both (both parts.0 (found_legal config.set_descriptions set.0 so.set_descriptions)) (described_legal config sets so parts.1)
+
+of_sets : (config : RepositoryConfig) (sets : List NamedSet) → Texts config → list_all is_legal_set sets ≡ true → IsLegalAnswer (sets_answer config sets)
+of_sets config [] so all = tt
+of_sets config (set ∷ sets) so all = described_legal config (set ∷ sets) so all
 
 selected_legal : (asked : Filter) (items : List ItemState) → list_all is_legal_item items ≡ true → list_all is_legal_item (selected asked items) ≡ true
 unfolding selected
@@ -313,9 +342,9 @@ selected_legal asked items all = all-filter is_legal_item (passes asked) items a
 done : (config : RepositoryConfig) (state : RepoState) (request : AskOrError) → Texts config → AreLegal state → IsDone (request_response config state request)
 done config state bad_verb so held = (tt, held.lists)
 done config state bad_argument so held = (tt, held.lists)
-done config state (asks ask.Identify) so held = ((so.name, so.addresses), held.lists)
+done config state (asks ask.Identify) so held = ((so.name, so.addresses, all-filter is_legal_text is_canonical config.descriptions so.descriptions), held.lists)
 done config state (asks (ask.Formats identifier)) so held = (of_formats config state.holdings.items identifier so, held.lists)
-done config state (asks ask.Sets) so held = (of_sets state.holdings.sets held.sets, held.lists)
+done config state (asks ask.Sets) so held = (of_sets config state.holdings.sets so held.sets, held.lists)
 done config state (asks (ask.Get identifier prefix)) so held =
     (of_record config state.holdings.items identifier prefix (item_named identifier state.holdings.items) so refl held.items, held.lists)
 done config state (asks (ask.List verb prefix from until set)) so held =

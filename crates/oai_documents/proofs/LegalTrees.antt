@@ -23,9 +23,9 @@ use Rattle.oai_item.specs.declared.deleted_record.DeletedRecord.{DeletedRecord}
 use Rattle.oai_item.specs.declared.deleted_record.DeletedRecord.TheVariants.{No, Transient, Persistent}
 use Rattle.oai_item.specs.declared.fields.Field.{Field}
 use Rattle.oai_item.specs.declared.formats.Format.{Format}
-use Rattle.oai_answers.specs.Answers.{Attributes, Continuation, Description, Document, Page, VerbAnswer, arguments_told, completes, fails, gives_record, identifies, lists_formats, lists_headers, lists_records, lists_sets, remains, whole}
+use Rattle.oai_answers.specs.Answers.{Attributes, Continuation, DescribedSet, Description, Document, Page, VerbAnswer, arguments_told, completes, fails, gives_record, identifies, lists_formats, lists_headers, lists_records, lists_sets, remains, whole}
 use Rattle.oai_answers.specs.Documents.{code_of, deleted_text, granularity_text, message_of}
-use Rattle.oai_answers.specs.Seen.{IsGoodFormat, IsRegular, has_own_fields}
+use Rattle.oai_answers.specs.Seen.{IsGoodFormat, IsRegular, has_elements, has_own_fields}
 use Rattle.oai_answers.specs.declared.errors.ErrorCode.{ErrorCode}
 use Rattle.oai_answers.specs.declared.errors.ErrorCode.TheVariants.{BadVerb, BadArgument, BadResumptionToken, CannotDisseminateFormat, IdDoesNotExist, NoRecordsMatch, NoMetadataFormats, NoSetHierarchy}
 use Rattle.oai_answers.specs.declared.tokens.Extent.{Extent}
@@ -33,7 +33,7 @@ use Rattle.oai_answers.proofs.Printed.{IsNoTime, datestamp_lacks, decimal_lacks,
 use Rattle.oai_xml.specs.Ascii.{is_ascii_ncname}
 use Rattle.oai_xml.specs.LegalTexts.{are_elements_legal, is_legal_attribute, is_legal_tag, is_legal_text, leading_text}
 use Rattle.oai_xml.specs.QNames.{is_ascii_further}
-use Rattle.oai_xml.specs.Documents.{tree_in}
+use Rattle.oai_xml.specs.Documents.{is_canonical, tree_in}
 use Rattle.oai_xml.specs.Trees.{Attribute, Tree, end_tag, spelled, spelled_content, start_tag, text_of}
 use Rattle.oai_xml.specs.Whole.{IsElement}
 use Rattle.oai_xml.proofs.CanonicalLemmas.{element_tested, tree_again}
@@ -41,8 +41,8 @@ use Rattle.oai_xml.proofs.Spellings.{tree_spelled}
 use Rattle.oai_xml.proofs.LegalSpellings.{Legal, both as both_legal, end_legal, is_plain, legal, nothing_legal, plain, spelled_legal, start_legal, tested}
 use Rattle.oai_holdings.specs.Holdings.{NamedSet}
 use Rattle.oai_answers.specs.ElementParts.{bare_leaf, bare_parent, element_attribute, in_order, leaf, parent}
-use Rattle.oai_documents.specs.DocumentTrees.{answer_tree, argument_attribute, arguments, document_tree, error_tree, extent, format_tree, formats_tree, header_tree, headers_tree, identify_tree, metadata_parts, record_tree, records_tree, request_tree, root_attributes, set_tree, sets_tree, status, token_trees}
-use Rattle.oai_answers.specs.MetadataTrees.{declared_attributes, declared_tree, dublin_core_attributes, dublin_core_tree, field_tree, fields_tree, instance_namespace, metadata_tree, tree_or}
+use Rattle.oai_documents.specs.DocumentTrees.{answer_tree, argument_attribute, arguments, container_tree, document_tree, error_tree, extent, format_tree, formats_tree, header_tree, headers_tree, identify_tree, metadata_parts, record_tree, records_tree, request_tree, root_attributes, set_tree, sets_tree, status, token_trees}
+use Rattle.oai_answers.specs.MetadataTrees.{declared_attributes, declared_tree, dublin_core_attributes, dublin_core_tree, element_tree, field_tree, fields_tree, instance_namespace, metadata_tree, tree_or}
 use Rattle.oai_answers.proofs.NamedTrees.{canonical_so, kept_so}
 use Rattle.oai_answers.proofs.Written.{in_order_spelled}
 use Rattle.oai_documents.specs.Texts.{have_legal_arguments, is_legal_argument, is_legal_field, is_legal_format, is_legal_item, is_legal_record, is_legal_set}
@@ -259,18 +259,6 @@ granularity_legal : (granularity : Granularity) → IsText (granularity_text gra
 granularity_legal Day = plain_text (granularity_text Day) refl
 granularity_legal Second = plain_text (granularity_text Second) refl
 
-identify_fine : (base : List ℕ) (d : Description) → IsText base → IsText d.name → list_all is_legal_text d.addresses ≡ true → IsFine (identify_tree base d)
-unfolding identify_tree
-identify_fine base d url name all =
-    let addresses = each_fine (bare_leaf (codes "adminEmail")) is_legal_text (λ a is. fine_leaf (codes "adminEmail") a refl is) d.addresses all in
-    let last = both (fine_leaf (codes "earliestDatestamp") (datestamp_text d.granularity d.earliest) refl (datestamp_legal d.granularity d.earliest))
-    (both (fine_leaf (codes "deletedRecord") (deleted_text d.deleted) refl (deleted_legal d.deleted))
-    (both (fine_leaf (codes "granularity") (granularity_text d.granularity) refl (granularity_legal d.granularity)) refl)) in
-    fine_parent (codes "Identify") _ refl
-    (both (fine_leaf (codes "repositoryName") d.name refl name)
-    (both (fine_leaf (codes "baseURL") base refl url)
-    (both (fine_leaf (codes "protocolVersion") (codes "2.0") refl (plain_text (codes "2.0") refl)) (and_more (map (bare_leaf (codes "adminEmail")) d.addresses) _ addresses last))))
-
 format_fine : (format : Format) → is_legal_format format ≡ true → IsFine (format_tree format)
 unfolding format_tree
 format_fine format is =
@@ -283,16 +271,6 @@ format_fine format is =
 formats_fine : (formats : List Format) → list_all is_legal_format formats ≡ true → IsFine (formats_tree formats)
 unfolding formats_tree
 formats_fine formats all = fine_parent (codes "ListMetadataFormats") _ refl (each_fine format_tree is_legal_format format_fine formats all)
-
-set_fine : (set : NamedSet) → is_legal_set set ≡ true → IsFine (set_tree set)
-unfolding set_tree
-set_fine set is =
-    let parts = and_parts (is_legal_text set.0) (is_legal_text set.1) is in
-    fine_parent (codes "set") _ refl (both (fine_leaf (codes "setSpec") set.0 refl parts.0) (both (fine_leaf (codes "setName") set.1 refl parts.1) refl))
-
-sets_fine : (sets : List NamedSet) → list_all is_legal_set sets ≡ true → IsFine (sets_tree sets)
-unfolding sets_tree
-sets_fine sets all = fine_parent (codes "ListSets") _ refl (each_fine set_tree is_legal_set set_fine sets all)
 
 -- ---- metadata
 
@@ -473,12 +451,58 @@ records_fine format page good is own all token =
 
 -- ---- documents
 
+-- ---- Identify, with the elements that describe the repository
+
+container_fine : (name text : List ℕ) → is_ascii_ncname name ≡ true → (is_canonical text && is_legal_text text) ≡ true → IsFine (container_tree name text)
+unfolding container_tree
+container_fine name text is fit =
+    let parts = and_parts (is_canonical text) (is_legal_text text) fit in
+    fine_parent name (element_tree text ∷ []) is (both (element_fine (bare_parent [] []) text (element_tested text parts.0) parts.1) refl)
+
+descriptions_fine : (name : List ℕ) (texts : List (List ℕ)) → is_ascii_ncname name ≡ true → list_all is_canonical texts ≡ true → list_all is_legal_text texts ≡ true
+    → list_all is_fine (map (container_tree name) texts) ≡ true
+descriptions_fine name texts is regular all =
+    each_fine (container_tree name) (λ text. is_canonical text && is_legal_text text) (λ text fit. container_fine name text is fit) texts (all_and is_canonical is_legal_text texts regular all)
+
+identify_fine : (base : List ℕ) (d : Description) → IsText base → IsText d.name → list_all is_legal_text d.addresses ≡ true → list_all is_canonical d.descriptions ≡ true
+    → list_all is_legal_text d.descriptions ≡ true → IsFine (identify_tree base d)
+unfolding identify_tree
+identify_fine base d url name all regular its =
+    let addresses = each_fine (bare_leaf (codes "adminEmail")) is_legal_text (λ a is. fine_leaf (codes "adminEmail") a refl is) d.addresses all in
+    let last = both (fine_leaf (codes "earliestDatestamp") (datestamp_text d.granularity d.earliest) refl (datestamp_legal d.granularity d.earliest))
+    (both (fine_leaf (codes "deletedRecord") (deleted_text d.deleted) refl (deleted_legal d.deleted))
+    (both (fine_leaf (codes "granularity") (granularity_text d.granularity) refl (granularity_legal d.granularity)) (descriptions_fine (codes "description") d.descriptions refl regular its))) in
+    fine_parent (codes "Identify") _ refl
+    (both (fine_leaf (codes "repositoryName") d.name refl name)
+    (both (fine_leaf (codes "baseURL") base refl url)
+    (both (fine_leaf (codes "protocolVersion") (codes "2.0") refl (plain_text (codes "2.0") refl)) (and_more (map (bare_leaf (codes "adminEmail")) d.addresses) _ addresses last))))
+
+-- ---- sets, with the elements that describe them
+
+abbrev pub is_legal_described : DescribedSet → Bool
+is_legal_described set = is_legal_text set.spec && is_legal_text set.name && list_all is_legal_text set.descriptions
+
+set_fine : (set : DescribedSet) → (has_elements set && is_legal_described set) ≡ true → IsFine (set_tree set)
+unfolding set_tree
+set_fine set fit =
+    let both_parts = and_parts (has_elements set) (is_legal_described set) fit in
+    let three = and_parts (is_legal_text set.spec && is_legal_text set.name) (list_all is_legal_text set.descriptions) both_parts.1 in
+    let two = and_parts (is_legal_text set.spec) (is_legal_text set.name) three.0 in
+    fine_parent (codes "set") _ refl
+    (both (fine_leaf (codes "setSpec") set.spec refl two.0)
+    (both (fine_leaf (codes "setName") set.name refl two.1) (descriptions_fine (codes "setDescription") set.descriptions refl both_parts.0 three.1)))
+
+sets_fine : (sets : List DescribedSet) → list_all has_elements sets ≡ true → list_all is_legal_described sets ≡ true → IsFine (sets_tree sets)
+unfolding sets_tree
+sets_fine sets regular all =
+    fine_parent (codes "ListSets") _ refl (each_fine set_tree (λ set. has_elements set && is_legal_described set) set_fine sets (all_and has_elements is_legal_described sets regular all))
+
 -- the texts of an answer are legal
 abbrev pub IsLegalAnswer : VerbAnswer → Type 0
 IsLegalAnswer (fails code) = Unit {0}
-IsLegalAnswer (identifies d) = (is_legal_text d.name ≡ true) × (list_all is_legal_text d.addresses ≡ true)
+IsLegalAnswer (identifies d) = (is_legal_text d.name ≡ true) × (list_all is_legal_text d.addresses ≡ true) × (list_all is_legal_text d.descriptions ≡ true)
 IsLegalAnswer (lists_formats formats) = list_all is_legal_format formats ≡ true
-IsLegalAnswer (lists_sets sets) = list_all is_legal_set sets ≡ true
+IsLegalAnswer (lists_sets sets) = list_all is_legal_described sets ≡ true
 IsLegalAnswer (gives_record d) = (is_legal_format d.format ≡ true) × (is_legal_item d.item ≡ true)
 IsLegalAnswer (lists_headers page) = (list_all is_legal_item page.items ≡ true) × (is_legal_token page.continuation ≡ true)
 IsLegalAnswer (lists_records format page) = (is_legal_format format ≡ true) × (list_all is_legal_item page.items ≡ true) × (is_legal_token page.continuation ≡ true)
@@ -486,9 +510,9 @@ IsLegalAnswer (lists_records format page) = (is_legal_format format ≡ true) ×
 answer_fine : (base : List ℕ) (answer : VerbAnswer) → IsText base → IsRegular answer → IsLegalAnswer answer → IsFine (answer_tree base answer)
 unfolding answer_tree
 answer_fine base (fails code) url regular so = error_fine code
-answer_fine base (identifies d) url regular so = identify_fine base d url so.0 so.1
+answer_fine base (identifies d) url regular so = identify_fine base d url so.0 so.1 regular so.2
 answer_fine base (lists_formats formats) url regular so = formats_fine formats so
-answer_fine base (lists_sets sets) url regular so = sets_fine sets so
+answer_fine base (lists_sets sets) url regular so = sets_fine sets regular so
 answer_fine base (gives_record d) url regular so =
     fine_parent (codes "GetRecord") (record_tree d.granularity d.format d.item ∷ []) refl (both (record_fine d.granularity d.format d.item regular.0 so.0 (both regular.1 so.1)) refl)
 answer_fine base (lists_headers page) url regular so = headers_fine page so.0 so.1

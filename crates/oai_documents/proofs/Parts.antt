@@ -1,15 +1,20 @@
 -- The request, errors, Identify, formats and sets are the spellings of their trees.
-use Rattle.std.proofs.Common.{◌≡◌, ◌∙◌, ℕ, List, [], ◌∷◌, ◌++◌, map, codes, Option, None, Some, refl, sym, ap, append_assoc}
-use Rattle.std.specs.List.{flat_map}
+use Rattle.std.proofs.Common.{◌≡◌, ◌∙◌, ℕ, List, [], ◌∷◌, ◌++◌, map, codes, Option, None, Some, refl, sym, ap, true, append-nil, append_assoc}
+use Rattle.std.specs.List.{flat_map, list_all}
+use Rattle.std.proofs.lemmas.Bool.{and_parts}
 use Rattle.oai_time.specs.TimeTexts.{datestamp_text}
 use Rattle.oai_item.specs.declared.formats.Format.{Format}
+use Rattle.oai_xml.specs.Documents.{is_canonical}
 use Rattle.oai_xml.specs.Trees.{Attribute, Tree, spelled, spelled_attribute}
-use Rattle.oai_answers.specs.Answers.{Attributes, Description, Document, arguments_told}
+use Rattle.oai_xml.proofs.CanonicalLemmas.{element_tested, tree_again}
+use Rattle.oai_answers.specs.Answers.{Attributes, DescribedSet, Description, Document, arguments_told}
 use Rattle.oai_answers.specs.Documents.{attributes, code_of, deleted_text, error_element, format_element, formats_element, given_attribute, granularity_text, identify_element, message_of, request_element, set_element, sets_element}
-use Rattle.oai_answers.specs.Markup.{end_tag, plain, spelled_attribute as marked_attribute, text_element}
+use Rattle.oai_answers.specs.Seen.{has_elements}
+use Rattle.oai_answers.specs.Markup.{container, end_tag, plain, spelled_attribute as marked_attribute, text_element}
 use Rattle.oai_answers.specs.declared.errors.ErrorCode.{ErrorCode}
-use Rattle.oai_answers.specs.ElementParts.{bare_leaf, element_attribute}
-use Rattle.oai_documents.specs.DocumentTrees.{argument_attribute, arguments, error_tree, format_tree, formats_tree, identify_tree, request_tree, set_tree, sets_tree}
+use Rattle.oai_answers.specs.ElementParts.{bare_leaf, bare_parent, element_attribute}
+use Rattle.oai_answers.specs.MetadataTrees.{element_tree, tree_or}
+use Rattle.oai_documents.specs.DocumentTrees.{argument_attribute, arguments, container_tree, error_tree, format_tree, formats_tree, identify_tree, request_tree, set_tree, sets_tree}
 use Rattle.oai_documents.proofs.Unescaped.{code_same, datestamp_free, deleted_same, free_text, granularity_same, message_same, version_same}
 use Rattle.oai_answers.proofs.Written.{attribute_as, attribute_written, bare_leaf_written, bare_parent_written, each_written, leaf_written, one_attribute, only, plain_leaf_written, start_written, then_attributes, then_more, then_one}
 
@@ -57,12 +62,28 @@ error_written code =
 
 -- ---- Identify
 
-three_more : (front : List Tree) (a b c : Tree) → front ++ a ∷ [] ++ b ∷ [] ++ c ∷ [] ≡ front ++ a ∷ b ∷ c ∷ []
-three_more front a b c = ap (λ (w : List Tree). w ++ c ∷ []) (append_assoc front (a ∷ []) (b ∷ [])) ∙ append_assoc front (a ∷ b ∷ []) (c ∷ [])
+-- an element in a container is the spelling of its tree
+container_written : (name text : List ℕ) → is_canonical text ≡ true → container name text ≡ spelled (container_tree name text)
+unfolding container container_tree plain
+container_written name text is =
+    let e = element_tested text is in
+    bare_parent_written name text (element_tree text ∷ [])
+    (e.1.bytes_are ∙ ap (λ o. spelled (tree_or (bare_parent [] []) o)) (sym (tree_again text e.0 e.1)) ∙ sym (append-nil (spelled (element_tree text))))
 
-pub identify_written : (base : List ℕ) (d : Description) → identify_element base d ≡ spelled (identify_tree base d)
+pub containers_written : (name : List ℕ) (texts : List (List ℕ)) → list_all is_canonical texts ≡ true
+    → flat_map (container name) texts ≡ flat_map spelled (map (container_tree name) texts)
+containers_written name [] all = refl
+containers_written name (text ∷ texts) all =
+    let parts = and_parts (is_canonical text) (list_all is_canonical texts) all in
+    ap (λ (w : List ℕ). w ++ flat_map (container name) texts) (container_written name text parts.0)
+    ∙ ap (λ (w : List ℕ). spelled (container_tree name text) ++ w) (containers_written name texts parts.1)
+
+four_more : (front : List Tree) (a b c : Tree) (others : List Tree) → front ++ a ∷ [] ++ b ∷ [] ++ c ∷ [] ++ others ≡ front ++ a ∷ b ∷ c ∷ others
+four_more front a b c others = simp append_assoc refl
+
+pub identify_written : (base : List ℕ) (d : Description) → list_all is_canonical d.descriptions ≡ true → identify_element base d ≡ spelled (identify_tree base d)
 unfolding identify_element identify_tree plain
-identify_written base d =
+identify_written base d all =
     let name : Tree = bare_leaf (codes "repositoryName") d.name in
     let url : Tree = bare_leaf (codes "baseURL") base in
     let version : Tree = bare_leaf (codes "protocolVersion") (codes "2.0") in
@@ -79,8 +100,10 @@ identify_written base d =
     let six = then_one _ _ (name ∷ url ∷ version ∷ (addresses ++ earliest ∷ [])) deleted five (plain_leaf_written (codes "deletedRecord") (deleted_text d.deleted) (deleted_same d.deleted)) in
     let seven = then_one _ _ (name ∷ url ∷ version ∷ (addresses ++ earliest ∷ [] ++ deleted ∷ [])) granularity six
     (plain_leaf_written (codes "granularity") (granularity_text d.granularity) (granularity_same d.granularity)) in
-    bare_parent_written (codes "Identify") _ (name ∷ url ∷ version ∷ (addresses ++ earliest ∷ deleted ∷ granularity ∷ []))
-    (seven ∙ ap (λ (w : List Tree). flat_map spelled (name ∷ url ∷ version ∷ w)) (three_more addresses earliest deleted granularity))
+    let descriptions : List Tree = map (container_tree (codes "description")) d.descriptions in
+    let eight = then_more _ _ (name ∷ url ∷ version ∷ (addresses ++ earliest ∷ [] ++ deleted ∷ [] ++ granularity ∷ [])) descriptions seven (containers_written (codes "description") d.descriptions all) in
+    bare_parent_written (codes "Identify") _ (name ∷ url ∷ version ∷ (addresses ++ earliest ∷ deleted ∷ granularity ∷ descriptions))
+    (eight ∙ ap (λ (w : List Tree). flat_map spelled (name ∷ url ∷ version ∷ w)) (four_more addresses earliest deleted granularity descriptions))
 
 -- ---- formats
 
@@ -102,14 +125,23 @@ formats_written formats =
 
 -- ---- sets
 
-set_written : (set : List ℕ × List ℕ) → set_element set ≡ spelled (set_tree set)
+set_written : (set : DescribedSet) → has_elements set ≡ true → set_element set ≡ spelled (set_tree set)
 unfolding set_element set_tree
-set_written set =
-    let spec : Tree = bare_leaf (codes "setSpec") set.0 in
-    let name : Tree = bare_leaf (codes "setName") set.1 in
-    let one = only _ spec (bare_leaf_written (codes "setSpec") set.0) in
-    bare_parent_written (codes "set") _ (spec ∷ name ∷ []) (then_one _ _ (spec ∷ []) name one (bare_leaf_written (codes "setName") set.1))
+set_written set all =
+    let spec : Tree = bare_leaf (codes "setSpec") set.spec in
+    let name : Tree = bare_leaf (codes "setName") set.name in
+    let descriptions : List Tree = map (container_tree (codes "setDescription")) set.descriptions in
+    let one = only _ spec (bare_leaf_written (codes "setSpec") set.spec) in
+    let two = then_one _ _ (spec ∷ []) name one (bare_leaf_written (codes "setName") set.name) in
+    bare_parent_written (codes "set") _ (spec ∷ name ∷ descriptions)
+    (then_more _ _ (spec ∷ name ∷ []) descriptions two (containers_written (codes "setDescription") set.descriptions all))
 
-pub sets_written : (sets : List (List ℕ × List ℕ)) → sets_element sets ≡ spelled (sets_tree sets)
+each_set_written : (sets : List DescribedSet) → list_all has_elements sets ≡ true → flat_map set_element sets ≡ flat_map spelled (map set_tree sets)
+each_set_written [] all = refl
+each_set_written (set ∷ sets) all =
+    let parts = and_parts (has_elements set) (list_all has_elements sets) all in
+    ap (λ (w : List ℕ). w ++ flat_map set_element sets) (set_written set parts.0) ∙ ap (λ (w : List ℕ). spelled (set_tree set) ++ w) (each_set_written sets parts.1)
+
+pub sets_written : (sets : List DescribedSet) → list_all has_elements sets ≡ true → sets_element sets ≡ spelled (sets_tree sets)
 unfolding sets_element sets_tree
-sets_written sets = bare_parent_written (codes "ListSets") _ (map set_tree sets) (each_written set_element set_tree set_written sets)
+sets_written sets all = bare_parent_written (codes "ListSets") _ (map set_tree sets) (each_set_written sets all)

@@ -132,9 +132,9 @@ records_written format page good own =
 answer_written : (base : List ℕ) (answer : VerbAnswer) → IsRegular answer → answer_element base answer ≡ spelled (answer_tree base answer)
 unfolding answer_tree get_record_element
 answer_written base (fails code) regular = error_written code
-answer_written base (identifies d) regular = identify_written base d
+answer_written base (identifies d) regular = identify_written base d regular
 answer_written base (lists_formats formats) regular = formats_written formats
-answer_written base (lists_sets sets) regular = sets_written sets
+answer_written base (lists_sets sets) regular = sets_written sets regular
 answer_written base (gives_record d) regular =
     bare_parent_written (codes "GetRecord") _ (record_tree d.granularity d.format d.item ∷ []) (only _ (record_tree d.granularity d.format d.item) (record_written d.granularity d.format d.item (canonical_own d.format (fields_in d.format.prefix d.item.formats) regular.0 regular.1)))
 answer_written base (lists_headers page) regular = headers_written page

@@ -28,17 +28,17 @@ use Rattle.oai_xml.specs.Namespaces.{declared, is_declaring, namespace_of, xml_n
 use Rattle.oai_xml.specs.Documents.{is_canonical, tree_in}
 use Rattle.oai_xml.specs.Whole.{IsElement, names_of, within}
 use Rattle.oai_xml.proofs.CanonicalLemmas.{element_tested, tree_again}
-use Rattle.oai_answers.specs.Answers.{Attributes, Continuation, Description, Document, Page, VerbAnswer, arguments_told, completes, fails, gives_record, identifies, lists_formats, lists_headers, lists_records, lists_sets, remains, whole}
+use Rattle.oai_answers.specs.Answers.{Attributes, Continuation, DescribedSet, Description, Document, Page, VerbAnswer, arguments_told, completes, fails, gives_record, identifies, lists_formats, lists_headers, lists_records, lists_sets, remains, whole}
 use Rattle.oai_answers.specs.Documents.{code_of, deleted_text, granularity_text, message_of}
 use Rattle.oai_answers.specs.Seen.{IsGoodFormat, IsRegular, has_own_fields}
 use Rattle.oai_answers.proofs.NamedTrees.{kept_so}
 use Rattle.oai_answers.specs.declared.errors.ErrorCode.{ErrorCode}
 use Rattle.oai_answers.specs.declared.errors.ErrorCode.TheVariants.{BadVerb, BadArgument, BadResumptionToken, CannotDisseminateFormat, IdDoesNotExist, NoRecordsMatch, NoMetadataFormats, NoSetHierarchy}
 use Rattle.oai_answers.specs.ElementParts.{bare_leaf, bare_parent}
-use Rattle.oai_documents.specs.DocumentTrees.{answer_tree, document_tree, error_tree, extent, format_tree, formats_tree, header_tree, headers_tree, identify_tree, metadata_parts, record_tree, records_tree, request_tree, root_attributes, set_tree, sets_tree, status, token_trees}
-use Rattle.oai_answers.specs.MetadataTrees.{declared_attributes, declared_tree, dublin_core_attributes, dublin_core_tree, fields_tree, instance_namespace, metadata_tree, tree_or}
+use Rattle.oai_documents.specs.DocumentTrees.{answer_tree, container_tree, document_tree, error_tree, extent, format_tree, formats_tree, header_tree, headers_tree, identify_tree, metadata_parts, record_tree, records_tree, request_tree, root_attributes, set_tree, sets_tree, status, token_trees}
+use Rattle.oai_answers.specs.MetadataTrees.{declared_attributes, declared_tree, dublin_core_attributes, dublin_core_tree, element_tree, fields_tree, instance_namespace, metadata_tree, tree_or}
 use Rattle.oai_documents.specs.Schema.{Any, AreAnswerElements, IsContainer, IsError, IsForeign, IsFormatElement, IsFormats, IsHeader, IsHeaders, IsIdentify, IsOfSchema, IsOneOf, IsRecord, IsRecords, IsRequestElement, IsSet, IsSets, IsTextElement, IsTokenElement, One, Optional, Several, ◌⨾◌, error_codes, oai_namespace}
-use Rattle.oai_documents.specs.WellFormed.{HasMembers, HasNamespace, IsFilled, is_foreign}
+use Rattle.oai_documents.specs.WellFormed.{HasMembers, has_root_in, HasNamespace, IsFilled, is_foreign}
 use Rattle.oai_documents.proofs.Arguments.{all_chosen, are_given, argument_names, names_given}
 use Rattle.oai_documents.proofs.Names.{no_prefix, rule_name}
 use Rattle.oai_documents.proofs.Scopes.{instance_scope}
@@ -113,13 +113,33 @@ granularity_known : (granularity : Granularity) → is_among (codes "YYYY-MM-DD"
 granularity_known Day = refl
 granularity_known Second = refl
 
-identify_is : (base : List ℕ) (d : Description) → HasMembers d.addresses → IsIdentify (identify_tree base d)
+-- an element of another namespace, in its container
+container_is : (name text : List ℕ) → has_root_in is_foreign text ≡ true → IsContainer name (container_tree name text)
+unfolding container_tree
+container_is name text is = record { name_is = refl; attributes = refl; children = (_, refl, (element_tree text, refl, foreign)) }
+  where
+    neither_of : (own none : Bool) → (not none && not own) ≡ true → (own || none) ≡ false
+    neither_of true none h = grind h
+    neither_of false true h = cc
+    neither_of false false h = refl
+
+    foreign : IsForeign (element_tree text)
+    foreign = neither_of (bytes_eq (root_of (element_tree text)).namespace oai_namespace) (bytes_eq (root_of (element_tree text)).namespace []) is
+
+containers_are : (name : List ℕ) (texts : List (List ℕ)) → list_all (has_root_in is_foreign) texts ≡ true → Any (IsContainer name) (map (container_tree name) texts)
+containers_are name [] all = tt
+containers_are name (text ∷ texts) all =
+    let parts = and_parts (has_root_in is_foreign text) (list_all (has_root_in is_foreign) texts) all in
+    (container_is name text parts.0, containers_are name texts parts.1)
+
+identify_is : (base : List ℕ) (d : Description) → HasMembers d.addresses → list_all (has_root_in is_foreign) d.descriptions ≡ true → IsIdentify (identify_tree base d)
 unfolding identify_tree
-identify_is base d some =
+identify_is base d some own =
     let addresses : List Tree = map (bare_leaf (codes "adminEmail")) d.addresses in
     let earliest : Tree = bare_leaf (codes "earliestDatestamp") (datestamp_text d.granularity d.earliest) in
     let deleted : Tree = bare_leaf (codes "deletedRecord") (deleted_text d.deleted) in
     let granularity : Tree = bare_leaf (codes "granularity") (granularity_text d.granularity) in
+    let descriptions : List Tree = map (container_tree (codes "description")) d.descriptions in
     record {
       name_is = refl;
       attributes = refl;
@@ -130,12 +150,12 @@ identify_is base d some =
             (first_one _ _ _ _ (is_text (codes "baseURL") base)
             (first_one _ _ _ _ (one_of (codes "protocolVersion") (codes "2.0" ∷ []) (codes "2.0") refl) (
               addresses,
-              earliest ∷ deleted ∷ granularity ∷ [],
+              earliest ∷ deleted ∷ granularity ∷ descriptions,
               refl,
               several_of (IsTextElement (codes "adminEmail")) (bare_leaf (codes "adminEmail")) (is_text (codes "adminEmail")) d.addresses some,
               first_one _ _ _ _ (is_text (codes "earliestDatestamp") (datestamp_text d.granularity d.earliest))
                   (first_one _ _ _ _ (one_of (codes "deletedRecord") (codes "no" ∷ codes "persistent" ∷ codes "transient" ∷ []) (deleted_text d.deleted) (deleted_known d.deleted))
-                  (first_one _ _ _ _ (one_of (codes "granularity") (codes "YYYY-MM-DD" ∷ codes "YYYY-MM-DDThh:mm:ssZ" ∷ []) (granularity_text d.granularity) (granularity_known d.granularity)) ([], [], refl, tt, tt))),
+                  (first_one _ _ _ _ (one_of (codes "granularity") (codes "YYYY-MM-DD" ∷ codes "YYYY-MM-DDThh:mm:ssZ" ∷ []) (granularity_text d.granularity) (granularity_known d.granularity)) ([], descriptions, refl, tt, containers_are (codes "description") d.descriptions own))),
             ))),
       );
     }
@@ -157,20 +177,30 @@ formats_are : (formats : List Format) → HasMembers formats → IsFormats (form
 unfolding formats_tree
 formats_are formats some = record { name_is = refl; attributes = refl; children = (map format_tree formats, refl, several_of IsFormatElement format_tree format_is formats some) }
 
-set_is : (set : List ℕ × List ℕ) → IsSet (set_tree set)
+set_is : (set : DescribedSet) → list_all (has_root_in is_foreign) set.descriptions ≡ true → IsSet (set_tree set)
 unfolding set_tree
-set_is set = record {
+set_is set own = record {
   name_is = refl;
   attributes = refl;
-  children = (_, refl, first_one _ _ _ _ (is_text (codes "setSpec") set.0) (first_one _ _ _ _ (is_text (codes "setName") set.1) tt));
+  children = (_, refl, first_one _ _ _ _ (is_text (codes "setSpec") set.spec) (first_one _ _ _ _ (is_text (codes "setName") set.name) (containers_are (codes "setDescription") set.descriptions own)));
 }
 
-sets_are : (sets : List (List ℕ × List ℕ)) → HasMembers sets → IsSets (sets_tree sets)
+each_set : (sets : List DescribedSet) → list_all (λ (set : DescribedSet). list_all (has_root_in is_foreign) set.descriptions) sets ≡ true → Any IsSet (map set_tree sets)
+each_set [] own = tt
+each_set (set ∷ sets) own =
+    let parts = and_parts (list_all (has_root_in is_foreign) set.descriptions) (list_all (λ (set : DescribedSet). list_all (has_root_in is_foreign) set.descriptions) sets) own in
+    (set_is set parts.0, each_set sets parts.1)
+
+some_sets : (sets : List DescribedSet) → HasMembers sets → Any IsSet (map set_tree sets) → Several IsSet (map set_tree sets)
+some_sets [] none each = absurd none
+some_sets (set ∷ sets) some each = each
+
+sets_are : (sets : List DescribedSet) → HasMembers sets → list_all (λ (set : DescribedSet). list_all (has_root_in is_foreign) set.descriptions) sets ≡ true → IsSets (sets_tree sets)
 unfolding sets_tree
-sets_are sets some = record {
+sets_are sets some own = record {
   name_is = refl;
   attributes = refl;
-  children = (map set_tree sets, refl, (map set_tree sets, [], sym (append-nil (map set_tree sets)), several_of IsSet set_tree set_is sets some, inl refl));
+  children = (map set_tree sets, refl, (map set_tree sets, [], sym (append-nil (map set_tree sets)), some_sets sets some (each_set sets own), inl refl));
 }
 
 -- ---- metadata
@@ -363,9 +393,9 @@ records_are format page good other some own =
 answer_is : (base : List ℕ) (answer : VerbAnswer) → IsRegular answer → IsFilled answer → HasNamespace is_foreign answer → AreAnswerElements (answer_tree base answer ∷ [])
 unfolding answer_tree
 answer_is base (fails code) regular filled other = inl (error_is code, tt)
-answer_is base (identifies d) regular filled other = inr (inl (identify_tree base d, refl, identify_is base d filled))
+answer_is base (identifies d) regular filled other = inr (inl (identify_tree base d, refl, identify_is base d filled other))
 answer_is base (lists_formats formats) regular filled other = inr (inr (inl (formats_tree formats, refl, formats_are formats filled)))
-answer_is base (lists_sets sets) regular filled other = inr (inr (inr (inl (sets_tree sets, refl, sets_are sets filled))))
+answer_is base (lists_sets sets) regular filled other = inr (inr (inr (inl (sets_tree sets, refl, sets_are sets filled other))))
 answer_is base (gives_record d) regular filled other =
     inr (inr (inr (inr (inl (
       _,

@@ -21,21 +21,21 @@ use Rattle.oai_xml.specs.Ascii.{is_ascii_ncname}
 use Rattle.oai_xml.specs.QNames.{prefix_of}
 use Rattle.oai_xml.specs.Trees.{Tree}
 use Rattle.oai_xml.specs.Namespaces.{Scope, are_alike, are_unlike, is_declaring}
-use Rattle.oai_xml.specs.Documents.{tree_in}
+use Rattle.oai_xml.specs.Documents.{is_canonical, tree_in}
 use Rattle.oai_xml.specs.Whole.{IsElement, is_whole, is_whole_in}
 use Rattle.oai_xml.proofs.CanonicalLemmas.{element_tested, tree_again}
 use Rattle.oai_xml.specs.declared.limits.TheConstants.{MAX_DEPTH}
-use Rattle.oai_answers.specs.Answers.{Continuation, Description, Document, Page, VerbAnswer, arguments_told, completes, fails, gives_record, identifies, lists_formats, lists_headers, lists_records, lists_sets, remains, whole}
+use Rattle.oai_answers.specs.Answers.{Continuation, DescribedSet, Description, Document, Page, VerbAnswer, arguments_told, completes, fails, gives_record, identifies, lists_formats, lists_headers, lists_records, lists_sets, remains, whole}
 use Rattle.oai_answers.specs.Documents.{code_of, deleted_text, granularity_text, message_of}
-use Rattle.oai_answers.specs.Seen.{IsGoodFormat, IsRegular, has_own_fields}
+use Rattle.oai_answers.specs.Seen.{IsGoodFormat, IsRegular, has_elements, has_own_fields}
 use Rattle.oai_answers.specs.declared.errors.ErrorCode.{ErrorCode}
 use Rattle.oai_answers.specs.declared.tokens.Extent.{Extent}
 use Rattle.oai_answers.specs.ElementParts.{bare_leaf, bare_parent, element_attribute}
-use Rattle.oai_documents.specs.DocumentTrees.{answer_tree, arguments, document_tree, error_tree, extent, format_tree, formats_tree, header_tree, headers_tree, identify_tree, metadata_parts, record_tree, records_tree, request_tree, root_attributes, set_tree, sets_tree, status, token_trees}
-use Rattle.oai_answers.specs.MetadataTrees.{declared_attributes, declared_tree, dublin_core_attributes, dublin_core_tree, field_tree, fields_tree, metadata_tree, tree_or}
+use Rattle.oai_documents.specs.DocumentTrees.{answer_tree, arguments, container_tree, document_tree, error_tree, extent, format_tree, formats_tree, header_tree, headers_tree, identify_tree, metadata_parts, record_tree, records_tree, request_tree, root_attributes, set_tree, sets_tree, status, token_trees}
+use Rattle.oai_answers.specs.MetadataTrees.{declared_attributes, declared_tree, dublin_core_attributes, dublin_core_tree, element_tree, field_tree, fields_tree, metadata_tree, tree_or}
 use Rattle.oai_answers.proofs.NamedTrees.{canonical_so, kept_so}
-use Rattle.oai_documents.specs.WellFormed.{HasNamespace, HasFittingElements, fits_in_document, has_fitting_element, may_be_default}
-use Rattle.oai_documents.proofs.Deeper.{element_behind}
+use Rattle.oai_documents.specs.WellFormed.{HasNamespace, HasFittingElements, fits_in_document, has_fitting_element, is_fitting, may_be_default}
+use Rattle.oai_documents.proofs.Deeper.{element_behind, element_behind_more}
 use Rattle.oai_documents.proofs.Names.{rule_name}
 use Rattle.oai_documents.proofs.Tags.{IsPlainTag, all_whole, and_others, bare_leaf_whole, bare_parent_whole, both, each_whole, leaf_by_tag, leaf_whole, parent_by_tag, parent_whole}
 use Rattle.oai_documents.proofs.Scopes.{declared_ready, declared_scope, declared_tag, dublin_core_scope, dublin_core_tag, field_tag, is_reserved, oai_ready, oai_scope, root_scope, root_tag}
@@ -70,17 +70,6 @@ error_whole : (code : ErrorCode) → IsFine 127 (error_tree code)
 unfolding error_tree
 error_whole code = leaf_whole 127 oai_scope (codes "error") (element_attribute (codes "code") (code_of code) ∷ []) (message_of code) refl oai_ready (error_tag (code_of code))
 
-identify_whole : (base : List ℕ) (d : Description) → IsFine 127 (identify_tree base d)
-unfolding identify_tree
-identify_whole base d =
-    let addresses = all_whole 126 oai_scope (bare_leaf (codes "adminEmail")) (λ a. fine_leaf 126 (codes "adminEmail") a refl refl) d.addresses in
-    let last = both (fine_leaf 126 (codes "earliestDatestamp") (datestamp_text d.granularity d.earliest) refl refl)
-    (both (fine_leaf 126 (codes "deletedRecord") (deleted_text d.deleted) refl refl) (both (fine_leaf 126 (codes "granularity") (granularity_text d.granularity) refl refl) refl)) in
-    fine_parent 127 (codes "Identify") _ refl refl
-    (both (fine_leaf 126 (codes "repositoryName") d.name refl refl)
-    (both (fine_leaf 126 (codes "baseURL") base refl refl)
-    (both (fine_leaf 126 (codes "protocolVersion") (codes "2.0") refl refl) (and_others 126 oai_scope (map (bare_leaf (codes "adminEmail")) d.addresses) _ addresses last))))
-
 format_whole : (format : Format) → IsFine 126 (format_tree format)
 unfolding format_tree
 format_whole format =
@@ -91,15 +80,6 @@ format_whole format =
 formats_whole : (formats : List Format) → IsFine 127 (formats_tree formats)
 unfolding formats_tree
 formats_whole formats = fine_parent 127 (codes "ListMetadataFormats") _ refl refl (all_whole 126 oai_scope format_tree format_whole formats)
-
-set_whole : (set : List ℕ × List ℕ) → IsFine 126 (set_tree set)
-unfolding set_tree
-set_whole set =
-    fine_parent 126 (codes "set") _ refl refl (both (fine_leaf 125 (codes "setSpec") set.0 refl refl) (both (fine_leaf 125 (codes "setName") set.1 refl refl) refl))
-
-sets_whole : (sets : List (List ℕ × List ℕ)) → IsFine 127 (sets_tree sets)
-unfolding sets_tree
-sets_whole sets = fine_parent 127 (codes "ListSets") _ refl refl (all_whole 126 oai_scope set_tree set_whole sets)
 
 -- ---- names of formats and fields
 
@@ -264,14 +244,71 @@ records_whole format page good none own room =
     fine_parent 127 (codes "ListRecords") _ refl refl
     (and_others 126 oai_scope (map (record_tree page.granularity format) page.items) (token_trees page.continuation) records (token_whole page.continuation))
 
+-- ---- Identify, with the elements that describe the repository
+
+-- an element is whole behind the declarations of the document, in a container
+element_fits : (text : List ℕ) → (is_canonical text && is_fitting text) ≡ true → IsFine 125 (element_tree text) × IsFine 124 (element_tree text)
+element_fits text fit =
+    let parts = and_parts (is_canonical text) (is_fitting text) fit in
+    let e = element_tested text parts.0 in
+    let found = tree_again text e.0 e.1 in
+    let room = ap (λ o. option_map_or fits_in_document o true) (sym found) ∙ parts.1 in (
+      ap (λ o. is_whole_in 125 oai_scope (tree_or (bare_parent [] []) o)) found ∙ element_behind_more oai_scope e.0 refl room e.1.whole,
+      ap (λ o. is_whole_in 124 oai_scope (tree_or (bare_parent [] []) o)) found ∙ element_behind oai_scope e.0 refl room e.1.whole,
+    )
+
+description_whole : (text : List ℕ) → (is_canonical text && is_fitting text) ≡ true → IsFine 126 (container_tree (codes "description") text)
+unfolding container_tree
+description_whole text fit = fine_parent 126 (codes "description") (element_tree text ∷ []) refl refl (both (element_fits text fit).0 refl)
+
+set_description_whole : (text : List ℕ) → (is_canonical text && is_fitting text) ≡ true → IsFine 125 (container_tree (codes "setDescription") text)
+unfolding container_tree
+set_description_whole text fit = fine_parent 125 (codes "setDescription") (element_tree text ∷ []) refl refl (both (element_fits text fit).1 refl)
+
+descriptions_whole : (texts : List (List ℕ)) → list_all is_canonical texts ≡ true → list_all is_fitting texts ≡ true
+    → list_all (is_whole_in 126 oai_scope) (map (container_tree (codes "description")) texts) ≡ true
+descriptions_whole texts regular room =
+    each_whole 126 oai_scope (container_tree (codes "description")) (λ text. is_canonical text && is_fitting text) description_whole texts (all_both is_canonical is_fitting texts regular room)
+
+set_descriptions_whole : (texts : List (List ℕ)) → list_all is_canonical texts ≡ true → list_all is_fitting texts ≡ true
+    → list_all (is_whole_in 125 oai_scope) (map (container_tree (codes "setDescription")) texts) ≡ true
+set_descriptions_whole texts regular room =
+    each_whole 125 oai_scope (container_tree (codes "setDescription")) (λ text. is_canonical text && is_fitting text) set_description_whole texts (all_both is_canonical is_fitting texts regular room)
+
+have_room : DescribedSet → Bool
+have_room set = list_all is_fitting set.descriptions
+
+set_whole : (set : DescribedSet) → (has_elements set && have_room set) ≡ true → IsFine 126 (set_tree set)
+unfolding set_tree have_room
+set_whole set fit =
+    let parts = and_parts (has_elements set) (list_all is_fitting set.descriptions) fit in
+    fine_parent 126 (codes "set") _ refl refl
+    (both (fine_leaf 125 (codes "setSpec") set.spec refl refl) (both (fine_leaf 125 (codes "setName") set.name refl refl) (set_descriptions_whole set.descriptions parts.0 parts.1)))
+
+sets_whole : (sets : List DescribedSet) → list_all has_elements sets ≡ true → list_all (λ (set : DescribedSet). list_all is_fitting set.descriptions) sets ≡ true → IsFine 127 (sets_tree sets)
+unfolding sets_tree have_room
+sets_whole sets regular room =
+    fine_parent 127 (codes "ListSets") _ refl refl (each_whole 126 oai_scope set_tree (λ set. has_elements set && have_room set) set_whole sets (all_both has_elements have_room sets regular room))
+
+identify_whole : (base : List ℕ) (d : Description) → list_all is_canonical d.descriptions ≡ true → list_all is_fitting d.descriptions ≡ true → IsFine 127 (identify_tree base d)
+unfolding identify_tree
+identify_whole base d regular room =
+    let addresses = all_whole 126 oai_scope (bare_leaf (codes "adminEmail")) (λ a. fine_leaf 126 (codes "adminEmail") a refl refl) d.addresses in
+    let last = both (fine_leaf 126 (codes "earliestDatestamp") (datestamp_text d.granularity d.earliest) refl refl)
+    (both (fine_leaf 126 (codes "deletedRecord") (deleted_text d.deleted) refl refl) (both (fine_leaf 126 (codes "granularity") (granularity_text d.granularity) refl refl) (descriptions_whole d.descriptions regular room))) in
+    fine_parent 127 (codes "Identify") _ refl refl
+    (both (fine_leaf 126 (codes "repositoryName") d.name refl refl)
+    (both (fine_leaf 126 (codes "baseURL") base refl refl)
+    (both (fine_leaf 126 (codes "protocolVersion") (codes "2.0") refl refl) (and_others 126 oai_scope (map (bare_leaf (codes "adminEmail")) d.addresses) _ addresses last))))
+
 -- ---- documents
 
 answer_whole : (base : List ℕ) (answer : VerbAnswer) → IsRegular answer → HasNamespace may_be_default answer → HasFittingElements answer → IsFine 127 (answer_tree base answer)
 unfolding answer_tree
 answer_whole base (fails code) regular own room = error_whole code
-answer_whole base (identifies d) regular own room = identify_whole base d
+answer_whole base (identifies d) regular own room = identify_whole base d regular room
 answer_whole base (lists_formats formats) regular own room = formats_whole formats
-answer_whole base (lists_sets sets) regular own room = sets_whole sets
+answer_whole base (lists_sets sets) regular own room = sets_whole sets regular room
 answer_whole base (gives_record d) regular own room =
     fine_parent 127 (codes "GetRecord") (record_tree d.granularity d.format d.item ∷ []) refl refl (both (record_whole d.granularity d.format d.item regular.0 (not-true (is_reserved d.format.namespace) own) regular.1 room) refl)
 answer_whole base (lists_headers page) regular own room = headers_whole page

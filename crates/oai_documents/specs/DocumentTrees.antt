@@ -7,12 +7,12 @@ use Rattle.oai_time.specs.declared.granularity.Granularity.{Granularity}
 use Rattle.oai_item.specs.Item.{ItemState, fields_in}
 use Rattle.oai_item.specs.declared.formats.Format.{Format}
 use Rattle.oai_xml.specs.Trees.{Attribute, Tree}
-use Rattle.oai_answers.specs.Answers.{Attributes, Continuation, Description, Document, Page, VerbAnswer, arguments_told, completes, fails, gives_record, identifies, lists_formats, lists_headers, lists_records, lists_sets, remains, whole}
+use Rattle.oai_answers.specs.Answers.{Attributes, Continuation, DescribedSet, Description, Document, Page, VerbAnswer, arguments_told, completes, fails, gives_record, identifies, lists_formats, lists_headers, lists_records, lists_sets, remains, whole}
 use Rattle.oai_answers.specs.Documents.{code_of, deleted_text, granularity_text, message_of}
 use Rattle.oai_answers.specs.declared.errors.ErrorCode.{ErrorCode}
 use Rattle.oai_answers.specs.declared.tokens.Extent.{Extent}
 use Rattle.oai_answers.specs.ElementParts.{bare_leaf, bare_parent, element_attribute, leaf, parent}
-use Rattle.oai_answers.specs.MetadataTrees.{instance_namespace, metadata_tree}
+use Rattle.oai_answers.specs.MetadataTrees.{element_tree, instance_namespace, metadata_tree}
 
 -- ---- the request. Section 3.2
 
@@ -42,6 +42,12 @@ unfoldable pub error_tree : ErrorCode → Tree
 error_tree code =
     leaf (codes "error") (element_attribute (codes "code") (code_of code) ∷ []) (message_of code)
 
+-- ---- containers of elements. Sections 2.5, 4.2 and 4.6
+
+-- an element in a container of that name, by its canonical text
+unfoldable pub container_tree : List ℕ → List ℕ → Tree
+container_tree name text = bare_parent name (element_tree text ∷ [])
+
 -- ---- Identify. Section 4.2
 
 unfoldable pub identify_tree : List ℕ → Description → Tree
@@ -53,7 +59,7 @@ identify_tree base d = bare_parent (codes "Identify")
     ++ bare_leaf (codes "earliestDatestamp") (datestamp_text d.granularity d.earliest)
     ∷ bare_leaf (codes "deletedRecord") (deleted_text d.deleted)
     ∷ bare_leaf (codes "granularity") (granularity_text d.granularity)
-    ∷ []))
+    ∷ map (container_tree (codes "description")) d.descriptions))
 
 -- ---- formats and sets. Sections 4.4 and 4.6
 
@@ -67,11 +73,11 @@ format_tree format = bare_parent (codes "metadataFormat")
 unfoldable pub formats_tree : List Format → Tree
 formats_tree formats = bare_parent (codes "ListMetadataFormats") (map format_tree formats)
 
-unfoldable pub set_tree : List ℕ × List ℕ → Tree
+unfoldable pub set_tree : DescribedSet → Tree
 set_tree set = bare_parent (codes "set")
-    (bare_leaf (codes "setSpec") set.0 ∷ bare_leaf (codes "setName") set.1 ∷ [])
+    (bare_leaf (codes "setSpec") set.spec ∷ bare_leaf (codes "setName") set.name ∷ map (container_tree (codes "setDescription")) set.descriptions)
 
-unfoldable pub sets_tree : List (List ℕ × List ℕ) → Tree
+unfoldable pub sets_tree : List DescribedSet → Tree
 sets_tree sets = bare_parent (codes "ListSets") (map set_tree sets)
 
 -- ---- headers and records. Sections 2.5, 2.5.1 and 4.1

@@ -10,6 +10,7 @@ use Rattle.oai_item.specs.declared.fields.Field.{Field}
 use Rattle.oai_item.specs.declared.formats.Format.{Format}
 use Rattle.oai_answers.specs.Answers.{Attributes}
 use Rattle.oai_xml.specs.LegalTexts.{is_legal_text}
+use Rattle.oai_xml.specs.Named.{NamedList}
 use Rattle.oai_settings.specs.Config.{RepositoryConfig}
 use Rattle.oai_repo.specs.Answers.{arguments_of_request}
 use Rattle.oai_repo.specs.Machine.{Command, changing, rejecting, requesting}
@@ -22,11 +23,12 @@ use Rattle.oai_laws.specs.Runs.{Timed}
 abbrev pub is_legal_format : Format → Bool
 is_legal_format format = is_legal_text format.prefix && is_legal_text format.schema && is_legal_text format.namespace
 
--- the base URL, the repositoryName, the addresses and the formats
+-- the base URL, the repositoryName, the addresses, the formats, and the elements that describe the repository and sets
 abbrev pub is_legal_config : RepositoryConfig → Bool
 is_legal_config config =
     is_legal_text config.base && is_legal_text config.repository_name && list_all is_legal_text config.addresses
-    && list_all is_legal_format config.formats
+    && list_all is_legal_format config.formats && list_all is_legal_text config.descriptions
+    && list_all (λ (list : NamedList). list_all is_legal_text list.1) config.set_descriptions
 
 -- ---- items and sets
 

@@ -6,8 +6,10 @@ use Rattle.std.specs.Str.{bytes_eq}
 use Rattle.oai_item.specs.Elements.{element_in}
 use Rattle.oai_item.specs.Item.{ItemState, fields_in}
 use Rattle.oai_item.specs.declared.formats.Format.{Format}
-use Rattle.oai_answers.specs.Answers.{VerbAnswer, fails, gives_record, identifies, lists_formats, lists_headers, lists_records, lists_sets}
+use Rattle.oai_answers.specs.Answers.{DescribedSet, VerbAnswer, fails, gives_record, identifies, lists_formats, lists_headers, lists_records, lists_sets}
+use Rattle.oai_answers.specs.MetadataTrees.{element_tree}
 use Rattle.oai_xml.specs.Documents.{tree_in}
+use Rattle.oai_xml.specs.Roots.{root_of}
 use Rattle.oai_xml.specs.Namespaces.{declared, xml_namespace, xmlns_namespace}
 use Rattle.oai_xml.specs.Trees.{Content, Tree, nothing, byte, element}
 use Rattle.oai_documents.specs.Schema.{oai_namespace}
@@ -23,12 +25,20 @@ may_be_default namespace = not (bytes_eq namespace xml_namespace || bytes_eq nam
 abbrev pub is_foreign : List ℕ → Bool
 is_foreign namespace = not (bytes_eq namespace oai_namespace)
 
--- the format of the records in an answer has a namespace that passes the test
+-- the root of an element is in a namespace, which passes the test
+abbrev pub is_in_namespace : (List ℕ → Bool) → List ℕ → Bool
+is_in_namespace passes namespace = not (bytes_eq namespace []) && passes namespace
+
+abbrev pub has_root_in : (List ℕ → Bool) → List ℕ → Bool
+has_root_in passes text = is_in_namespace passes (root_of (element_tree text)).namespace
+
+-- the format of the records in an answer has a namespace that passes the test, and so has each element that describes a repository
+-- or a set
 abbrev pub HasNamespace : (List ℕ → Bool) → VerbAnswer → Type 0
 HasNamespace passes (fails code) = Unit {0}
-HasNamespace passes (identifies d) = Unit {0}
+HasNamespace passes (identifies d) = list_all (has_root_in passes) d.descriptions ≡ true
 HasNamespace passes (lists_formats formats) = Unit {0}
-HasNamespace passes (lists_sets sets) = Unit {0}
+HasNamespace passes (lists_sets sets) = list_all (λ (set : DescribedSet). list_all (has_root_in passes) set.descriptions) sets ≡ true
 HasNamespace passes (gives_record d) = passes d.format.namespace ≡ true
 HasNamespace passes (lists_headers page) = Unit {0}
 HasNamespace passes (lists_records format page) = passes format.namespace ≡ true
@@ -58,12 +68,16 @@ fits_in_document t = nat_le (levels_of t.content) 123 && nat_le (length (declare
 abbrev pub has_fitting_element : Format → ItemState → Bool
 has_fitting_element format item = option_map_or fits_in_document (option_and_then tree_in (element_in (fields_in format.prefix item.formats))) true
 
--- for each element that the answer shows as a record
+-- an element in a container, which has one element less around it
+abbrev pub is_fitting : List ℕ → Bool
+is_fitting text = option_map_or fits_in_document (tree_in text) true
+
+-- for each element that the answer shows as a record, or in a container
 abbrev pub HasFittingElements : VerbAnswer → Type 0
 HasFittingElements (fails code) = Unit {0}
-HasFittingElements (identifies d) = Unit {0}
+HasFittingElements (identifies d) = list_all is_fitting d.descriptions ≡ true
 HasFittingElements (lists_formats formats) = Unit {0}
-HasFittingElements (lists_sets sets) = Unit {0}
+HasFittingElements (lists_sets sets) = list_all (λ (set : DescribedSet). list_all is_fitting set.descriptions) sets ≡ true
 HasFittingElements (gives_record d) = has_fitting_element d.format d.item ≡ true
 HasFittingElements (lists_headers page) = Unit {0}
 HasFittingElements (lists_records format page) = list_all (has_fitting_element format) page.items ≡ true

@@ -11,6 +11,10 @@ use Rattle.oai_item.specs.Formats.{AreRepositoryFormats, dublin_core}
 use Rattle.oai_item.specs.Rules.{are_names, are_uris, has_few_fields, has_repeat, is_allowed, is_space, is_uri}
 use Rattle.oai_item.specs.ShortTexts.{is_short_text}
 use Rattle.oai_item.specs.declared.formats.Format.{Format}
+use Rattle.std.proofs.lemmas.Str.{is_utf8-from_IsUtf8}
+use Rattle.oai_xml.specs.Documents.{is_canonical}
+use Rattle.oai_xml.proofs.CanonicalLemmas.{element_tested}
+use Rattle.oai_xml.specs.Named.{NamedList, are_canonical}
 use Rattle.oai_xml.specs.LegalTexts.{is_legal_text}
 use Rattle.oai_xml.proofs.LegalSpellings.{is_plain}
 use Rattle.oai_settings.specs.Config.{IsConfig, RepositoryConfig, is_described}
@@ -71,11 +75,17 @@ formats_legal (x ∷ formats) utf8 rules =
 
 -- ---- a configuration
 
+-- an element in canonical text is a legal one
+canonical_legal : (text : List ℕ) → is_canonical text ≡ true → is_legal_text text ≡ true
+canonical_legal text is = let e = element_tested text is in both (is_utf8-from_IsUtf8 text e.1.utf8) e.1.characters
+
 pub config_legal : (config : RepositoryConfig) → IsConfig config → AreRepositoryFormats config.formats → IsUtf8Text config.base → IsUtf8Text config.repository_name → All IsUtf8Text config.addresses
     → All HasUtf8Texts config.formats → is_legal_config config ≡ true
 unfolding is_described
 config_legal config rules formats base name addresses its =
     let outer = and_parts (is_short_text config.repository_name && is_in_range 1 16 (length config.addresses)) (list_all is_short_text config.addresses) rules.described in
     let inner = and_parts (is_short_text config.repository_name) (is_in_range 1 16 (length config.addresses)) outer.0 in
-    both (both (both (both base rules.based) (both name (short_characters config.repository_name inner.0))) (texts_legal config.addresses (each IsUtf8Text config.addresses addresses) outer.1))
-    (formats_legal config.formats (each HasUtf8Texts config.formats its) formats)
+    both (both (both (both (both (both base rules.based) (both name (short_characters config.repository_name inner.0))) (texts_legal config.addresses (each IsUtf8Text config.addresses addresses) outer.1))
+    (formats_legal config.formats (each HasUtf8Texts config.formats its) formats))
+    (all-weaker is_canonical is_legal_text canonical_legal config.descriptions rules.containing))
+    (all-weaker are_canonical (λ (list : NamedList). list_all is_legal_text list.1) (λ list is. all-weaker is_canonical is_legal_text canonical_legal list.1 is) config.set_descriptions rules.set_containing)

@@ -123,9 +123,9 @@ formats_end : (end : ℤ) (config : RepositoryConfig) (items : List ItemState) (
 formats_end end config items None = tt
 formats_end end config items (Some identifier) = item_formats_end end config (item_named identifier items)
 
-sets_end : (end : ℤ) (sets : List NamedSet) → AnswerEnds end (sets_answer sets)
-sets_end end [] = tt
-sets_end end (set ∷ sets) = tt
+sets_end : (end : ℤ) (config : RepositoryConfig) (sets : List NamedSet) → AnswerEnds end (sets_answer config sets)
+sets_end end config [] = tt
+sets_end end config (set ∷ sets) = tt
 
 disseminated_ends : (end : ℤ) (config : RepositoryConfig) (item : ItemState) (format : Option Format) → AnswerEnds end (disseminated config item format)
 disseminated_ends end config item None = tt
@@ -140,7 +140,7 @@ request_ends config state bad_verb = tt
 request_ends config state bad_argument = tt
 request_ends config state (asks ask.Identify) = tt
 request_ends config state (asks (ask.Formats identifier)) = formats_end (state.clock +ℤ pos config.lifetime) config state.holdings.items identifier
-request_ends config state (asks ask.Sets) = sets_end (state.clock +ℤ pos config.lifetime) state.holdings.sets
+request_ends config state (asks ask.Sets) = sets_end (state.clock +ℤ pos config.lifetime) config state.holdings.sets
 request_ends config state (asks (ask.Get identifier prefix)) =
     record_ends (state.clock +ℤ pos config.lifetime) config (item_named identifier state.holdings.items) prefix
 request_ends config state (asks (ask.List verb prefix from until set)) =

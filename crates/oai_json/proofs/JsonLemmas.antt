@@ -1,6 +1,8 @@
 -- The JSON value of a text; arrays and objects as lists.
-use Rattle.std.proofs.Common.{◌≡◌, ◌<◌, ℕ, Bool, true, false, cond, ◌&&◌, eqb, Option, Some, None, is_some, List, [], ◌∷◌, map, length, String, Global, BTreeMap, Bor, string_bytes, refl, sym, ap, ◌∙◌, arith}
+use Rattle.std.proofs.Common.{◌≡◌, ◌<◌, ◌+◌, ◌-◌, ℕ, suc, Bool, true, false, cond, ◌&&◌, eqb, Option, Some, None, is_some, List, [], ◌∷◌, map, length, String, Global, BTreeMap, Bor, string_bytes, refl, sym, ap, ◌∙◌, arith}
 use Rattle.std.proofs.lemmas.Str.{is_utf8-from_IsUtf8, IsUtf8-from_is_utf8}
+use Rattle.std.specs.Prelude.{filter, nat_le}
+use Rattle.std.proofs.lemmas.Bool.Decides.{nat_tests}
 use Rattle.std.specs.Option.{option_map}
 use Rattle.std.specs.Str.{IsUtf8, is_utf8}
 use Rattle.std.specs.List.{list_all}
@@ -13,7 +15,7 @@ use Rattle.serde_json.specs.View.{view, items_view, members_view}
 use Rattle.serde_json.specs.declared.value.Value.{Value, Object}
 use Rattle.serde_json.proofs.OnLiterals.{serde_json_on_literals}
 use Rattle.serde_json.proofs.Views.{view-Object}
-use Rattle.oai_json.specs.Json.{TakesMemory, elements_in, elements_of, has_members, json_in, members_in, size}
+use Rattle.oai_json.specs.Json.{TakesMemory, elements_in, elements_of, has_members, has_members_and, json_in, members_in, names_there, size}
 
 -- ---- the value of a text
 
@@ -83,3 +85,33 @@ pub has_members_map : (names : List (Bor (List ℕ))) (d : Data)
     → has_members (map (λ name. name.now) names) d ≡ (eqb (size d) (length names) && list_all (λ name. is_some (get name.now d)) names)
 unfolding has_members
 has_members_map names d = rw (length-map names (λ (name : Bor (List ℕ)). name.now), list_all-map (λ name. is_some (get name d)) (λ (name : Bor (List ℕ)). name.now) names) refl
+
+-- how many of the names there are, where they are borrowed
+counted_more : {A B : Type 0} (b : Bool) (f : A → B) (x : A) (xs : List A) (ys : List B) → length ys ≡ length xs → length (cond b (f x ∷ ys) ys) ≡ length (cond b (x ∷ xs) xs)
+counted_more true f x xs ys same = ap (λ n. suc n) same
+counted_more false f x xs ys same = same
+
+counted_map : (d : Data) (names : List (Bor (List ℕ)))
+    → length (names_there (map (λ name. name.now) names) d) ≡ length (filter (λ (name : Bor (List ℕ)). is_some (get name.now d)) names)
+counted_map d [] = refl
+counted_map d (name ∷ names) =
+    counted_more (is_some (get name.now d)) (λ (name : Bor (List ℕ)). name.now) name (filter (λ (name : Bor (List ℕ)). is_some (get name.now d)) names) (names_there (map (λ name. name.now) names) d)
+    (counted_map d names)
+
+-- a sum is tested by a difference
+by_difference : (n a b : ℕ) → eqb n (a + b) ≡ (nat_le a n && eqb (n - a) b)
+by_difference n a b = grind (arith, nat_tests)
+
+-- the test of the names that each is to have, and of those that some may have
+pub has_members_and_map : (names others : List (Bor (List ℕ))) (d : Data)
+    → has_members_and (map (λ name. name.now) names) (map (λ name. name.now) others) d
+    ≡ (nat_le (length names) (size d) && eqb (size d - length names) (length (filter (λ (name : Bor (List ℕ)). is_some (get name.now d)) others))
+    && list_all (λ name. is_some (get name.now d)) names)
+unfolding has_members_and
+has_members_and_map names others d =
+    rw (
+      length-map names (λ (name : Bor (List ℕ)). name.now),
+      counted_map d others,
+      list_all-map (λ name. is_some (get name d)) (λ (name : Bor (List ℕ)). name.now) names,
+      by_difference (size d) (length names) (length (filter (λ (name : Bor (List ℕ)). is_some (get name.now d)) others)),
+    ) refl

@@ -1,11 +1,11 @@
 -- A member of a kind is read where it was written so, and no other way.
-use Rattle.std.proofs.Common.{◌≡◌, ◌∙◌, ℕ, Bool, true, false, ◌&&◌, eqb, Option, Some, None, List, length, map, refl, ap}
+use Rattle.std.proofs.Common.{◌≡◌, ◌∙◌, ◌+◌, ℕ, Bool, true, false, ◌&&◌, eqb, Option, Some, None, List, length, map, refl, ap}
 use Rattle.std.proofs.lemmas.Bool.{eqb-true}
 use Rattle.std.specs.Option.{option_map}
 use Rattle.serde_json.specs.Data.{Data, Num, array, boolean, null, number, object, string}
 use Rattle.serde_json.specs.Find.{get, as_number, as_str, as_u64}
 use Rattle.oai_names.specs.Optional.{◌>>=◌, each_of}
-use Rattle.oai_json.specs.Json.{array_of, elements_at, elements_of, has_each, has_members, number_at, size, text_at, texts_at}
+use Rattle.oai_json.specs.Json.{array_of, elements_at, elements_of, has_each, has_members, has_members_and, names_there, number_at, size, text_at, texts_at}
 use Rattle.oai_json.proofs.ReaderLemmas.{Undoes, list, text, texts}
 use Rattle.oai_json.proofs.ReadingLemmas.{Some-injective, bind-Some}
 
@@ -86,3 +86,8 @@ of_size names d is = eqb-true _ _ (both (eqb (size d) (length names)) (has_each 
 pub of_another_size : (names : List (List ℕ)) (d : Data) (n : ℕ) → size d ≡ n → eqb n (length names) ≡ false → has_members names d ≡ false
 unfolding has_members
 of_another_size names d n is other = ap (λ m. eqb m (length names) && has_each names d) is ∙ ap (λ b. b && has_each names d) other
+
+-- an object of these members, and those of the others that it has, is of their number
+pub of_size_and : (names others : List (List ℕ)) (d : Data) → has_members_and names others d ≡ true → size d ≡ length names + length (names_there others d)
+unfolding has_members_and
+of_size_and names others d is = eqb-true _ _ (both (eqb (size d) (length names + length (names_there others d))) (has_each names d) is)

@@ -1,7 +1,7 @@
 -- JSON texts, and their values as plain lists; what a value, or a member of an object, is if it is of a kind. RFC 8259,
 -- sections 2 to 8.
-use Rattle.std.specs.Prelude.{◌≡◌, ◌<◌, ℕ, Bool, true, ◌==◌, ◌&&◌, if◌then◌else◌, is_some, List, [], ◌∷◌, length, Option, None, option_map}
-use Rattle.std.specs.List.{list_all}
+use Rattle.std.specs.Prelude.{◌≡◌, ◌<◌, ◌+◌, ℕ, Bool, true, ◌==◌, ◌&&◌, if◌then◌else◌, is_some, List, [], ◌∷◌, length, Option, None, option_map}
+use Rattle.std.specs.List.{filter, list_all}
 use Rattle.std.specs.Option.{option_map_or}
 use Rattle.std.specs.Str.{is_utf8}
 use Rattle.serde_json.specs.Data.{Data, array, object, Items, no_items, item, Members, no_members, member}
@@ -61,6 +61,14 @@ has_each names d = list_all (λ name. is_some (get name d)) names
 -- an object with exactly these members, whose names are distinct
 unfoldable pub has_members : List (List ℕ) → Data → Bool
 has_members names d = (size d == length names) && has_each names d
+
+-- those of the names of which the object has members
+abbrev pub names_there : List (List ℕ) → Data → List (List ℕ)
+names_there names d = filter (λ name. is_some (get name d)) names
+
+-- an object with exactly these members and, of the others, those that it has; all the names are distinct
+unfoldable pub has_members_and : List (List ℕ) → List (List ℕ) → Data → Bool
+has_members_and names others d = (size d == length names + length (names_there others d)) && has_each names d
 
 -- ---- a value of a kind, and a member of a kind
 

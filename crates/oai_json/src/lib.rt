@@ -7,4 +7,6 @@ mod values;
 pub use tokens::{
     take_begin_array, take_begin_object, take_end_object, take_key, take_text, take_texts,
 };
-pub use values::{elements_at, elements_of, has_members, number_at, read_json, text_at};
+pub use values::{
+    elements_at, elements_of, has_members, has_members_and, number_at, read_json, text_at,
+};

@@ -1,5 +1,5 @@
-ghost use Rattle.std.specs.Prelude.{◌≡◌, is_some, map, option_copied, option_map, IfOk, OnErr};
-ghost use Rattle.std.specs.List.{list_all};
+ghost use Rattle.std.specs.Prelude.{◌≡◌, is_some, length, map, option_copied, option_map, IfOk, OnErr};
+ghost use Rattle.std.specs.List.{filter, list_all};
 ghost use Rattle.serde_json.specs.Find.{get};
 ghost use Rattle.serde_json.specs.View.{view};
 ghost use Rattle.oai_json.specs.Json as json;
@@ -30,6 +30,26 @@ pub fn has_members(value: &Value, names: &[&str]) -> bool
     ensures { result ≡ json.has_members (map (λ name. name.now) names.now) (view value.now) }
 {
     size(value) == names.len() && has_each(value, names)
+}
+
+/// Whether the value is an object with exactly these members, and those of the others that it has, in any order. Allocates
+/// nothing.
+#[tactic(auto, using(crate::proofs::JsonLemmas::has_members_and_map))]
+pub fn has_members_and(value: &Value, names: &[&str], others: &[&str]) -> bool
+    ensures { result ≡ json.has_members_and (map (λ name. name.now) names.now)
+        (map (λ name. name.now) others.now) (view value.now) }
+{
+    let size = size(value);
+    names.len() <= size
+        && size - names.len() == count_there(value, others)
+        && has_each(value, names)
+}
+
+/// How many of these names the value has members with.
+fn count_there(value: &Value, names: &[&str]) -> usize
+    ensures { result ≡ length (filter (λ name. is_some (get name.now (view value.now))) names.now) }
+{
+    names.iter().filter(|name| has(value, name)).count()
 }
 
 /// Whether the value has a member with each of these names.

@@ -148,9 +148,9 @@ token_below config state asked verb (Some token) sound =
     (λ list found. of_found (is_of_number token.list) (is_given state.open_lists.next) state.open_lists.lists list found sound.given)
 
 -- no page is in these answers
-no_sets_page : (sets : List _) → page_in (sets_answer sets) ≡ None
-no_sets_page [] = refl
-no_sets_page (set ∷ sets) = refl
+no_sets_page : (config : RepositoryConfig) (sets : List _) → page_in (sets_answer config sets) ≡ None
+no_sets_page config [] = refl
+no_sets_page config (set ∷ sets) = refl
 
 no_formats_page : (config : RepositoryConfig) (found : Option ItemState) → page_in (item_formats_answer config found) ≡ None
 no_formats_page config None = refl
@@ -176,7 +176,7 @@ request_below config state asked bad_verb sound = λ its told. cc
 request_below config state asked bad_argument sound = λ its told. cc
 request_below config state asked (asks ask.Identify) sound = λ its told. cc
 request_below config state asked (asks (ask.Formats identifier)) sound = unshown config state.clock asked state.open_lists (formats_answer config state.holdings.items identifier) (no_asked_page config state.holdings.items identifier)
-request_below config state asked (asks ask.Sets) sound = unshown config state.clock asked state.open_lists (sets_answer state.holdings.sets) (no_sets_page state.holdings.sets)
+request_below config state asked (asks ask.Sets) sound = unshown config state.clock asked state.open_lists (sets_answer config state.holdings.sets) (no_sets_page config state.holdings.sets)
 request_below config state asked (asks (ask.Get identifier prefix)) sound = unshown config state.clock asked state.open_lists (record_answer config (item_named identifier state.holdings.items) prefix) (no_record_page config (item_named identifier state.holdings.items) prefix)
 request_below config state asked (asks (ask.List verb prefix from until set)) sound =
     cond_both (is_some set && has_no_sets state.holdings.sets) _ _ (λ (done : Response × OpenLists). HandsBelow config state.clock asked done)

@@ -269,7 +269,7 @@ request_hands P config state asked bad_verb part sound h = same_lists P config s
 request_hands P config state asked bad_argument part sound h = same_lists P config state.clock asked (with_answer (fails BadArgument)) state.open_lists h
 request_hands P config state asked (asks ask.Identify) part sound h = same_lists P config state.clock asked (with_answer (identifies (description config))) state.open_lists h
 request_hands P config state asked (asks (ask.Formats identifier)) part sound h = same_lists P config state.clock asked (with_answer (formats_answer config state.holdings.items identifier)) state.open_lists h
-request_hands P config state asked (asks ask.Sets) part sound h = same_lists P config state.clock asked (with_answer (sets_answer state.holdings.sets)) state.open_lists h
+request_hands P config state asked (asks ask.Sets) part sound h = same_lists P config state.clock asked (with_answer (sets_answer config state.holdings.sets)) state.open_lists h
 request_hands P config state asked (asks (ask.Get identifier prefix)) part sound h = same_lists P config state.clock asked (with_answer (record_answer config (item_named identifier state.holdings.items) prefix)) state.open_lists h
 request_hands P config state asked (asks (ask.List verb prefix from until set)) part sound h =
     cond_both (is_some set && has_no_sets state.holdings.sets) _ _ (λ (done : Response × OpenLists). HandsOut P config state.clock asked done)

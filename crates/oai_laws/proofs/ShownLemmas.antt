@@ -25,6 +25,9 @@ use Rattle.oai_answers.specs.Answers.{Attributes, Page}
 use Rattle.oai_answers.specs.Seen.{IsGoodFormat, IsRegular, has_own_fields}
 use Rattle.oai_repo.specs.Answers.{arguments_of_request, disseminated, filter_of, formats_answer, item_formats_answer, record_answer, sets_answer}
 use Rattle.oai_settings.specs.Config.{RepositoryConfig}
+use Rattle.oai_xml.specs.Documents.{is_canonical}
+use Rattle.oai_names.proofs.Lists.{all-filter_same}
+use Rattle.oai_repo.proofs.DescriptionLemmas.{all_elements}
 use Rattle.oai_laws.specs.Effects.{IsSound, is_formed, has_known_records}
 use Rattle.oai_repo.specs.Listing.{Response, request_response, opens_list, continued_response, has_no_sets, is_continued, list_response, new_list, part_from, part_answer, prolonged, with_answer, answer_by_verb, format_response, selection_response, complete_answer, token_response, wait_at, retry_after, where_continued, complete_page, is_of_number}
 use Rattle.oai_repo.specs.Machine.{Command, act, act_on_change, requesting, changing, outcome_of, rejecting}
@@ -184,16 +187,16 @@ regular_formats : (config : RepositoryConfig) (items : List ItemState) (identifi
 regular_formats config items None = tt
 regular_formats config items (Some identifier) = regular_item_formats config (item_named identifier items)
 
-regular_sets : (sets : List NamedSet) → IsRegular (sets_answer sets)
-regular_sets [] = tt
-regular_sets (set ∷ sets) = tt
+regular_sets : (config : RepositoryConfig) (sets : List NamedSet) → IsRegular (sets_answer config sets)
+regular_sets config [] = tt
+regular_sets config (set ∷ sets) = all_elements config.set_descriptions (set ∷ sets)
 
 regular_done : (config : RepositoryConfig) (state : RepoState) (request : AskOrError) → AreRepositoryFormats config.formats → IsSound config state → IsRegularDone (request_response config state request)
 regular_done config state bad_verb rules sound = tt
 regular_done config state bad_argument rules sound = tt
-regular_done config state (asks ask.Identify) rules sound = tt
+regular_done config state (asks ask.Identify) rules sound = all-filter_same is_canonical config.descriptions
 regular_done config state (asks (ask.Formats identifier)) rules sound = regular_formats config state.holdings.items identifier
-regular_done config state (asks ask.Sets) rules sound = regular_sets state.holdings.sets
+regular_done config state (asks ask.Sets) rules sound = regular_sets config state.holdings.sets
 regular_done config state (asks (ask.Get identifier prefix)) rules sound = regular_record config state identifier prefix (item_named identifier state.holdings.items) refl rules sound
 regular_done config state (asks (ask.List verb prefix from until set)) rules sound =
     regular_list config state.clock state.open_lists state.holdings.sets verb prefix set (selected (filter_of prefix from until set) state.holdings.items) rules

@@ -407,7 +407,7 @@ worked = (
 -- the archive is one that can be configured
 pub configured : IsConfig archive_b
 unfolding is_described is_date are_limits is_xml_text is_short_text str.chars
-configured = record { based = refl; described = refl; dated = refl; limited = refl }
+configured = record { based = refl; described = refl; dated = refl; limited = refl; containing = refl; set_containing = refl }
 
 -- ---- what the run leaves
 

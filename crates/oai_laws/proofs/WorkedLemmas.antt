@@ -315,4 +315,4 @@ worked = (
 -- the archive is one that can be configured
 pub configured : IsConfig worked_config
 unfolding is_described is_date are_limits is_xml_text is_short_text str.chars
-configured = record { based = refl; described = refl; dated = refl; limited = refl }
+configured = record { based = refl; described = refl; dated = refl; limited = refl; containing = refl; set_containing = refl }

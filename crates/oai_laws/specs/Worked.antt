@@ -31,6 +31,8 @@ worked_config = record {
   items = 1_000;
   formats = dublin_core ∷ [];
   forms = Elements;
+  descriptions = [];
+  set_descriptions = [];
 }
 
 -- that many seconds after 2024-01-01T00:00:00Z

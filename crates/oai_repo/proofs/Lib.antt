@@ -1,3 +1,4 @@
+pub mod DescriptionLemmas
 pub mod ClockLemmas
 pub mod StepLemmas
 pub mod SelectionLemmas

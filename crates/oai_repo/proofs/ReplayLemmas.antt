@@ -34,9 +34,9 @@ at_the state clock = states.state_at_clock clock state
 
 -- ---- responses that are none
 
-pub part_sets : (sets : List NamedSet) → is_part (with_answer (sets_answer sets)) ≡ false
-part_sets [] = refl
-part_sets (set ∷ sets) = refl
+pub part_sets : (config : RepositoryConfig) (sets : List NamedSet) → is_part (with_answer (sets_answer config sets)) ≡ false
+part_sets config [] = refl
+part_sets config (set ∷ sets) = refl
 
 part_found : (config : RepositoryConfig) (item : ItemState) (format : Format) (has : Bool) → has_record format.prefix item.formats ≡ has → is_part (with_answer (disseminated config item (Some format))) ≡ false
 part_found config item format true is = rw is refl

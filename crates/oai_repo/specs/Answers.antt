@@ -1,5 +1,7 @@
 -- The answer to a request. OAI-PMH 2.0, sections 3.2, 3.6 and 4.
-use Rattle.std.specs.Prelude.{ℕ, ℤ, List, [], ◌∷◌, codes, Option, Some, None, if◌then◌else◌}
+use Rattle.std.specs.Prelude.{ℕ, ℤ, filter, map, List, [], ◌∷◌, codes, Option, Some, None, if◌then◌else◌}
+use Rattle.oai_xml.specs.Documents.{is_canonical}
+use Rattle.oai_xml.specs.Named.{NamedList}
 use Rattle.oai_time.specs.Bound.{lower_of, upper_of}
 use Rattle.oai_time.specs.declared.bound.Bound.{Bound}
 use Rattle.oai_time.specs.declared.text.TheConstants.{FIRST_SECOND, LAST_SECOND}
@@ -13,12 +15,12 @@ use Rattle.oai_args.specs.Bounds.{given_bound}
 use Rattle.oai_args.specs.Verbs.{name_of, verb_of_list}
 use Rattle.oai_args.specs.declared.requests.Ask.{Ask}
 use Rattle.oai_args.specs.declared.requests.Ask.TheVariants as ask
-use Rattle.oai_answers.specs.Answers.{Attributes, Description, VerbAnswer, fails, gives_record, lists_formats, lists_sets, offered, no_arguments, Document}
+use Rattle.oai_answers.specs.Answers.{Attributes, Description, VerbAnswer, fails, gives_record, lists_formats, lists_sets, described_sets, offered, no_arguments, Document}
 use Rattle.oai_answers.specs.declared.errors.ErrorCode.TheVariants.{CannotDisseminateFormat, IdDoesNotExist, NoMetadataFormats, NoSetHierarchy}
 use Rattle.oai_settings.specs.Config.{RepositoryConfig}
 use Rattle.oai_holdings.specs.Holdings.{NamedSet}
 
--- what Identify returns (section 4.2)
+-- what Identify returns (section 4.2): of what describes it the elements in canonical text, in a configuration that keeps its rules all
 abbrev pub description : RepositoryConfig → Description
 description config = record {
   name = config.repository_name;
@@ -26,6 +28,7 @@ description config = record {
   earliest = config.earliest;
   deleted = config.deleted;
   granularity = config.granularity;
+  descriptions = filter is_canonical config.descriptions;
 }
 
 -- an item in a format of the repository, in which it has a record
@@ -41,9 +44,12 @@ record_answer config None prefix = fails IdDoesNotExist
 record_answer config (Some item) prefix = disseminated config item (format_named prefix config.formats)
 
 -- ListSets (section 4.6): the sets in order of addition, if there are any
-abbrev pub sets_answer : List NamedSet → VerbAnswer
-sets_answer [] = fails NoSetHierarchy
-sets_answer (set ∷ sets) = lists_sets (set ∷ sets)
+abbrev pub elements_alone : NamedList → NamedList
+elements_alone list = (list.0, filter is_canonical list.1)
+
+abbrev pub sets_answer : RepositoryConfig → List NamedSet → VerbAnswer
+sets_answer config [] = fails NoSetHierarchy
+sets_answer config (set ∷ sets) = lists_sets (described_sets (map elements_alone config.set_descriptions) (set ∷ sets))
 
 -- ListMetadataFormats for an item (section 4.4), if there is one: a deleted item has no formats
 abbrev pub item_formats_answer : RepositoryConfig → Option ItemState → VerbAnswer

@@ -218,7 +218,7 @@ list_response config clock open_lists sets verb prefix set items =
 abbrev pub ask_response : RepositoryConfig → ℤ → Holdings → OpenLists → Ask → Response × OpenLists
 ask_response config clock holdings open_lists ask.Identify = (with_answer (identifies (description config)), open_lists)
 ask_response config clock holdings open_lists (ask.Formats identifier) = (with_answer (formats_answer config holdings.items identifier), open_lists)
-ask_response config clock holdings open_lists ask.Sets = (with_answer (sets_answer holdings.sets), open_lists)
+ask_response config clock holdings open_lists ask.Sets = (with_answer (sets_answer config holdings.sets), open_lists)
 ask_response config clock holdings open_lists (ask.Get identifier prefix) = (with_answer (record_answer config (item_named identifier holdings.items) prefix), open_lists)
 ask_response config clock holdings open_lists (ask.List verb prefix from until set) =
     list_response config clock open_lists holdings.sets verb prefix set (selected (filter_of prefix from until set) holdings.items)

@@ -10,7 +10,7 @@ ghost use Rattle.oai_repo.specs.Views.{IsReadable, answer_about_item, document_r
 
 use crate::responses::{Reply, make_reply};
 use crate::view::RepoView;
-use oai_answers::{Body, ErrorCode, Identity, Offered, Record};
+use oai_answers::{Body, DescribedSets, ErrorCode, Identity, Offered, Record};
 use oai_catalogue::Versions;
 use oai_item::{Fault, Item};
 use oai_names::{SetSpec, Text};
@@ -34,14 +34,18 @@ pub(crate) fn reply_about_item<V: Versions>(
 }
 
 /// The answer to ListSets.
-pub(crate) fn sets_answer(sets: &[(SetSpec, Text)]) -> Body<'_>
-    ensures answer { body_answer result ≡ spec.sets_answer sets.now }
+#[tactic(auto, using(crate::proofs::DescriptionLemmas::all_alone))]
+pub(crate) fn sets_answer<'a>(config: &'a RepoConfig, sets: &'a [(SetSpec, Text)]) -> Body<'a>
+    ensures answer { body_answer result ≡ spec.sets_answer config.now sets.now }
     ensures writable { HasWritableTimes (body_answer result) }
 {
     if sets.is_empty() {
         Body::Error(ErrorCode::NoSetHierarchy)
     } else {
-        Body::ListSets(sets)
+        Body::ListSets(DescribedSets {
+            sets,
+            described: config.set_descriptions(),
+        })
     }
 }
 
@@ -108,6 +112,7 @@ fn record_answer<'a>(config: &'a RepoConfig, item: Option<&'a Item>, prefix: &st
 }
 
 /// The answer to Identify.
+#[tactic(auto, using(crate::proofs::DescriptionLemmas::described))]
 pub(crate) fn identity(config: &RepoConfig) -> Identity<'_>
     ensures identity { description_of result ≡ spec.description config.now }
     ensures writable { IsWritable result.earliest }
@@ -118,5 +123,6 @@ pub(crate) fn identity(config: &RepoConfig) -> Identity<'_>
         earliest: config.earliest(),
         deleted: config.deleted(),
         granularity: config.granularity(),
+        descriptions: config.descriptions(),
     }
 }

@@ -91,7 +91,7 @@ fn reply_to<V: Versions>(
             Ok(Replied::listless(reply))
         }
         Ask::Sets => {
-            let reply = make_reply(repo, sets_answer(repo.sets.as_slice()))?;
+            let reply = make_reply(repo, sets_answer(repo.config, repo.sets.as_slice()))?;
             Ok(Replied::listless(reply))
         }
         Ask::Get { identifier, prefix } => {

@@ -1,10 +1,13 @@
 //! The shape of the repositories and of their formats.
 use crate::reports::{Object, Report};
-use crate::shapes::{report_kind, report_members, report_short_text, report_texts, report_word};
-use crate::values::{elements_at, text_at};
+use crate::shapes::{
+    report_all_members, report_kind, report_members, report_short_text, report_texts, report_word,
+};
+use crate::values::{elements_at, elements_of, kind_of, text_at};
+use oai_xml::{ElementText, XmlFault};
 use serde_json::Value;
 
-/// The members of a repository.
+/// The members that a repository has.
 const MEMBERS: [&str; 11] = [
     "name",
     "repositoryName",
@@ -18,6 +21,9 @@ const MEMBERS: [&str; 11] = [
     "items",
     "formats",
 ];
+
+/// Those that it may have.
+const FURTHER_MEMBERS: [&str; 2] = ["description", "sets"];
 
 /// The members of a format.
 const FORMAT_MEMBERS: [&str; 5] = ["prefix", "schema", "namespace", "root", "fields"];
@@ -33,7 +39,7 @@ pub(crate) fn report_repositories(report: &mut Report<'_>, value: &Value) {
     }
     for (number, repository) in repositories.iter().enumerate() {
         let object = Object::repository(number, text_at(repository, "name"));
-        if report_members(report, object, repository, &MEMBERS) {
+        if report_all_members(report, object, repository, &MEMBERS, &FURTHER_MEMBERS) {
             report_repository(report, object, repository);
         }
     }
@@ -69,6 +75,77 @@ fn report_repository(report: &mut Report<'_>, object: Object<'_>, value: &Value)
     if report_kind(report, object, value, "formats", "a list") {
         report_formats(report, object, value);
     }
+    report_elements(report, object, value, "description");
+    report_sets(report, object, value);
+}
+
+/// Adds each fault of shape in the elements that describe sets.
+fn report_sets(report: &mut Report<'_>, object: Object<'_>, value: &Value) {
+    if !report_kind(report, object, value, "sets", "an object") {
+        return;
+    }
+    let Some(sets) = value.get("sets") else {
+        return;
+    };
+    if let Value::Object(members) = sets {
+        for (spec, elements) in members.iter() {
+            report_set(report, object, spec.as_str(), elements);
+        }
+    }
+}
+
+/// Adds that what describes a set is no list of texts of XML elements, if it is none.
+fn report_set(report: &mut Report<'_>, object: Object<'_>, spec: &str, elements: &Value) {
+    if !elements.is_array() {
+        let why = &["\"", spec, "\" is ", kind_of(elements), ", and not a list"];
+        report.add_member(object, "sets", why);
+        return;
+    }
+    for element in elements_of(elements) {
+        if !is_element(report, element) {
+            let why = &["\"", spec, "\" has what is no text of an XML element"];
+            report.add_member(object, "sets", why);
+        }
+    }
+}
+
+/// Whether the value is a text of an XML element.
+fn is_element(report: &Report<'_>, value: &Value) -> bool {
+    match value.as_str() {
+        Some(text) => ElementText::read(report.alloc(), text).is_ok(),
+        None => false,
+    }
+}
+
+/// Adds each element of the list in the member with that name that is no text of an XML element.
+fn report_elements(report: &mut Report<'_>, object: Object<'_>, value: &Value, name: &str) {
+    if !report_kind(report, object, value, name, "a list") {
+        return;
+    }
+    report_texts(report, object, value, name, false);
+    for (number, element) in elements_at(value, name).iter().enumerate() {
+        if let Some(text) = element.as_str() {
+            report_element(report, object, name, number, text);
+        }
+    }
+}
+
+/// Adds that the text is no XML element, where and why, if it is none.
+fn report_element(
+    report: &mut Report<'_>,
+    object: Object<'_>,
+    name: &str,
+    number: usize,
+    text: &str,
+) {
+    let alloc = report.alloc();
+    let Err(XmlFault::Refused { offset, cause }) = ElementText::read(alloc, text) else {
+        return;
+    };
+    let Ok(why) = format!(in alloc; "is no XML element, at its byte {offset}: {cause}") else {
+        return;
+    };
+    report.add_element(object, name, number, &[why.as_str()]);
 }
 
 /// Adds each fault of the addresses.

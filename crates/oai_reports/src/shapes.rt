@@ -32,12 +32,23 @@ pub(crate) fn report_members(
     value: &Value,
     names: &[&str],
 ) -> bool {
+    report_all_members(report, object, value, names, &[])
+}
+
+/// The same, of an object that may have some others too.
+pub(crate) fn report_all_members(
+    report: &mut Report<'_>,
+    object: Object<'_>,
+    value: &Value,
+    names: &[&str],
+    others: &[&str],
+) -> bool {
     if !value.is_object() {
         report.add(object, &["it is ", kind_of(value), ", and not an object"]);
         return false;
     }
     report_missing(report, object, value, names);
-    report_unknown(report, object, value, names);
+    report_unknown(report, object, value, names, others);
     true
 }
 
@@ -51,10 +62,16 @@ fn report_missing(report: &mut Report<'_>, object: Object<'_>, value: &Value, na
 }
 
 /// Adds each member of the object that has another name.
-fn report_unknown(report: &mut Report<'_>, object: Object<'_>, value: &Value, names: &[&str]) {
+fn report_unknown(
+    report: &mut Report<'_>,
+    object: Object<'_>,
+    value: &Value,
+    names: &[&str],
+    others: &[&str],
+) {
     if let Value::Object(members) = value {
         for (name, _member) in members.iter() {
-            if !is_among(name.as_str(), names) {
+            if !is_among(name.as_str(), names) && !is_among(name.as_str(), others) {
                 report.add_member(object, name.as_str(), &["is no member that is known here"]);
             }
         }

@@ -8,12 +8,15 @@ use Rattle.oai_names.specs.Characters.{is_xml_text}
 use Rattle.oai_time.specs.Stamp.{stamp_of}
 use Rattle.oai_time.specs.declared.granularity.Granularity.{Granularity}
 use Rattle.oai_time.specs.declared.clock.TheConstants.{LAST_TICK}
+use Rattle.oai_xml.specs.Documents.{is_canonical}
+use Rattle.oai_xml.specs.Named.{NamedList, are_canonical}
 use Rattle.oai_item.specs.ShortTexts.{is_short_text}
 use Rattle.oai_item.specs.declared.formats.Format.{Format}
 use Rattle.oai_item.specs.declared.forms.Forms.{Forms}
 use Rattle.oai_item.specs.declared.deleted_record.DeletedRecord.{DeletedRecord}
 
--- what Identify returns of a repository (OAI-PMH 2.0, section 4.2), its limits, its metadata formats, and the forms that records may have
+-- what Identify returns of a repository (OAI-PMH 2.0, section 4.2), its limits, its metadata formats, the forms that records may have, and the
+-- elements in its containers `description`, and in `setDescription` of each set (section 4.6), in canonical text
 pub record RepositoryConfig : Type 0 where
   pub base : List ℕ
   pub repository_name : List ℕ
@@ -27,6 +30,8 @@ pub record RepositoryConfig : Type 0 where
   pub items : ℕ
   pub formats : List Format
   pub forms : Forms
+  pub descriptions : List (List ℕ)
+  pub set_descriptions : List NamedList
 
 -- a character of a repository's name: [a-z0-9-], this repository's own
 abbrev pub is_repository_byte : ℕ → Bool
@@ -78,3 +83,5 @@ pub record IsConfig (config : RepositoryConfig) : Type 0 where
   pub described : is_described config.repository_name config.addresses ≡ true
   pub dated : is_date config.granularity config.earliest ≡ true
   pub limited : are_limits config.chunk config.lifetime config.lists config.items ≡ true
+  pub containing : list_all is_canonical config.descriptions ≡ true
+  pub set_containing : list_all are_canonical config.set_descriptions ≡ true

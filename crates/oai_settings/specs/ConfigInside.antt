@@ -17,4 +17,6 @@ config_in c = record {
   items = c.limits.items;
   formats = c.formats;
   forms = c.forms;
+  descriptions = c.descriptions;
+  set_descriptions = c.set_descriptions;
 }

@@ -120,6 +120,8 @@ pub record Configures (settings : Settings) (config : RepositoryConfig) : Type 0
   pub items : settings.items ≡ Some config.items
   pub formats : config.formats ≡ formats_of settings.formats
   pub forms : config.forms ≡ settings.forms
+  pub descriptions : config.descriptions ≡ settings.descriptions
+  pub set_descriptions : config.set_descriptions ≡ settings.set_descriptions
 
 -- the result of making a configuration of the settings; out of memory is possible once shape and name are good
 abbrev pub IsConfigured : Settings → Result RepositoryConfig ConfigFault → Type 0

@@ -1,7 +1,10 @@
 -- The calls that make a configuration: each returns its value, or that the settings are bad, or out of memory.
 use Rattle.std.specs.Prelude.{◌≡◌, ℕ, true, false, List, ◌∷◌, [], ◌++◌, Option, Some, None, is_none, Result, Ok, Err}
 use Rattle.std.specs.Int.{is_in_range}
+use Rattle.std.specs.List.{list_all}
 use Rattle.oai_names.specs.Names.{may_be_prefix}
+use Rattle.oai_xml.specs.Documents.{is_canonical}
+use Rattle.oai_xml.specs.Named.{NamedList, are_canonical}
 use Rattle.oai_item.specs.Declaring.{HasGoodTexts, declare_fault}
 use Rattle.oai_item.specs.declared.formats.Format.{Format}
 use Rattle.oai_settings.specs.declared.config.parts.Limits.{Limits}
@@ -66,9 +69,16 @@ config_with settings made = record {
   items = made.limits.items;
   formats = made.formats;
   forms = settings.forms;
+  descriptions = settings.descriptions;
+  set_descriptions = settings.set_descriptions;
 }
 
--- with these parts the settings make the configuration; or they have the fault
+-- what describes the repository and its sets are elements in canonical text
+abbrev pub HaveElements : List (List ℕ) → List NamedList → Type 0
+HaveElements descriptions set_descriptions = (list_all is_canonical descriptions ≡ true) × (list_all are_canonical set_descriptions ≡ true)
+
+-- with these parts the settings make the configuration, which keeps its rules where elements are what they are; or they have the fault
 abbrev pub IsAssembled : Settings → Result Made ConfigFault → Type 0
-IsAssembled settings (Ok made) = Configures settings (config_with settings made) × IsConfig (config_with settings made)
+IsAssembled settings (Ok made) =
+    Configures settings (config_with settings made) × (HaveElements settings.descriptions settings.set_descriptions → IsConfig (config_with settings made))
 IsAssembled settings (Err fault) = IsConfigured settings (Err fault)

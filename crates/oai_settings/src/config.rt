@@ -9,6 +9,7 @@ use crate::settings::{ConfigFault, Settings};
 use oai_item::{DeletedRecord, Formats, Forms};
 use oai_names::{Sequence, Text};
 use oai_time::Granularity;
+use oai_xml::{ElementTexts, NamedElements};
 use parts::{Limits, made_of};
 use std::alloc::Global;
 use std::marker::Model;
@@ -26,6 +27,8 @@ pub struct RepoConfig {
     limits: Limits,
     formats: Formats,
     forms: Forms,
+    descriptions: ElementTexts,
+    set_descriptions: NamedElements,
 }
 
 impl Model for RepoConfig {
@@ -59,6 +62,8 @@ impl RepoConfig {
             limits: made.limits,
             formats: made.formats,
             forms: settings.forms,
+            descriptions: settings.descriptions,
+            set_descriptions: settings.set_descriptions,
         })
     }
 
@@ -148,6 +153,22 @@ impl RepoConfig {
         ensures { result ≡ self.now.forms }
     {
         self.forms
+    }
+
+    /// The canonical texts of the elements that describe the repository.
+    pub fn descriptions(&self) -> &[Text]
+        ensures descriptions { result.now ≡ self.now.descriptions }
+        ensures valid { IsConfig self.now }
+    {
+        self.descriptions.as_slice()
+    }
+
+    /// The canonical texts of the elements that describe sets, each list under a setSpec.
+    pub fn set_descriptions(&self) -> &NamedElements
+        ensures descriptions { result.now ≡ self.now.set_descriptions }
+        ensures valid { IsConfig self.now }
+    {
+        &self.set_descriptions
     }
 
     /// The metadata formats, oai_dc first.

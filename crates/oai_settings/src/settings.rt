@@ -8,6 +8,7 @@ ghost use Rattle.oai_settings.specs.Settings as spec;
 use oai_item::{DeletedRecord, Forms, is_short_text};
 use oai_names::{Sequence, Text};
 use oai_time::Granularity;
+use oai_xml::{ElementTexts, NamedElements};
 use std::alloc::AllocError;
 use std::error::Error;
 use std::fmt;
@@ -64,6 +65,10 @@ pub struct Settings {
     pub formats: Sequence<FormatSettings>,
     /// Which forms records may have. With `Fields` each format has fields.
     pub forms: Forms,
+    /// The elements that describe the repository (OAI-PMH 2.0, section 4.2, `description`).
+    pub descriptions: ElementTexts,
+    /// The elements that describe sets, each list under a setSpec (OAI-PMH 2.0, section 4.6, `setDescription`).
+    pub set_descriptions: NamedElements,
 }
 
 /// Why settings make no configuration, in the order in which the causes are tested; `NoMemory` may come as soon as the

@@ -15,6 +15,7 @@ pub mod ElementPieces
 pub mod ContentBacks
 pub mod ReadWhole
 pub mod CanonicalLemmas
+pub mod ListedElements
 pub mod LegalLemmas
 pub mod DocumentLemmas
 pub mod RootLemmas

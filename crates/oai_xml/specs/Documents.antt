@@ -150,6 +150,10 @@ element_of text = with_fault_place (legal_front text) (document_in (normalized (
 unfoldable pub canonical : List ℕ → Result (List ℕ) ℕ
 canonical text = element_of text >>= λ tree. Ok (spelled tree)
 
+-- the same, if the text is an element
+abbrev pub canonical_in : List ℕ → Option (List ℕ)
+canonical_in text = result_ok (canonical text)
+
 -- the tree of a text, if it is one
 unfoldable pub tree_in : List ℕ → Option Tree
 tree_in text = result_ok (element_of text)

@@ -10,5 +10,6 @@ pub mod Documents
 pub mod Answers
 pub mod Ascii
 pub mod Reads
+pub mod Named
 pub mod Roots
 pub mod LegalTexts

@@ -1,9 +1,10 @@
 -- What reading an element answers.
-use Rattle.std.specs.Prelude.{◌≡◌, ◌-◌, ℕ, true, false, ◌==◌, ◌&&◌, List, Result, Ok, Err}
+use Rattle.std.specs.Prelude.{◌≡◌, ◌-◌, ℕ, true, false, ◌==◌, ◌&&◌, List, None, Some, Result, Ok, Err}
 use Rattle.std.specs.Str.{is_utf8}
 use Rattle.oai_names.specs.Characters.{is_xml_text}
+use Rattle.oai_names.specs.Optional.{each_of}
 use Rattle.oai_xml.specs.Trees.{Tree, spelled}
-use Rattle.oai_xml.specs.Documents.{document_in, normalized, origin, place_of, canonical}
+use Rattle.oai_xml.specs.Documents.{document_in, normalized, origin, place_of, canonical, canonical_in}
 use Rattle.oai_xml.specs.declared.faults.ParseStop.{ParseStop}
 use Rattle.oai_xml.specs.declared.faults.ParseStop.TheVariants.{At}
 use Rattle.oai_xml.specs.declared.faults.ParseStop.TheVariants as stop
@@ -15,6 +16,12 @@ abbrev pub IsCanonicalResult : List ℕ → Result (List ℕ) XmlFault → Type 
 IsCanonicalResult text (Ok element) = canonical text ≡ Ok element
 IsCanonicalResult text (Err (Refused offset cause)) = canonical text ≡ Err offset
 IsCanonicalResult text (Err NoMemory) = Unit {0}
+
+-- the canonical texts of texts, in order; or of one of them the place of its first fault, and none before it has one
+abbrev pub AreElementsRead : List (List ℕ) → Result (List (List ℕ)) XmlFault → Type 0
+AreElementsRead texts (Ok elements) = each_of canonical_in texts ≡ Some elements
+AreElementsRead texts (Err (Refused offset cause)) = each_of canonical_in texts ≡ None
+AreElementsRead texts (Err NoMemory) = Unit {0}
 
 -- ---- words of the code's own
 

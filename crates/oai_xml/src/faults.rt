@@ -66,6 +66,17 @@ pub(crate) enum ParseStop {
     NoMemory,
 }
 
+impl<T: Drop> From<AllocFailed<T>> for XmlFault {
+    ghost use Rattle.std.specs.Prelude.{◌≡◌};
+    ghost use Rattle.oai_xml.specs.declared.faults.XmlFault.TheVariants.{NoMemory};
+
+    ghost from_gives = { λ _ fault. fault ≡ NoMemory };
+
+    fn from(_: AllocFailed<T>) -> XmlFault {
+        XmlFault::NoMemory
+    }
+}
+
 impl From<ParseFault> for ParseStop {
     ghost use Rattle.std.specs.Prelude.{◌≡◌};
     ghost use Rattle.oai_xml.specs.declared.faults.ParseStop.TheVariants.{At};

@@ -6,6 +6,7 @@ mod attributes;
 mod characters;
 mod declarations;
 mod documents;
+mod element_lists;
 mod element_texts;
 mod elements;
 mod faults;
@@ -24,6 +25,7 @@ mod spaces;
 mod tags;
 mod values;
 
+pub use element_lists::{ElementTexts, NamedElements};
 pub use element_texts::{ElementText, is_canonical};
 pub use faults::{XmlCause, XmlFault};
 pub use laws::{canonical_law, legal_law, spelling_law};

@@ -3,6 +3,7 @@ use oai_item::{DeletedRecord, Forms};
 use oai_names::{Sequence, Text};
 use oai_settings::{FormatSettings, Settings};
 use oai_time::Granularity;
+use oai_xml::{ElementTexts, NamedElements};
 use std::alloc::{AllocError, Global};
 
 /// The settings of a repository.
@@ -98,8 +99,18 @@ pub fn settings_of(alloc: Global, told: Told<'_>) -> Result<Settings, AllocError
         lists: told.lists,
         items: told.items,
         forms: Forms::Fields,
+        descriptions: no_elements(alloc)?,
+        set_descriptions: NamedElements::new(alloc),
         formats: journals(alloc, told.prefixes)?,
     })
+}
+
+/// No elements.
+fn no_elements(alloc: Global) -> Result<ElementTexts, AllocError> {
+    match ElementTexts::read(alloc, &[]) {
+        Ok(elements) => Ok(elements),
+        Err(_) => Err(AllocError),
+    }
 }
 
 /// The text, so often.

@@ -8,12 +8,13 @@ mod expected;
 
 use crate::assertions::{assert_same, assert_same_at};
 use oai_answers::{
-    Body, DeletedRecord, Doc, ErrorCode, Extent, Identity, Listed, Offered, Record, Remaining,
-    RequestAttributes, Resumption, write_document,
+    Body, DeletedRecord, DescribedSets, Doc, ErrorCode, Extent, Identity, Listed, Offered, Record,
+    Remaining, RequestAttributes, Resumption, write_document,
 };
 use oai_item::{Field, Format, Formats, Item};
 use oai_names::{Identifier, Prefix, Sequence, SetSpec, Text};
 use oai_time::Granularity;
+use oai_xml::{ElementTexts, NamedElements};
 use std::alloc::Global;
 use std::panic::Expect;
 use std::process::Abort;
@@ -241,6 +242,7 @@ fn identify(rt: HostRuntime) {
         earliest: DATE,
         deleted: DeletedRecord::Persistent,
         granularity: Granularity::Second,
+        descriptions: &[],
     };
     let body = Body::Identify(identity);
     assert_answer(&rt, alloc, verb("Identify"), body, expected::identify());
@@ -259,6 +261,7 @@ fn identify_of_days(rt: HostRuntime) {
         earliest: DATE + 86_399,
         deleted: DeletedRecord::No,
         granularity: Granularity::Day,
+        descriptions: &[],
     };
     let body = Body::Identify(identity);
     assert_answer(
@@ -270,6 +273,32 @@ fn identify_of_days(rt: HostRuntime) {
     );
 }
 
+/// Two elements in containers, behind `granularity`, as they stand.
+#[test]
+fn identify_described(rt: HostRuntime) {
+    let alloc = rt.alloc();
+    let descriptions = [
+        Text::new(alloc, r#"<a xmlns="u" b="&quot;">&lt;</a>"#).expect(&rt, "memory"),
+        Text::new(alloc, r#"<p:c xmlns:p="v" xmlns=""></p:c>"#).expect(&rt, "memory"),
+    ];
+    let identity = Identity {
+        name: "Archive A",
+        addresses: &[],
+        earliest: DATE,
+        deleted: DeletedRecord::Persistent,
+        granularity: Granularity::Second,
+        descriptions: &descriptions,
+    };
+    let body = Body::Identify(identity);
+    assert_answer(
+        &rt,
+        alloc,
+        verb("Identify"),
+        body,
+        expected::identify_described(),
+    );
+}
+
 #[test]
 fn identify_transient(rt: HostRuntime) {
     let identity = Identity {
@@ -278,6 +307,7 @@ fn identify_transient(rt: HostRuntime) {
         earliest: -62_167_219_200,
         deleted: DeletedRecord::Transient,
         granularity: Granularity::Second,
+        descriptions: &[],
     };
     let body = Body::Identify(identity);
     assert_answer(
@@ -377,8 +407,38 @@ fn set(rt: &impl Abort, alloc: Global, spec: &str, name: &str) -> (SetSpec, Text
 fn sets(rt: HostRuntime) {
     let alloc = rt.alloc();
     let sets = [set(&rt, alloc, "x", "X & Y"), set(&rt, alloc, "x:y", "Y")];
-    let body = Body::ListSets(&sets);
+    let described = NamedElements::new(alloc);
+    let body = Body::ListSets(DescribedSets {
+        sets: &sets,
+        described: &described,
+    });
     assert_answer(&rt, alloc, verb("ListSets"), body, expected::sets());
+}
+
+/// What describes a set stands behind its name, and behind no other set's.
+#[test]
+fn described_sets(rt: HostRuntime) {
+    let alloc = rt.alloc();
+    let sets = [set(&rt, alloc, "x", "X & Y"), set(&rt, alloc, "x:y", "Y")];
+    let texts = [
+        Text::new(alloc, r#"<a xmlns="u"/>"#).expect(&rt, "memory"),
+        Text::new(alloc, "<b/>").expect(&rt, "memory"),
+    ];
+    let elements = ElementTexts::read(alloc, &texts).expect(&rt, "ElementTexts::read");
+    let mut described = NamedElements::new(alloc);
+    let name = Text::new(alloc, "x").expect(&rt, "memory");
+    described.push(name, elements).expect(&rt, "memory");
+    let body = Body::ListSets(DescribedSets {
+        sets: &sets,
+        described: &described,
+    });
+    assert_answer(
+        &rt,
+        alloc,
+        verb("ListSets"),
+        body,
+        expected::described_sets(),
+    );
 }
 
 /// So many bytes that they are more than a megabyte.
@@ -389,11 +449,15 @@ const MUCH: usize = 1_048_577;
 fn document_behind_much(rt: HostRuntime) {
     let alloc = rt.alloc();
     let sets = [set(&rt, alloc, "x", "X & Y"), set(&rt, alloc, "x:y", "Y")];
+    let described = NamedElements::new(alloc);
     let doc = Doc {
         date: DATE,
         base: BASE,
         asked: verb("ListSets"),
-        body: Body::ListSets(&sets),
+        body: Body::ListSets(DescribedSets {
+            sets: &sets,
+            described: &described,
+        }),
     };
     let mut written = bytes(&rt, alloc, MUCH);
     write_document(alloc, &doc, &mut written).expect(&rt, "write_document");
@@ -622,6 +686,7 @@ fn escaped_identify(rt: HostRuntime) {
         earliest: DATE,
         deleted: DeletedRecord::No,
         granularity: Granularity::Day,
+        descriptions: &[],
     });
     assert_escaped(&rt, alloc, body, expected::escaped_identify());
 }
@@ -641,7 +706,11 @@ fn escaped_formats(rt: HostRuntime) {
 fn escaped_sets(rt: HostRuntime) {
     let alloc = rt.alloc();
     let sets = [set(&rt, alloc, "x'y", MARKUP)];
-    let body = Body::ListSets(&sets);
+    let described = NamedElements::new(alloc);
+    let body = Body::ListSets(DescribedSets {
+        sets: &sets,
+        described: &described,
+    });
     assert_escaped(&rt, alloc, body, expected::escaped_sets());
 }
 

@@ -8,6 +8,7 @@ use crate::answers::Answer;
 use crate::rows::Row;
 use oai_config::{Config, ReadFault, write_warnings};
 use oai_item::Forms;
+use oai_names::Text;
 use oai_settings::RepoConfig;
 use std::alloc::{AllocError, Global};
 use tests_fixtures::worked_configuration;
@@ -49,6 +50,8 @@ fn changed_answer(alloc: Global, call: &str, text: &[u8], answer: &mut Answer) {
         "Config::len" => counts(alloc, text, answer),
         "Config::repositories" => repositories(alloc, text, answer),
         "RepoConfig" => first_repository(alloc, text, answer),
+        "descriptions" => descriptions(alloc, text, answer),
+        "set-descriptions" => set_descriptions(alloc, text, answer),
         "write_warnings" => warnings(alloc, text, answer),
         _ => answer.word("no such call"),
     }
@@ -139,6 +142,39 @@ fn show_settings(config: &RepoConfig, answer: &mut Answer) {
     answer.value(config.lists());
     answer.value(config.items());
     answer.value(config.formats().len());
+}
+
+/// The elements that describe the first repository, or `none`.
+fn descriptions(alloc: Global, text: &[u8], answer: &mut Answer) {
+    match Config::read(alloc, Forms::Elements, text) {
+        Ok(config) => {
+            if let Some(first) = config.repositories().first() {
+                show_elements(first.config.descriptions(), answer);
+            }
+        }
+        Err(fault) => answer.fault(fault),
+    }
+}
+
+/// The elements that describe the set x of the first repository, or `none`.
+fn set_descriptions(alloc: Global, text: &[u8], answer: &mut Answer) {
+    match Config::read(alloc, Forms::Elements, text) {
+        Ok(config) => {
+            if let Some(first) = config.repositories().first() {
+                show_elements(first.config.set_descriptions().find("x"), answer);
+            }
+        }
+        Err(fault) => answer.fault(fault),
+    }
+}
+
+fn show_elements(elements: &[Text], answer: &mut Answer) {
+    if elements.is_empty() {
+        answer.word("none");
+    }
+    for element in elements {
+        answer.text(element.as_str());
+    }
 }
 
 /// What the configuration is warned of, each behind a line end.

@@ -9,6 +9,13 @@ pub(super) fn identify() -> &'static str {
 "#
 }
 
+/// Identify of a repository that two elements describe.
+pub(super) fn identify_described() -> &'static str {
+    r#"<?xml version="1.0" encoding="UTF-8"?>
+<OAI-PMH xmlns="http://www.openarchives.org/OAI/2.0/" xmlns:xsi="http://www.w3.org/2001/XMLSchema-instance" xsi:schemaLocation="http://www.openarchives.org/OAI/2.0/ http://www.openarchives.org/OAI/2.0/OAI-PMH.xsd"><responseDate>2024-01-01T00:00:00Z</responseDate><request verb="Identify">http://host.example/oai/a</request><Identify><repositoryName>Archive A</repositoryName><baseURL>http://host.example/oai/a</baseURL><protocolVersion>2.0</protocolVersion><earliestDatestamp>2024-01-01T00:00:00Z</earliestDatestamp><deletedRecord>persistent</deletedRecord><granularity>YYYY-MM-DDThh:mm:ssZ</granularity><description><a xmlns="u" b="&quot;">&lt;</a></description><description><p:c xmlns:p="v" xmlns=""></p:c></description></Identify></OAI-PMH>
+"#
+}
+
 /// Identify of a repository of days, with two administrators.
 pub(super) fn identify_of_days() -> &'static str {
     r#"<?xml version="1.0" encoding="UTF-8"?>
@@ -90,6 +97,13 @@ pub(super) fn all_formats() -> &'static str {
 pub(super) fn formats_of_an_item() -> &'static str {
     r#"<?xml version="1.0" encoding="UTF-8"?>
 <OAI-PMH xmlns="http://www.openarchives.org/OAI/2.0/" xmlns:xsi="http://www.w3.org/2001/XMLSchema-instance" xsi:schemaLocation="http://www.openarchives.org/OAI/2.0/ http://www.openarchives.org/OAI/2.0/OAI-PMH.xsd"><responseDate>2024-01-01T00:00:00Z</responseDate><request verb="ListMetadataFormats" identifier="oai:a:1">http://host.example/oai/a</request><ListMetadataFormats><metadataFormat><metadataPrefix>oai_dc</metadataPrefix><schema>http://www.openarchives.org/OAI/2.0/oai_dc.xsd</schema><metadataNamespace>http://www.openarchives.org/OAI/2.0/oai_dc/</metadataNamespace></metadataFormat></ListMetadataFormats></OAI-PMH>
+"#
+}
+
+/// ListSets of two sets, of which two elements describe the first.
+pub(super) fn described_sets() -> &'static str {
+    r#"<?xml version="1.0" encoding="UTF-8"?>
+<OAI-PMH xmlns="http://www.openarchives.org/OAI/2.0/" xmlns:xsi="http://www.w3.org/2001/XMLSchema-instance" xsi:schemaLocation="http://www.openarchives.org/OAI/2.0/ http://www.openarchives.org/OAI/2.0/OAI-PMH.xsd"><responseDate>2024-01-01T00:00:00Z</responseDate><request verb="ListSets">http://host.example/oai/a</request><ListSets><set><setSpec>x</setSpec><setName>X &amp; Y</setName><setDescription><a xmlns="u"></a></setDescription><setDescription><b xmlns=""></b></setDescription></set><set><setSpec>x:y</setSpec><setName>Y</setName></set></ListSets></OAI-PMH>
 "#
 }
 

@@ -14,5 +14,6 @@ returns c =
     let deleted = element (codes "deletedRecord") (plain (deleted_text d.deleted)) in
     let granularity = element (codes "granularity") (plain (granularity_text d.granularity)) in
     c.in_ok-start.ensures
-    ⨾ before_three earliest deleted granularity c.in_ok-write_names.ensures c.in_ok-write_rules.ensures
+    ⨾ (before_three earliest deleted granularity c.in_ok-write_names.ensures c.in_ok-write_rules.ensures
+    ⨾ c.in_ok-containers.ensures)
     ⨾ c.in_ok-end.ensures

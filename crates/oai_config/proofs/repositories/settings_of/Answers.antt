@@ -2,7 +2,7 @@ use Rattle.std.proofs.Common.{sym, ◌∙◌}
 use Rattle.std.proofs.lemmas.Result.{err_from_is_err_and}
 use Rattle.oai_config.specs.declared.repositories.Rules.{Rules}
 use Rattle.oai_config.proofs.PartLemmas.{refused_read, refused_view}
-use Rattle.oai_config.proofs.SettingsLemmas.{no_texts, no_rules, no_formats, settings_of-whole}
+use Rattle.oai_config.proofs.SettingsLemmas.{no_texts, no_rules, no_formats, no_descriptions, settings_of-whole}
 use Rattle.oai_config.proofs.repositories.settings_of.Goals as goal
 
 pub returns-in_err-rules : goal.returns-in_err-rules
@@ -23,8 +23,14 @@ returns-in_err-formats c =
     let p = err_from_is_err_and c.from_residual-in_err-formats.result c.from_residual-in_err-formats.ensures.1 in
     rw (p.1, p.2) (refused_read _ _ _ (no_formats c.args.forms c.args.base.now _ whole) c.in_err-formats.ensures)
 
+pub returns-in_err-described : goal.returns-in_err-described
+returns-in_err-described c =
+    let whole = sym c.is_repository.ensures ∙ c.if-not-is_repository.false in
+    let p = err_from_is_err_and c.from_residual-in_err-described.result c.from_residual-in_err-described.ensures.1 in
+    rw (p.1, p.2) (refused_read _ _ _ (no_descriptions c.args.forms c.args.base.now _ whole) c.in_err-described.ensures)
+
 pub returns : goal.returns
 returns c =
     let whole = sym c.is_repository.ensures ∙ c.if-not-is_repository.false in
     rw (← c.in_ok-new.ensures)
-    (settings_of-whole _ _ _ _ _ _ whole c.in_ok-texts.ensures c.in_ok-rules.ensures c.in_ok-formats.ensures)
+    (settings_of-whole _ _ _ _ _ _ _ whole c.in_ok-texts.ensures c.in_ok-rules.ensures c.in_ok-formats.ensures c.in_ok-described.ensures)
