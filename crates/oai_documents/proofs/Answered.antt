@@ -28,9 +28,10 @@ use Rattle.oai_args.specs.declared.requests.Ask.TheVariants as ask
 use Rattle.oai_answers.specs.Answers.{Attributes, DescribedSet, Document, described_sets, Page, VerbAnswer, is_offered, offered}
 use Rattle.oai_answers.specs.Seen.{IsRegular}
 use Rattle.oai_xml.specs.Documents.{is_canonical}
-use Rattle.oai_xml.specs.Named.{NamedList, elements_named, elements_of}
+use Rattle.oai_xml.specs.Named.{NamedList}
 use Rattle.oai_xml.specs.Whole.{is_whole}
 use Rattle.oai_settings.specs.Config.{IsConfig, RepositoryConfig, are_limits, is_chunk, is_described, is_items, is_lifetime, is_lists}
+use Rattle.oai_repo.proofs.DescriptionLemmas.{found_alone}
 use Rattle.oai_repo.specs.Answers.{arguments_of_request, disseminated, elements_alone, filter_of, formats_answer, item_formats_answer, record_answer, sets_answer}
 use Rattle.oai_holdings.specs.Changes.{refusal_of, stamp_at}
 use Rattle.oai_repo.specs.Listing.{Response, answer_by_verb, complete_answer, complete_page, continued_response, format_response, has_no_sets, is_continued, is_handed_out, is_of_number, is_same_verb, is_valid_cursor, list_response, new_list, opens_list, part_answer, part_from, prolonged, request_response, retry_after, selection_response, token_response, wait_at, where_continued, with_answer}
@@ -230,25 +231,11 @@ of_formats passes config state (Some identifier) rules sound =
     of_item_formats passes config state.holdings.sets (item_named identifier state.holdings.items) rules
     (λ item found. of_named (is_well_kept config state.holdings.sets) identifier state.holdings.items item found sound.kept.well)
 
--- of lists of which each passes the found one does
-found_passes : (passes : List ℕ → Bool) (lists : List NamedList) (spec : List ℕ) → list_all (λ (list : NamedList). list_all (has_root_in passes) list.1) lists ≡ true
-    → list_all (has_root_in passes) (elements_named (map elements_alone lists) spec) ≡ true
-unfolding elements_named
-found_passes passes [] spec all = refl
-found_passes passes (list ∷ lists) spec all = by_test (bytes_eq list.0 spec)
-  where
-    parts : _
-    parts = and_parts (list_all (has_root_in passes) list.1) (list_all (λ (list : NamedList). list_all (has_root_in passes) list.1) lists) all
-
-    by_test : (b : Bool) → list_all (has_root_in passes) (elements_of (cond b (Some (elements_alone list)) (find (λ (l : NamedList). bytes_eq l.0 spec) (map elements_alone lists)))) ≡ true
-    by_test true = all-filter (has_root_in passes) is_canonical list.1 parts.0
-    by_test false = found_passes passes lists spec parts.1
-
 described_pass : (passes : List ℕ → Bool) (config : RepositoryConfig) (sets : List NamedSet) → Rules passes config
     → list_all (λ (set : DescribedSet). list_all (has_root_in passes) set.descriptions) (described_sets (map elements_alone config.set_descriptions) sets) ≡ true
 described_pass passes config [] rules = refl
 described_pass passes config (set ∷ sets) rules =
-    and_from _ _ (found_passes passes config.set_descriptions set.0 rules.set_descriptions) (described_pass passes config sets rules)
+    and_from _ _ (found_alone (has_root_in passes) config.set_descriptions set.0 rules.set_descriptions) (described_pass passes config sets rules)
 
 of_sets : (passes : List ℕ → Bool) (config : RepositoryConfig) (sets : List NamedSet) → Rules passes config → IsGiven passes (sets_answer config sets)
 of_sets passes config [] rules = (tt, tt)

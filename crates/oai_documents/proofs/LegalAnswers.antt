@@ -27,13 +27,13 @@ use Rattle.oai_item.proofs.Named.{of_found as of_named}
 use Rattle.oai_item.proofs.OrderLemmas.{all-placed}
 use Rattle.oai_args.specs.Asks.{AskOrError, asks, bad_argument, bad_verb}
 use Rattle.oai_args.specs.declared.requests.Ask.TheVariants as ask
-use Rattle.oai_answers.specs.Answers.{Attributes, Document, Page, completes, is_offered, offered, remains}
+use Rattle.oai_answers.specs.Answers.{Attributes, Document, Page, completes, described_sets, is_offered, offered, remains}
 use Rattle.oai_answers.specs.Documents.{document}
-use Rattle.oai_xml.specs.Named.{NamedList, elements_named, elements_of}
-use Rattle.oai_answers.specs.Answers.{described_sets}
+use Rattle.oai_xml.specs.Named.{NamedList}
 use Rattle.oai_xml.specs.LegalTexts.{is_legal_text}
 use Rattle.oai_xml.specs.Documents.{is_canonical, tree_in}
 use Rattle.oai_settings.specs.Config.{IsConfig, RepositoryConfig}
+use Rattle.oai_repo.proofs.DescriptionLemmas.{found_alone}
 use Rattle.oai_repo.specs.Answers.{arguments_of_request, disseminated, elements_alone, filter_of, formats_answer, item_formats_answer, record_answer, sets_answer}
 use Rattle.oai_holdings.specs.Changes.{after_deletion, after_purge, changed, is_held_so, is_past, limit_of, purged, refusal_of, stamp_at, with_new, with_put, with_tombstone}
 use Rattle.oai_repo.specs.Listing.{Response, answer_by_verb, carried_on_at, complete_answer, complete_page, continued_response, extent_at, format_response, has_no_sets, is_continued, is_of_number, items_from, list_response, new_list, next_cursor, opens_list, part_answer, part_from, prolonged, request_response, retry_after, selection_response, token_response, wait_at, where_continued, with_answer}
@@ -310,26 +310,12 @@ of_formats : (config : RepositoryConfig) (items : List ItemState) (identifier : 
 of_formats config items None so = offered_legal config None so
 of_formats config items (Some identifier) so = of_item_formats config (item_named identifier items) so
 
--- of lists of which each is legal the found one is
-found_legal : (lists : List NamedList) (spec : List ℕ) → list_all (λ (list : NamedList). list_all is_legal_text list.1) lists ≡ true
-    → list_all is_legal_text (elements_named (map elements_alone lists) spec) ≡ true
-unfolding elements_named
-found_legal [] spec all = refl
-found_legal (list ∷ lists) spec all = by_test (bytes_eq list.0 spec)
-  where
-    parts : _
-    parts = and_parts (list_all is_legal_text list.1) (list_all (λ (list : NamedList). list_all is_legal_text list.1) lists) all
-
-    by_test : (b : Bool) → list_all is_legal_text (elements_of (cond b (Some (elements_alone list)) (find (λ (l : NamedList). bytes_eq l.0 spec) (map elements_alone lists)))) ≡ true
-    by_test true = all-filter is_legal_text is_canonical list.1 parts.0
-    by_test false = found_legal lists spec parts.1
-
 described_legal : (config : RepositoryConfig) (sets : List NamedSet) → Texts config → list_all is_legal_set sets ≡ true
     → list_all is_legal_described (described_sets (map elements_alone config.set_descriptions) sets) ≡ true
 described_legal config [] so all = refl
 described_legal config (set ∷ sets) so all =
     let parts = and_parts (is_legal_set set) (list_all is_legal_set sets) all in
-    both (both parts.0 (found_legal config.set_descriptions set.0 so.set_descriptions)) (described_legal config sets so parts.1)
+    both (both parts.0 (found_alone is_legal_text config.set_descriptions set.0 so.set_descriptions)) (described_legal config sets so parts.1)
 
 of_sets : (config : RepositoryConfig) (sets : List NamedSet) → Texts config → list_all is_legal_set sets ≡ true → IsLegalAnswer (sets_answer config sets)
 of_sets config [] so all = tt

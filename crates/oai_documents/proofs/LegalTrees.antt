@@ -39,13 +39,12 @@ use Rattle.oai_xml.specs.Whole.{IsElement}
 use Rattle.oai_xml.proofs.CanonicalLemmas.{element_tested, tree_again}
 use Rattle.oai_xml.proofs.Spellings.{tree_spelled}
 use Rattle.oai_xml.proofs.LegalSpellings.{Legal, both as both_legal, end_legal, is_plain, legal, nothing_legal, plain, spelled_legal, start_legal, tested}
-use Rattle.oai_holdings.specs.Holdings.{NamedSet}
 use Rattle.oai_answers.specs.ElementParts.{bare_leaf, bare_parent, element_attribute, in_order, leaf, parent}
 use Rattle.oai_documents.specs.DocumentTrees.{answer_tree, argument_attribute, arguments, container_tree, document_tree, error_tree, extent, format_tree, formats_tree, header_tree, headers_tree, identify_tree, metadata_parts, record_tree, records_tree, request_tree, root_attributes, set_tree, sets_tree, status, token_trees}
 use Rattle.oai_answers.specs.MetadataTrees.{declared_attributes, declared_tree, dublin_core_attributes, dublin_core_tree, element_tree, field_tree, fields_tree, instance_namespace, metadata_tree, tree_or}
 use Rattle.oai_answers.proofs.NamedTrees.{canonical_so, kept_so}
 use Rattle.oai_answers.proofs.Written.{in_order_spelled}
-use Rattle.oai_documents.specs.Texts.{have_legal_arguments, is_legal_argument, is_legal_field, is_legal_format, is_legal_item, is_legal_record, is_legal_set}
+use Rattle.oai_documents.specs.Texts.{have_legal_arguments, is_legal_argument, is_legal_field, is_legal_format, is_legal_item, is_legal_record}
 use Rattle.oai_documents.proofs.Names.{all_further, rule_name}
 use Rattle.oai_documents.proofs.Tags.{both}
 use Rattle.oai_documents.proofs.WholeTrees.{allowed_names, fields_named, is_named_field}
@@ -449,17 +448,15 @@ records_fine format page good is own all token =
     (each_fine (record_tree page.granularity format) (is_good_item format) (λ item so. record_fine page.granularity format item good is so) page.items (all_and (has_own_fields format) is_legal_item page.items own all))
     (token_fine page.continuation token))
 
--- ---- documents
-
 -- ---- Identify, with the elements that describe the repository
 
-container_fine : (name text : List ℕ) → is_ascii_ncname name ≡ true → (is_canonical text && is_legal_text text) ≡ true → IsFine (container_tree name text)
+container_fine : (name text : List ℕ) → list_all is_plain name ≡ true → (is_canonical text && is_legal_text text) ≡ true → IsFine (container_tree name text)
 unfolding container_tree
 container_fine name text is fit =
     let parts = and_parts (is_canonical text) (is_legal_text text) fit in
     fine_parent name (element_tree text ∷ []) is (both (element_fine (bare_parent [] []) text (element_tested text parts.0) parts.1) refl)
 
-descriptions_fine : (name : List ℕ) (texts : List (List ℕ)) → is_ascii_ncname name ≡ true → list_all is_canonical texts ≡ true → list_all is_legal_text texts ≡ true
+descriptions_fine : (name : List ℕ) (texts : List (List ℕ)) → list_all is_plain name ≡ true → list_all is_canonical texts ≡ true → list_all is_legal_text texts ≡ true
     → list_all is_fine (map (container_tree name) texts) ≡ true
 descriptions_fine name texts is regular all =
     each_fine (container_tree name) (λ text. is_canonical text && is_legal_text text) (λ text fit. container_fine name text is fit) texts (all_and is_canonical is_legal_text texts regular all)
@@ -496,6 +493,8 @@ sets_fine : (sets : List DescribedSet) → list_all has_elements sets ≡ true �
 unfolding sets_tree
 sets_fine sets regular all =
     fine_parent (codes "ListSets") _ refl (each_fine set_tree (λ set. has_elements set && is_legal_described set) set_fine sets (all_and has_elements is_legal_described sets regular all))
+
+-- ---- documents
 
 -- the texts of an answer are legal
 abbrev pub IsLegalAnswer : VerbAnswer → Type 0

@@ -116,15 +116,13 @@ granularity_known Second = refl
 -- an element of another namespace, in its container
 container_is : (name text : List ℕ) → has_root_in is_foreign text ≡ true → IsContainer name (container_tree name text)
 unfolding container_tree
-container_is name text is = record { name_is = refl; attributes = refl; children = (_, refl, (element_tree text, refl, foreign)) }
-  where
-    neither_of : (own none : Bool) → (not none && not own) ≡ true → (own || none) ≡ false
-    neither_of true none h = grind h
-    neither_of false true h = cc
-    neither_of false false h = refl
-
-    foreign : IsForeign (element_tree text)
-    foreign = neither_of (bytes_eq (root_of (element_tree text)).namespace oai_namespace) (bytes_eq (root_of (element_tree text)).namespace []) is
+container_is name text is =
+    let namespace : List ℕ = (root_of (element_tree text)).namespace in
+    record {
+      name_is = refl;
+      attributes = refl;
+      children = (_, refl, (element_tree text, refl, not-true (bytes_eq namespace oai_namespace || bytes_eq namespace []) is));
+    }
 
 containers_are : (name : List ℕ) (texts : List (List ℕ)) → list_all (has_root_in is_foreign) texts ≡ true → Any (IsContainer name) (map (container_tree name) texts)
 containers_are name [] all = tt
@@ -390,6 +388,13 @@ records_are format page good other some own =
 
 -- ---- documents
 
+not_own : (namespace : List ℕ) → is_foreign namespace ≡ true → bytes_eq namespace oai_namespace ≡ false
+not_own namespace is = first (bytes_eq namespace oai_namespace) (bytes_eq namespace []) is
+  where
+    first : (own none : Bool) → not (own || none) ≡ true → own ≡ false
+    first true none h = sym h
+    first false none h = refl
+
 answer_is : (base : List ℕ) (answer : VerbAnswer) → IsRegular answer → IsFilled answer → HasNamespace is_foreign answer → AreAnswerElements (answer_tree base answer ∷ [])
 unfolding answer_tree
 answer_is base (fails code) regular filled other = inl (error_is code, tt)
@@ -403,11 +408,11 @@ answer_is base (gives_record d) regular filled other =
       record {
         name_is = refl;
         attributes = refl;
-        children = (_, refl, (record_tree d.granularity d.format d.item, refl, record_is d.granularity d.format d.item regular.0 (not-true (bytes_eq d.format.namespace oai_namespace) other) regular.1));
+        children = (_, refl, (record_tree d.granularity d.format d.item, refl, record_is d.granularity d.format d.item regular.0 (not_own d.format.namespace other) regular.1));
       },
     )))))
 answer_is base (lists_headers page) regular filled other = inr (inr (inr (inr (inr (inl (headers_tree page, refl, headers_are page filled))))))
-answer_is base (lists_records format page) regular filled other = inr (inr (inr (inr (inr (inr (records_tree format page, refl, records_are format page regular.0 (not-true (bytes_eq format.namespace oai_namespace) other) filled regular.1))))))
+answer_is base (lists_records format page) regular filled other = inr (inr (inr (inr (inr (inr (records_tree format page, refl, records_are format page regular.0 (not_own format.namespace other) filled regular.1))))))
 
 pub document_is : (d : Document) → IsRegular d.answer → IsFilled d.answer → HasNamespace is_foreign d.answer → IsOfSchema (document_tree d)
 unfolding document_tree root_attributes

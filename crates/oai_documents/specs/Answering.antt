@@ -5,7 +5,7 @@ use Rattle.oai_xml.specs.Named.{NamedList}
 use Rattle.oai_settings.specs.Config.{RepositoryConfig}
 use Rattle.oai_documents.specs.WellFormed.{has_root_in}
 
--- the namespace of each of its formats passes the test, and that of each element that describes it or a set
+-- the namespace of each of its formats passes the test, and that of the root of each element that describes it or a set
 abbrev pub have_namespaces : (List ℕ → Bool) → RepositoryConfig → Bool
 have_namespaces passes config =
     list_all (λ format. passes format.namespace) config.formats && list_all (has_root_in passes) config.descriptions

@@ -21,19 +21,16 @@ use Rattle.oai_documents.specs.Schema.{oai_namespace}
 abbrev pub may_be_default : List ℕ → Bool
 may_be_default namespace = not (bytes_eq namespace xml_namespace || bytes_eq namespace xmlns_namespace)
 
--- the namespace is not that of OAI-PMH
+-- there is a namespace, and it is not that of OAI-PMH: what `##other` stands for in its schema (XML Schema 1.0, part 1, section 3.10.1)
 abbrev pub is_foreign : List ℕ → Bool
-is_foreign namespace = not (bytes_eq namespace oai_namespace)
+is_foreign namespace = not (bytes_eq namespace oai_namespace || bytes_eq namespace [])
 
--- the root of an element is in a namespace, which passes the test
-abbrev pub is_in_namespace : (List ℕ → Bool) → List ℕ → Bool
-is_in_namespace passes namespace = not (bytes_eq namespace []) && passes namespace
-
+-- the namespace of an element's root passes the test
 abbrev pub has_root_in : (List ℕ → Bool) → List ℕ → Bool
-has_root_in passes text = is_in_namespace passes (root_of (element_tree text)).namespace
+has_root_in passes text = passes (root_of (element_tree text)).namespace
 
--- the format of the records in an answer has a namespace that passes the test, and so has each element that describes a repository
--- or a set
+-- the format of the records in an answer has a namespace that passes the test, and so has the root of each element that describes a
+-- repository or a set
 abbrev pub HasNamespace : (List ℕ → Bool) → VerbAnswer → Type 0
 HasNamespace passes (fails code) = Unit {0}
 HasNamespace passes (identifies d) = list_all (has_root_in passes) d.descriptions ≡ true

@@ -19,8 +19,8 @@ ghost use Rattle.oai_documents.specs.Texts.{are_legal_commands, is_legal_command
 ghost use Rattle.oai_documents.specs.WellFormed.{HasNamespace, HasFittingElements, IsFilled, is_foreign, may_be_default};
 
 /// Each document is the XML declaration, a line end, the spelling of its tree, and a line end, whatever stands in it. The
-/// premises: formats satisfy the rules of formats, and the fields of each record are those of its format, or keep an element
-/// of it. A theorem, proved by an empty function.
+/// premises: formats satisfy the rules of formats; the fields of each record are those of its format, or keep an element
+/// of it; and what describes a repository or a set is an element in canonical text. A theorem, proved by an empty function.
 pub fn spelled_law()
     ensures { (d : Document) → IsRegular d.answer
         → document d ≡ xml_declaration ++ (spelled (document_tree d) ++ line_end) }
@@ -28,8 +28,9 @@ pub fn spelled_law()
 
 /// The tree of a document is whole (XML 1.0, fifth edition; Namespaces in XML 1.0, third edition): names are QNames,
 /// each prefix is declared, no attribute stands twice, declarations are legal. The premises: formats satisfy the rules
-/// of formats; the fields of each record are those of its format, or keep an element of it, of at most 124 levels and with
-/// at most 126 declarations in force (`HasFittingElements`); and the format's namespace is not one of the two that
+/// of formats; the fields of each record are those of its format, or keep an element of it; what describes a repository or
+/// a set is an element in canonical text; elements have at most 124 levels and at most 126 declarations in force
+/// (`HasFittingElements`); and neither the format's namespace nor that of such a description is one of the two that
 /// Namespaces in XML reserves. A theorem, proved by an empty function.
 pub fn well_formed_law()
     ensures { (d : Document) → IsRegular d.answer → HasNamespace may_be_default d.answer
@@ -38,8 +39,9 @@ pub fn well_formed_law()
 
 /// The tree of a document has the elements that the schema of OAI-PMH asks for, in its order, as often as it allows,
 /// and with its attributes (`OAI-PMH.xsd`). The premises: formats satisfy the rules of formats, and the fields of each
-/// record are those of its format or keep an element of it; no list of the answer is empty; and the format of its records has another namespace
-/// than OAI-PMH. A theorem, proved by an empty function.
+/// record are those of its format or keep an element of it; no list of the answer is empty; and the format of its records,
+/// or the elements that describe the repository or sets, have a namespace, and another than OAI-PMH. A theorem, proved by
+/// an empty function.
 pub fn schema_law()
     ensures { (d : Document) → IsRegular d.answer → IsFilled d.answer → HasNamespace is_foreign d.answer
         → IsOfSchema (document_tree d) }
@@ -70,9 +72,10 @@ pub fn commands_law()
 /// commands at any moments from its beginning on, the tree of each document is whole, and has the elements that the
 /// schema of OAI-PMH asks for. If the texts of the configuration and of the commands are UTF-8 of characters that XML
 /// allows, as those of each command that is read are ([`commands_law`]), so is each document, and an XML parser reads
-/// its tree (`read`). The premises are on the namespaces of the formats: none is that of `xml` or `xmlns`; and for the
-/// schema, none is that of OAI-PMH. Where a document's tree is whole and read, records that are elements have at most 124
-/// levels, and at most 126 declarations in force (`HasFittingElements`). A theorem, proved by an empty function.
+/// its tree (`read`). The premises are on the namespaces of the formats, and of the elements that describe the repository
+/// and its sets: none is that of `xml` or `xmlns`; and for the schema, each has one, and none is that of OAI-PMH. Where a
+/// document's tree is whole and read, records that are elements and descriptions have at most 124 levels, and at most 126
+/// declarations in force (`HasFittingElements`). A theorem, proved by an empty function.
 pub fn answers_law()
     ensures whole { (config : RepositoryConfig) (d : Document) → IsConfig config → IsSomeAnswer config d
         → have_namespaces may_be_default config ≡ true → HasFittingElements d.answer

@@ -43,10 +43,11 @@ abbrev pub record_answer : RepositoryConfig → Option ItemState → List ℕ �
 record_answer config None prefix = fails IdDoesNotExist
 record_answer config (Some item) prefix = disseminated config item (format_named prefix config.formats)
 
--- ListSets (section 4.6): the sets in order of addition, if there are any
+-- of what describes a set the elements in canonical text, in a configuration that keeps its rules all
 abbrev pub elements_alone : NamedList → NamedList
 elements_alone list = (list.0, filter is_canonical list.1)
 
+-- ListSets (section 4.6): the sets in order of addition, if there are any
 abbrev pub sets_answer : RepositoryConfig → List NamedSet → VerbAnswer
 sets_answer config [] = fails NoSetHierarchy
 sets_answer config (set ∷ sets) = lists_sets (described_sets (map elements_alone config.set_descriptions) (set ∷ sets))
