@@ -1,7 +1,7 @@
 # The data provider that mirror-trial moves from: Dancer::Plugin::Catmandu::OAI over the items of the file that ITEMS names, one JSON object a
 # line. The protocol is all the plugin's; only what it searches is here. Lists come in parts of LIMIT records. Each format is a template in the
-# folder TEMPLATES; marc21 is there only if it has one. If PREFIX is not empty, the protocol's elements have it. It is run by starman, and needs these
-# packages of Debian:
+# folder TEMPLATES; marc21 and datacite are there only if it has them. If PREFIX is not empty, the protocol's elements have it. It is run by
+# starman, and needs these packages of Debian:
 #     apt-get install libdancer-plugin-catmandu-oai-perl starman
 
 # Items by their `_id`. It knows the queries that the plugin makes: of dates, and of one identifier.
@@ -73,8 +73,13 @@ set plugins => {'Catmandu::OAI' => {
          metadataNamespace => 'http://www.openarchives.org/OAI/2.0/oai_dc/', template => "$ENV{TEMPLATES}/oai_dc.tt"},
         {metadataPrefix => 'jnl', schema => 'http://host.example/jnl.xsd', metadataNamespace => 'http://host.example/jnl/',
          template => "$ENV{TEMPLATES}/jnl.tt"},
-        (-e "$ENV{TEMPLATES}/marc21.tt" ? {metadataPrefix => 'marc21', schema => 'http://www.loc.gov/standards/marcxml/schema/MARC21slim.xsd',
-         metadataNamespace => 'http://www.loc.gov/MARC21/slim', template => "$ENV{TEMPLATES}/marc21.tt"} : ()),
+        (grep { -e $_->{template} } {
+            metadataPrefix => 'marc21', schema => 'http://www.loc.gov/standards/marcxml/schema/MARC21slim.xsd',
+            metadataNamespace => 'http://www.loc.gov/MARC21/slim', template => "$ENV{TEMPLATES}/marc21.tt",
+        }, {
+            metadataPrefix => 'datacite', schema => 'http://schema.datacite.org/meta/kernel-4.4/metadata.xsd',
+            metadataNamespace => 'http://datacite.org/schema/kernel-4', template => "$ENV{TEMPLATES}/datacite.tt",
+        }),
     ],
     sets => [map { +{setSpec => $_, setName => $sets{$_}, cql => qq(sets any "$_")} } keys %sets],
 }};

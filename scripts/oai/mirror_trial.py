@@ -33,9 +33,13 @@ ITEMS = int(os.environ.get("ITEMS", "5000"))
 LIMIT = 100
 PREFIXES = ["oai_dc", "jnl"]
 
-# The format that source and target have beside these where records are elements.
+# The formats that source and target have beside these where records are elements.
 MARC = {
     "prefix": "marc21", "schema": "http://www.loc.gov/standards/marcxml/schema/MARC21slim.xsd", "namespace": "http://www.loc.gov/MARC21/slim", "root": "record",
+}  # fmt: skip
+DATACITE = {
+    "prefix": "datacite", "schema": "http://schema.datacite.org/meta/kernel-4.4/metadata.xsd", "namespace": "http://datacite.org/schema/kernel-4",
+    "root": "resource",
 }  # fmt: skip
 
 # What the requests have that are cut.
@@ -442,7 +446,7 @@ def canonical(text):
 def compare_elements(trial, what):
     """Each record of the target is the element of the source."""
     count = 0
-    for prefix in [*PREFIXES, MARC["prefix"]]:
+    for prefix in [*PREFIXES, MARC["prefix"], DATACITE["prefix"]]:
         theirs = elements_at(f"http://127.0.0.1:{trial.source.port}/oai", prefix)
         ours = elements_at(f"http://127.0.0.1:{trial.target.port}/oai/archive", prefix)
         for it in NO_URIS:
@@ -457,7 +461,7 @@ def compare_elements(trial, what):
 def check_elements(trial):
     """Moves of records with attributes and nested elements, to formats without fields, while source and target are killed."""
     trial.source.write_as("scripts/mirror-source/elements", "")
-    trial.new_target({name: it for name, it in JOURNAL.items() if name != "fields"}, MARC)
+    trial.new_target({name: it for name, it in JOURNAL.items() if name != "fields"}, MARC, DATACITE)
     trial.to_source.cuts += [(MARC["prefix"].encode(), lambda request, relay: relay.answer(request)), (TOKEN, cut_answer(trial.source, True))]
     trial.to_target.cuts += [(POST, lambda request, relay: relay.answer(request)), (POST, cut_request(trial.target, True)), (POST, drop_answer(trial.target, True))]
     printed, _ = trial.mirror("elements", "--elements")
@@ -501,7 +505,7 @@ def mirror_trial(*parts: typing.Literal["moves", "source", "target", "elements"]
                is killed, and started for the next run
       target   a whole archive each time, where the target is killed when half of a message has come, or when its answer is on the way, and started
                again; is killed so, and started for the next run
-      elements a whole archive with --elements, in three formats, whose records have attributes, nested elements and prefixes in values, while source and
+      elements a whole archive with --elements, in four formats, whose records have attributes, nested elements and prefixes in values, while source and
                target are killed; again; 500 changes and 50 deletions, with kills, where the protocol's elements have a prefix. Each record is then the
                source's, as a tree and in the canonical form
     Between the two and the program stand relays, which cut. It ends with `N runs, M differences`; the status is 0 where
