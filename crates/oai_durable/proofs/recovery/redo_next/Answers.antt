@@ -16,8 +16,8 @@ returns-in-Ok-false-clause-end g c = λ none clean begun first entries had.
     (record { read = read.0; so = had.so }, read.1)
 
 pub returns-in-Err-redo_last-clause-damaged : goal.returns-in-Err-redo_last-clause-damaged
-returns-in-Err-redo_last-clause-damaged g c = λ clean first entries had. tells_nothing (g.D.Disk.seen c.advance.new.self.disk) c.in-Err-redo_last.fault c.in-Err-redo_last.ensures.own
+returns-in-Err-redo_last-clause-damaged g c = λ clean first entries had. tells_nothing (g.D.Disk.seen c.advance.new.self.reader.disk) c.in-Err-redo_last.fault c.in-Err-redo_last.ensures.own
 
 pub returns-in-Err-clause-damaged : goal.returns-in-Err-clause-damaged
 returns-in-Err-clause-damaged g c = λ clean first entries had.
-    tells_own (g.D.Disk.seen c.advance.new.self.disk) c.in-Err.fault (λ at is. c.in-Err.ensures.damaged at is clean first entries had)
+    tells_own (g.D.Disk.seen c.advance.new.self.reader.disk) c.in-Err.fault (λ at is. c.in-Err.ensures.damaged at is clean first entries had)
