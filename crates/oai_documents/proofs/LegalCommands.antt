@@ -41,7 +41,7 @@ use Rattle.oai_item.specs.declared.fields.Field.{Field}
 use Rattle.oai_item.specs.declared.refusals.LineRefusal.{LineRefusal}
 use Rattle.oai_item.specs.declared.refusals.LineRefusal.TheVariants.{BadIdentifier, BadSetSpec, BadText}
 use Rattle.oai_json.specs.Json.{items_of, json_in, members_of}
-use Rattle.oai_deposit.specs.Lines.{Parts, Shape, adds_set, as_deposit, as_given, as_put, asked_change, asked_parts, before_others, change_asked, deletes, deposits, puts, elements_read, given_element, have_xml_texts, line_of, purges, read_as_element, shape_of, value_asked}
+use Rattle.oai_deposit.specs.Lines.{DepositParts, Shape, adds_set, as_deposit, as_given, as_put, asked_change, asked_parts, before_others, change_asked, deletes, deposits, puts, elements_read, given_element, have_xml_texts, line_of, purges, read_as_element, shape_of, value_asked}
 use Rattle.oai_deposit.specs.Shapes.{IsShape, written_field, written_given, written_record, written_records}
 use Rattle.oai_deposit.proofs.ShapeLemmas.{shape_law_holds}
 use Rattle.oai_args.specs.Arguments.{given, occurrence_of}
@@ -246,7 +246,7 @@ unfolding is_short_text
 short_characters text is = (and_parts _ (is_xml_text text) is).1
 
 -- the parts of a deposit, whose texts are tested
-parts_legal : (d : Data) (written : List GivenRecord) (identifier : List ℕ) (sets : List (List ℕ)) (parts : Parts) → get (codes "records") d ≡ Some (written_records written) → is_text_data d ≡ true
+parts_legal : (d : Data) (written : List GivenRecord) (identifier : List ℕ) (sets : List (List ℕ)) (parts : DepositParts) → get (codes "records") d ≡ Some (written_records written) → is_text_data d ≡ true
     → asked_parts identifier sets (elements_read written) ≡ Ok parts → is_legal_change (change.Deposit parts.0 parts.1 parts.2) ≡ true
 parts_legal d written identifier sets parts found text is = by_elements (elements_read written) refl is
   where
@@ -255,10 +255,10 @@ parts_legal d written identifier sets parts found text is = by_elements (element
         → cond (not a) (Err BadIdentifier) (cond (not b) (Err BadSetSpec) (cond (not c) (Err BadText) (Ok (identifier, sets, records)))) ≡ Ok parts
         → is_legal_change (change.Deposit parts.0 parts.1 parts.2) ≡ true
     by_tests records true true true read named specs texts is =
-        let whole : Parts = (identifier, sets, records) in
+        let whole : DepositParts = (identifier, sets, records) in
         let same : whole ≡ parts = cc in
         let told : is_text_data (written_records written) ≡ true = found_text (codes "records") d (written_records written) text found in
-        subst (λ (p : Parts). is_legal_change (change.Deposit p.0 p.1 p.2) ≡ true) same
+        subst (λ (p : DepositParts). is_legal_change (change.Deposit p.0 p.1 p.2) ≡ true) same
         (both (both (identifier_legal identifier named) (all-weaker may_be_set_spec is_legal_text set_spec_legal sets specs)) (records_legal written records told read texts))
     by_tests records true true false read named specs texts is = cc
     by_tests records true false c read named specs texts is = cc
@@ -272,14 +272,14 @@ asked_legal : (forms : Forms) (shape : Shape) (d : Data) (asked : Change) → Is
 unfolding asked_change
 asked_legal forms (deposits identifier sets written) d asked shape text is = by_parts (asked_parts identifier sets (elements_read written)) refl is
   where
-    by_parts : (r : Result Parts LineRefusal) → asked_parts identifier sets (elements_read written) ≡ r → as_deposit r ≡ Ok asked → is_legal_change asked ≡ true
+    by_parts : (r : Result DepositParts LineRefusal) → asked_parts identifier sets (elements_read written) ≡ r → as_deposit r ≡ Ok asked → is_legal_change asked ≡ true
     by_parts (Ok parts) read is =
         let same : change.Deposit parts.0 parts.1 parts.2 ≡ asked = cc in
         subst (λ (c : Change). is_legal_change c ≡ true) same (parts_legal d written identifier sets parts shape.records text read)
     by_parts (Err cause) read is = cc
 asked_legal forms (puts identifier sets written) d asked shape text is = by_parts (asked_parts identifier sets (elements_read written)) refl is
   where
-    by_parts : (r : Result Parts LineRefusal) → asked_parts identifier sets (elements_read written) ≡ r → as_put r ≡ Ok asked → is_legal_change asked ≡ true
+    by_parts : (r : Result DepositParts LineRefusal) → asked_parts identifier sets (elements_read written) ≡ r → as_put r ≡ Ok asked → is_legal_change asked ≡ true
     by_parts (Ok parts) read is =
         let same : change.Put parts.0 parts.1 parts.2 ≡ asked = cc in
         subst (λ (c : Change). is_legal_change c ≡ true) same (parts_legal d written identifier sets parts shape.records text read)
