@@ -17,7 +17,7 @@ IsCanonicalResult text (Ok element) = canonical text ≡ Ok element
 IsCanonicalResult text (Err (Refused offset cause)) = canonical text ≡ Err offset
 IsCanonicalResult text (Err NoMemory) = Unit {0}
 
--- the canonical texts of texts, in order; or of one of them the place of its first fault, and none before it has one
+-- the canonical texts of texts, in order; or one of them is no element; or out of memory
 abbrev pub AreElementsRead : List (List ℕ) → Result (List (List ℕ)) XmlFault → Type 0
 AreElementsRead texts (Ok elements) = each_of canonical_in texts ≡ Some elements
 AreElementsRead texts (Err (Refused offset cause)) = each_of canonical_in texts ≡ None
