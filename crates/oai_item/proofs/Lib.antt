@@ -1,5 +1,6 @@
 pub mod FormatLemmas
 pub mod Repeats
+pub mod Contents
 pub mod Declarations
 pub mod Lengths
 pub mod Ascii

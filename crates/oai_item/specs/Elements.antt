@@ -1,6 +1,7 @@
--- Records that are whole XML elements: how an item keeps one, and when it is one of a format. Namespaces in XML 1.0, sections 2.1 and 4;
--- OAI-PMH 2.0, section 3.4.
-use Rattle.std.specs.Prelude.{ℕ, Bool, false, ◌==◌, ◌&&◌, if◌then◌else◌, List, [], ◌∷◌, length, Option, Some, None, option_map}
+-- Records that are whole XML elements, and elements about a record: how an item keeps them, and when a record is one of a format. Namespaces in
+-- XML 1.0, sections 2.1 and 4; OAI-PMH 2.0, sections 2.5 and 3.4.
+use Rattle.std.specs.Prelude.{ℕ, Bool, false, ◌==◌, ◌&&◌, if◌then◌else◌, List, [], ◌∷◌, length, map, drop, Option, Some, None, option_map}
+use Rattle.std.specs.List.{before_first, position_or_len}
 use Rattle.std.specs.Str.{bytes_eq}
 use Rattle.oai_xml.specs.Documents.{is_canonical, tree_in}
 use Rattle.oai_xml.specs.QNames.{local_of}
@@ -10,19 +11,48 @@ use Rattle.oai_item.specs.declared.formats.Format.{Format}
 
 -- ---- how it is kept
 
--- an element is the text of a field without a name. No format has a field of that name
+-- an element is the text of a field without a name, the record itself as well as one about it. No format has a field of that name
 abbrev pub element_field : List ℕ → Field
 element_field text = record { name = []; text = text }
 
+abbrev pub is_nameless : Field → Bool
+is_nameless field = length field.name == 0
+
+-- what was given as the record itself: the first field, and those behind it up to the first without a name
+abbrev pub content_in : List Field → List Field
+content_in [] = []
+content_in (field ∷ fields) = field ∷ before_first is_nameless fields
+
+-- from the first without a name on
+abbrev pub from_nameless : List Field → List Field
+from_nameless fields = drop (position_or_len is_nameless fields) fields
+
+-- what was given about the record: the fields behind that
+abbrev pub behind_content : List Field → List Field
+behind_content [] = []
+behind_content (field ∷ fields) = from_nameless fields
+
+-- the elements about a record
+abbrev pub about_in : List Field → List (List ℕ)
+about_in fields = map (λ field. field.text) (behind_content fields)
+
 -- the text of a field that has no name
 abbrev pub nameless_text : Field → Option (List ℕ)
-nameless_text field = if length field.name == 0 then Some field.text else None
+nameless_text field = if is_nameless field then Some field.text else None
 
--- the element that fields keep: they are one field, which has no name
+-- the element that is the content of a record: it is one field, which has no name
+abbrev pub element_of_content : List Field → Option (List ℕ)
+element_of_content [] = None
+element_of_content (field ∷ []) = nameless_text field
+element_of_content (field ∷ other ∷ fields) = None
+
+-- the element that fields keep as the record itself
 abbrev pub element_in : List Field → Option (List ℕ)
-element_in [] = None
-element_in (field ∷ []) = nameless_text field
-element_in (field ∷ other ∷ fields) = None
+element_in fields = element_of_content (content_in fields)
+
+-- an element about a record: it has no name, and is in canonical text
+abbrev pub is_about : Field → Bool
+is_about field = is_nameless field && is_canonical field.text
 
 -- ---- when it is of a format
 

@@ -1,13 +1,14 @@
 -- What contracts see of the iterators over the lists of an encoded item: the remaining elements. No definition rests on
 -- these words.
-use Rattle.std.specs.Prelude.{◌≡◌, ◌≤◌, ℕ, Bool, true, ◌&&◌, List, ◌++◌, length}
-use Rattle.std.specs.List.{flat_map, list_all}
+use Rattle.std.specs.Prelude.{◌≡◌, ◌≤◌, ℕ, Bool, true, false, ◌&&◌, List, [], ◌∷◌, ◌++◌, length}
+use Rattle.std.specs.List.{before_first, flat_map, list_all}
 use Rattle.std.specs.Str.{is_utf8}
 use Rattle.oai_names.specs.Names.{may_be_prefix}
 use Rattle.oai_names.specs.Sets.{may_be_set_spec}
 use Rattle.oai_item.specs.declared.fields.Field.{Field}
 use Rattle.oai_item.specs.declared.sizes.TheConstants.{MAX_ITEM_BYTES}
 use Rattle.oai_item.specs.Decoding.{first_elements, first_field, first_record, first_text}
+use Rattle.oai_item.specs.Elements.{from_nameless, is_nameless}
 use Rattle.oai_item.specs.Encoding.{encoded_field, encoded_record, encoded_text, is_text_field}
 use Rattle.oai_item.specs.Item.{Metadata}
 
@@ -51,3 +52,16 @@ records_left count bytes = (first_elements first_record count bytes).0
 
 abbrev pub AreRecords : ℕ → List ℕ → Type 0
 AreRecords count bytes = AreSpelled encoded_record is_record bytes (records_left count bytes)
+
+-- ---- up to the first field without a name
+
+-- a field with a name was taken
+pub record IsAfterNamed (old : List Field) (field : Field) (new : List Field) : Type 0 where
+  pub taken : old ≡ field ∷ new
+  pub named : is_nameless field ≡ false
+
+-- none was: there is no field, or the next one has no name
+pub record IsUpToNameless (old new : List Field) : Type 0 where
+  pub kept : new ≡ old
+  pub none : before_first is_nameless old ≡ []
+  pub all : from_nameless old ≡ old

@@ -3,7 +3,8 @@
 ghost use Rattle.std.specs.Prelude.{◌≡◌, ◌==◌, true, [], ◌∷◌, length, IfSome, MatchOption};
 ghost use Rattle.std.specs.Option.{option_copied};
 ghost use Rattle.oai_names.specs.Names.{may_be_prefix};
-ghost use Rattle.oai_item.specs.Elements.{element_in, nameless_text};
+ghost use Rattle.oai_item.specs.Elements.{behind_content, element_in, from_nameless, nameless_text};
+ghost use Rattle.oai_item.specs.Walks.{IsAfterNamed, IsUpToNameless};
 
 use crate::fields::Field;
 use crate::walks::{FieldTexts, SpelledFields, SpelledRecords};
@@ -78,7 +79,7 @@ impl<'a> Fields<'a> {
     }
 
     /// A copy of the iterator at its current position.
-    pub(crate) fn copy(&self) -> Fields<'a>
+    pub fn copy(&self) -> Fields<'a>
         ensures { result ≡ self.now }
     {
         match &self.left {
@@ -87,15 +88,42 @@ impl<'a> Fields<'a> {
         }
     }
 
-    /// The element that the fields keep, if they keep one: the text of the one field, which has no name.
+    /// The element that the fields keep as the record itself, if they keep one: the text of the first field, if that has no
+    /// name and is the last one, or is followed by another without a name.
     pub fn element(&self) -> Option<&'a str>
         ensures { option_copied result ≡ element_in self.now }
     {
-        if self.len() != 1 {
+        let mut fields = self.copy();
+        let text = nameless_text(fields.next()?)?;
+        match fields.next_named() {
+            Some(_) => None,
+            None => Some(text),
+        }
+    }
+
+    /// The elements about the record, each as the text of a field without a name.
+    pub fn about(&self) -> Fields<'a>
+        ensures { result ≡ behind_content self.now }
+    {
+        let mut fields = self.copy();
+        match fields.next() {
+            Some(_) => from_nameless(fields),
+            None => Fields::none(),
+        }
+    }
+
+    /// Takes the next field, if there is one that has a name.
+    pub fn next_named(&mut self) -> Option<FieldTexts<'a>>
+        ensures { MatchOption result (IsUpToNameless self.old self.new)
+            (λ field. IsAfterNamed self.old (record { name = field.name.now; text = field.text.now }) self.new) }
+    {
+        let mut ahead = self.copy();
+        let field = ahead.next()?;
+        if field.name.len() == 0 {
             return None;
         }
-        let mut fields = self.copy();
-        nameless_text(fields.next()?)
+        *self = ahead;
+        Some(field)
     }
 
     /// Takes the next field, if there is one.
@@ -116,6 +144,16 @@ impl<'a> Fields<'a> {
             FieldsLeft::Spelled(fields) => fields.next(),
         }
     }
+}
+
+/// The fields from the first without a name on.
+#[tactic(auto, using(crate::proofs::Contents::skipped))]
+fn from_nameless<'a>(fields: Fields<'a>) -> Fields<'a>
+    ensures { result ≡ from_nameless fields.entry }
+{
+    let mut rest = fields;
+    while let Some(_) = rest.next_named() {}
+    rest
 }
 
 /// The text of the field, if it has no name.

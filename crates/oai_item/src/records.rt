@@ -4,18 +4,18 @@ ghost use Rattle.oai_item.specs.Item.{are_rising};
 
 use crate::fields::Field;
 use crate::given_records::GivenRecords;
+use crate::notes::Note;
 use oai_names::{Sequence, Text};
-use oai_xml::Root;
 use std::alloc::Global;
 use std::marker::Model;
 
-/// The records of a deposit: under each metadataPrefix its fields, or its element. The prefixes are in strictly rising
-/// byte order, so they are distinct. An element is held as an item keeps it, as the text of one field without a name, and
-/// beside it its root.
+/// The records of a deposit: under each metadataPrefix its fields, or its element, and the elements about it. The
+/// prefixes are in strictly rising byte order, so they are distinct. An element is held as an item keeps it, as the text
+/// of a field without a name, and beside it what is noted of it.
 #[derive(Debug, Drop)]
 pub struct Records {
     records: Sequence<(Text, Sequence<Field>)>,
-    roots: Sequence<Option<Root>>,
+    notes: Sequence<Note>,
 }
 
 impl Model for Records {
@@ -24,9 +24,9 @@ impl Model for Records {
 
     ghost Value = { List GivenRecord };
 
-    ghost view = { λ r. all_given r.records r.roots };
+    ghost view = { λ r. all_given r.records r.notes };
 
-    ghost invariant = { λ r. AreRecords r.records r.roots };
+    ghost invariant = { λ r. AreRecords r.records r.notes };
 }
 
 impl Records {
@@ -38,18 +38,18 @@ impl Records {
     {
         Records {
             records,
-            roots: Sequence::new(Vec::new(alloc)),
+            notes: Sequence::new(Vec::new(alloc)),
         }
     }
 
-    /// Records as an item keeps them, with prefixes in rising order, and of each of the first ones the root of its element
-    /// if it is one, in canonical text. Allocates nothing.
-    pub fn new(records: Sequence<(Text, Sequence<Field>)>, roots: Sequence<Option<Root>>) -> Records
+    /// Records as an item keeps them, with prefixes in rising order, and what is noted of each of the first ones; the
+    /// others are lists of fields, with nothing about them. Elements are in canonical text. Allocates nothing.
+    pub fn new(records: Sequence<(Text, Sequence<Field>)>, notes: Sequence<Note>) -> Records
         requires rising { are_rising records ≡ true }
-        requires noted { AreNoted records roots }
-        ensures { result ≡ all_given records roots }
+        requires noted { AreNoted records notes }
+        ensures { result ≡ all_given records notes }
     {
-        Records { records, roots }
+        Records { records, notes }
     }
 
     /// The records as an item keeps them, in the order of their prefixes.
@@ -65,6 +65,6 @@ impl Records {
     pub fn walk(&self) -> GivenRecords<'_>
         ensures { result ≡ self.now }
     {
-        GivenRecords::new(self.records.as_slice(), self.roots.as_slice())
+        GivenRecords::new(self.records.as_slice(), self.notes.as_slice())
     }
 }
