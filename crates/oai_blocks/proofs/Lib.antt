@@ -1,0 +1,9 @@
+pub mod SlotLemmas
+pub mod TimesLemmas
+pub mod FrameLemmas
+pub mod ShelfLemmas
+pub mod LineLemmas
+pub mod WaitingLemmas
+pub mod ExchangeLemmas
+pub mod ListedLemmas
+pub mod WeightLemmas

@@ -1,0 +1,5 @@
+pub mod Blocks
+pub mod Calls
+pub mod Naming
+pub mod Props
+pub mod Store

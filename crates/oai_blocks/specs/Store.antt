@@ -1,0 +1,63 @@
+-- What clauses see of lines.
+use Rattle.std.specs.Prelude.{◌≡◌, ◌+◌, ◌<◌, ◌≤◌, ℕ, List, [], Option, slice_index_or, sum_by, unwrap_or, length}
+use Rattle.oai_blocks.specs.Calls.{IsLineSet}
+use Rattle.oai_blocks.specs.Blocks.{lines_on, names_at, numbers_at, numbers_in, room_at, steps_for, weight}
+use Rattle.oai_blocks.specs.declared.lines.BlockLines.{BlockLines}
+
+module _ {T : Type 0} where
+  -- the elements of each line that is in use, block by block
+  abbrev pub lines_of : BlockLines T → ℕ → Option (List (List T))
+  lines_of store v = lines_on store.blocks.slots store.lines.slots v
+
+  -- the blocks of a line
+  abbrev pub line_at : BlockLines T → ℕ → List (List T)
+  line_at store v = unwrap_or (lines_of store v) []
+
+  -- the elements of a block of a line
+  abbrev pub block_of : BlockLines T → ℕ → ℕ → List T
+  block_of store v j = slice_index_or (line_at store v) j []
+
+  -- the number of a block of a line
+  abbrev pub number_of : BlockLines T → ℕ → ℕ → ℕ
+  number_of store v j = slice_index_or (numbers_in (numbers_at store.lines.slots v)) j 0
+
+  -- how many lines name a block of a line, those that wait too
+  abbrev pub names_of : BlockLines T → ℕ → ℕ → ℕ
+  names_of store v j = names_at store.blocks.slots (number_of store v j)
+
+  -- how many elements a block of a line has memory for
+  abbrev pub room_of : BlockLines T → ℕ → ℕ → ℕ
+  room_of store v j = room_at store.blocks.slots (number_of store v j)
+
+  -- what the elements of all blocks weigh together, each block once however many lines name it
+  abbrev pub weight_of : (T → ℕ) → BlockLines T → ℕ
+  weight_of weigh store = weight weigh store.blocks.slots
+
+  -- how many steps of `release` are left
+  abbrev pub steps_left : BlockLines T → ℕ
+  steps_left store = steps_for store.waiting.items
+
+  -- the line has a block at `j`
+  abbrev pub HasBlock : BlockLines T → ℕ → ℕ → Type 0
+  HasBlock store v j = j < length (line_at store v)
+
+-- a line is set, no other one changes, and the weight of all elements changes by that of those which are added and handed
+-- out
+pub record SetsLine {T : Type 0} (v : ℕ) (line : Option (List (List T))) (added gone : List T) (old new : BlockLines T) : Type 0 where
+  pub lines : IsLineSet v line (lines_of old) (lines_of new)
+  pub weight : (weigh : T → ℕ) → weight_of weigh new + sum_by weigh gone ≡ weight_of weigh old + sum_by weigh added
+  pub steps : steps_left new ≡ steps_left old
+
+-- each line, how often its blocks are named, and the weight of all elements is what it was, and no block has memory for
+-- fewer
+pub record KeepsLines {T : Type 0} (old new : BlockLines T) : Type 0 where
+  pub lines : (v : ℕ) → lines_of new v ≡ lines_of old v
+  pub names : (v j : ℕ) → names_of new v j ≡ names_of old v j
+  pub room : (v j : ℕ) → room_of old v j ≤ room_of new v j
+  pub weight : (weigh : T → ℕ) → weight_of weigh new ≡ weight_of weigh old
+  pub steps : steps_left new ≡ steps_left old
+
+-- as many lines name each block as before, and no block has memory for fewer
+pub record KeepsSharing {T : Type 0} (old new : BlockLines T) : Type 0 where
+  pub names : (v j : ℕ) → names_of new v j ≡ names_of old v j
+  pub room : (v j : ℕ) → room_of old v j ≤ room_of new v j
