@@ -1,5 +1,6 @@
 -- An object has at least as many members as it has distinct names.
-use Rattle.std.proofs.Common.{◌≡◌, ◌≤◌, ◌∙◌, ℕ, Bool, true, false, ◌||◌, cond, List, [], ◌∷◌, length, Option, Some, None, IsSome, refl, ap, sym, subst, arith}
+use Rattle.std.proofs.Common.{◌≡◌, ◌≤◌, ◌∙◌, ℕ, Bool, true, false, ◌||◌, cond, eqb, List, [], ◌∷◌, length, Option, Some, None, IsSome, refl, ap, sym, subst, arith}
+use Rattle.std.proofs.lemmas.Bool.{eqb-true}
 use Rattle.std.specs.Ordering.{is_eq, match_ordering, nat_cmp}
 use Rattle.std.specs.Cmp.Lexicographic.{slice_cmp}
 use Rattle.std.specs.declared.cmp.Ordering.{Ordering}
@@ -16,7 +17,7 @@ use Rattle.serde_json.specs.Find.{get, get_member}
 use Rattle.oai_json.specs.Json.{members_in, size}
 
 -- what a name leads to among the members is what it leads to in the list of them
-in_list : (k : List ℕ) (ms : Members) → get_member k ms ≡ lookup (bytes_eq k) (members_in ms)
+pub in_list : (k : List ℕ) (ms : Members) → get_member k ms ≡ lookup (bytes_eq k) (members_in ms)
 in_list k no_members = refl
 in_list k (member l e ms) =
     by_order (slice_cmp nat_cmp k l) (get_member k ms) (lookup (bytes_eq k) (members_in ms)) (in_list k ms)
@@ -50,3 +51,14 @@ as_many (name ∷ names) (string s) distinct all = let none = all.0 in cc
 as_many (name ∷ names) (array ds) distinct all = let none = all.0 in cc
 as_many (name ∷ names) (object ms) distinct all =
     length-le_from_keys nat_list_eq_equiv (name ∷ names) (members_in ms) distinct (each_there (name ∷ names) ms all)
+
+-- a list of something is not of no length
+pub not_empty : {A : Type 0} (x : A) (xs : List A) → eqb (length (x ∷ xs)) 0 ≡ false
+not_empty x xs = by_test (eqb (length (x ∷ xs)) 0) refl
+  where
+    by_test : (b : Bool) → eqb (length (x ∷ xs)) 0 ≡ b → b ≡ false
+    by_test true is = let none : length (x ∷ xs) ≡ 0 = eqb-true (length (x ∷ xs)) 0 is in absurd (omega arith)
+    by_test false is = refl
+
+pub is_empty : {A : Type 0} (x : A) (xs : List A) → eqb (length (x ∷ xs)) 0 ≡ true → ⊥
+is_empty x xs is = let none : length (x ∷ xs) ≡ 0 = eqb-true (length (x ∷ xs)) 0 is in absurd (omega arith)

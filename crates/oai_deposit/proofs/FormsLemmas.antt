@@ -1,6 +1,6 @@
--- Where records are lists of fields alone, no line deposits an element.
-use Rattle.std.proofs.Common.{◌≡◌, ◌∙◌, ℕ, Bool, true, false, not, cond, List, [], ◌∷◌, map, Option, Some, None, Result, Ok, Err, refl, sym, ap, subst}
-use Rattle.std.proofs.lemmas.Bool.{and_parts}
+-- Where records are lists of fields alone, no line deposits an element, or gives anything about a record.
+use Rattle.std.proofs.Common.{◌≡◌, ◌∙◌, ℕ, Bool, true, false, not, ◌&&◌, cond, List, [], ◌∷◌, map, Option, Some, None, Result, Ok, Err, refl, sym, ap, subst}
+use Rattle.std.proofs.lemmas.Bool.{and_from, and_parts}
 use Rattle.std.specs.List.{list_all}
 use Rattle.serde_json.specs.Data.{Data}
 use Rattle.oai_item.specs.Givens.{GivenRecord, kept}
@@ -14,20 +14,37 @@ use Rattle.oai_item.specs.declared.refusals.LineRefusal.TheVariants.{BadIdentifi
 use Rattle.oai_json.specs.Json.{json_in}
 use Rattle.oai_names.specs.Names.{may_be_identifier}
 use Rattle.oai_names.specs.Sets.{may_be_set_spec}
-use Rattle.oai_deposit.specs.Lines.{DepositParts, Shape, adds_set, are_of_forms, as_deposit, as_put, asked_change, asked_parts, before_others, change_asked, deletes, deposits, puts, elements_read, given_element, have_xml_texts, is_of_forms, line_of, purges, shape_of, value_asked}
-use Rattle.oai_deposit.proofs.ShapeLemmas.{shape_law_holds}
+use Rattle.oai_deposit.specs.Lines.{DepositParts, LineAbout, LineRecord, Shape, about_read, are_records_of, before_about, may_be_about, record_read, with_abouts, adds_set, are_of_forms, as_deposit, as_put, asked_change, asked_parts, before_others, change_asked, deletes, deposits, puts, elements_read, given_element, have_xml_texts, is_of_forms, line_of, purges, shape_of, value_asked}
+use Rattle.oai_deposit.proofs.CountLemmas.{is_empty}
+use Rattle.oai_deposit.proofs.ShapeLemmas.{no_about, shape_law_holds}
 
 -- a list is given as it is
 listed_read : (given : Given) → is_of_forms Fields given ≡ true → given_element given ≡ Ok given
 listed_read (Listed fields) is = refl
 listed_read (Whole text) is = absurd cc
 
+-- and nothing is given about it
+none_read : (about : List (List ℕ)) → may_be_about Fields about ≡ true → about_read about ≡ Ok about
+unfolding about_read
+none_read [] is = refl
+none_read (text ∷ about) is = absurd (is_empty text about is)
+
 lists_read : (records : List GivenRecord) → are_of_forms Fields records ≡ true → elements_read records ≡ Ok records
 unfolding elements_read
 lists_read [] all = refl
 lists_read (r ∷ records) all =
-    let parts = and_parts (is_of_forms Fields r.1) (are_of_forms Fields records) all in
-    ap (λ g. before_others r.0 g (elements_read records)) (listed_read r.1 parts.0) ∙ ap (before_others r.0 (Ok r.1)) (lists_read records parts.1)
+    let parts = and_parts (is_of_forms Fields r.1 && may_be_about Fields r.2) (are_of_forms Fields records) all in
+    let own = and_parts (is_of_forms Fields r.1) (may_be_about Fields r.2) parts.0 in
+    ap (λ g. before_others (before_about r.0 g (about_read r.2)) (elements_read records)) (listed_read r.1 own.0)
+    ∙ ap (λ a. before_others (before_about r.0 (Ok r.1) a) (elements_read records)) (none_read r.2 own.1)
+    ∙ ap (before_others (Ok r)) (lists_read records parts.1)
+
+-- the records of a line, with nothing about them
+alone : (records : List LineRecord) → are_records_of Fields records ≡ true → are_of_forms Fields (with_abouts records []) ≡ true
+alone [] all = refl
+alone (r ∷ records) all =
+    let parts = and_parts (is_of_forms Fields r.1) (are_records_of Fields records) all in
+    and_from (is_of_forms Fields r.1 && true) (are_of_forms Fields (with_abouts records [])) (and_from (is_of_forms Fields r.1) true parts.0 refl) (alone records parts.1)
 
 records_same : (a b : Bool) (c : Bool) (identifier name : List ℕ) (sets specs : List (List ℕ)) (records given : List GivenRecord)
     → as_deposit (cond (not a) (Err BadIdentifier) (cond (not b) (Err BadSetSpec) (cond (not c) (Err BadText) (Ok (identifier, sets, records))))) ≡ Ok (change.Deposit name specs given)
@@ -48,9 +65,12 @@ deposit_listed identifier name sets specs records given all is =
 shape_listed : (d : Data) (shape : Shape) (name : List ℕ) (specs : List (List ℕ)) (given : List GivenRecord) → shape_of Fields d ≡ Some shape
     → asked_change shape ≡ Ok (change.Deposit name specs given) → are_of_forms Fields given ≡ true
 unfolding asked_change
-shape_listed d (deposits identifier sets records) name specs given found is =
-    deposit_listed identifier name sets specs records given (((shape_law_holds Fields d).fits (deposits identifier sets records)).0 found).formed is
-shape_listed d (puts identifier sets records) name specs given found is = absurd (no_put (asked_parts identifier sets (elements_read records)) is)
+shape_listed d (deposits identifier sets records abouts) name specs given found is =
+    let fits = ((shape_law_holds Fields d).fits (deposits identifier sets records abouts)).0 found in
+    let none : abouts ≡ [] = no_about d identifier sets records abouts fits in
+    deposit_listed identifier name sets specs (with_abouts records abouts) given
+    (ap (λ (ts : List LineAbout). are_of_forms Fields (with_abouts records ts)) none ∙ alone records fits.formed) is
+shape_listed d (puts identifier sets records abouts) name specs given found is = absurd (no_put (asked_parts identifier sets (elements_read (with_abouts records abouts))) is)
   where
     no_put : (parts : Result DepositParts LineRefusal) → as_put parts ≡ Ok (change.Deposit name specs given) → ⊥
     no_put (Ok parts) is = cc
@@ -84,13 +104,13 @@ line_listed line name specs given is = by_value (json_in line) is
 shape_no_put : (d : Data) (shape : Shape) (name : List ℕ) (specs : List (List ℕ)) (given : List GivenRecord) → shape_of Fields d ≡ Some shape
     → asked_change shape ≡ Ok (change.Put name specs given) → ⊥
 unfolding asked_change
-shape_no_put d (deposits identifier sets records) name specs given found is = no_deposit (asked_parts identifier sets (elements_read records)) is
+shape_no_put d (deposits identifier sets records abouts) name specs given found is = no_deposit (asked_parts identifier sets (elements_read (with_abouts records abouts))) is
   where
     no_deposit : (parts : Result DepositParts LineRefusal) → as_deposit parts ≡ Ok (change.Put name specs given) → ⊥
     no_deposit (Ok parts) is = cc
     no_deposit (Err refusal) is = cc
-shape_no_put d (puts identifier sets records) name specs given found is =
-    let none = (((shape_law_holds Fields d).fits (puts identifier sets records)).0 found).allowed in cc
+shape_no_put d (puts identifier sets records abouts) name specs given found is =
+    let none = (((shape_law_holds Fields d).fits (puts identifier sets records abouts)).0 found).allowed in cc
 shape_no_put d (deletes identifier) name specs given found is = by_test (may_be_identifier identifier) is
   where
     by_test : (a : Bool) → cond a (Ok (change.Delete identifier)) (Err BadIdentifier) ≡ Ok (change.Put name specs given) → ⊥

@@ -1,3 +1,4 @@
+pub mod AboutLemmas
 pub mod CountLemmas
 pub mod DumpLemmas
 pub mod ElementLemmas

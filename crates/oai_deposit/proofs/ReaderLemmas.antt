@@ -6,16 +6,15 @@ use Rattle.serde_json.specs.Data.{Data, string}
 use Rattle.serde_json.specs.Find.{as_str}
 use Rattle.oai_item.specs.declared.fields.Field.{Field}
 use Rattle.oai_names.specs.Optional.{◌>>=◌, each_of}
-use Rattle.oai_item.specs.Givens.{GivenRecord}
 use Rattle.oai_item.specs.declared.forms.Forms.{Forms}
 use Rattle.oai_item.specs.declared.forms.Forms.TheVariants as form
 use Rattle.oai_item.specs.declared.givens.Given.{Given}
 use Rattle.oai_item.specs.declared.givens.Given.TheVariants.{Listed, Whole}
 use Rattle.oai_json.specs.Json.{array_of, elements_of, object_of}
-use Rattle.oai_json.proofs.ReaderLemmas.{Undoes, each, list, members, members_from, text, then}
+use Rattle.oai_json.proofs.ReaderLemmas.{Undoes, each, list, members, members_from, text, texts, then}
 use Rattle.oai_json.proofs.ReadingLemmas.{bind-Some, Some-injective}
-use Rattle.oai_deposit.specs.Lines.{are_of_forms, field_list_of, field_of, given_as, given_read, is_of_forms, pair_of, record_of, records_of}
-use Rattle.oai_deposit.specs.Shapes.{written_field, written_given, written_record, written_records}
+use Rattle.oai_deposit.specs.Lines.{LineAbout, LineRecord, about_of, abouts_of, are_records_of, field_list_of, field_of, given_as, given_read, is_of_forms, pair_of, record_of, records_of, text_list_of}
+use Rattle.oai_deposit.specs.Shapes.{written_about, written_abouts, written_field, written_given, written_record, written_records, written_texts}
 
 abbrev two_strings : Field → List Data
 two_strings field = string field.name ∷ string field.text ∷ []
@@ -133,7 +132,7 @@ one_given forms = record { takes = given_takes forms; is_good = given_good forms
 
 -- ---- records
 
-abbrev is_record_of : Forms → GivenRecord → Bool
+abbrev is_record_of : Forms → LineRecord → Bool
 is_record_of forms r = is_of_forms forms r.1
 
 one_record : (forms : Forms) → UndoesOf (is_record_of forms) (record_of forms) written_record
@@ -144,18 +143,37 @@ one_record forms = record {
   again = λ r is. ap (λ read. read >>= λ given. Some (r.0, given)) (given_again forms r.1 is);
 }
   where
-    takes : (m : List ℕ × Data) (r : GivenRecord) → record_of forms m ≡ Some r → m ≡ written_record r
+    takes : (m : List ℕ × Data) (r : LineRecord) → record_of forms m ≡ Some r → m ≡ written_record r
     takes m r is =
         let p = bind-Some (given_read forms m.1) (λ given. Some (m.0, given)) r is in
         ap (λ d. (m.0, d)) (given_takes forms m.1 p.0 p.1) ∙ ap written_record (Some-injective (m.0, p.0) r p.2)
 
-    is_good : (m : List ℕ × Data) (r : GivenRecord) → record_of forms m ≡ Some r → is_record_of forms r ≡ true
+    is_good : (m : List ℕ × Data) (r : LineRecord) → record_of forms m ≡ Some r → is_record_of forms r ≡ true
     is_good m r is =
         let p = bind-Some (given_read forms m.1) (λ given. Some (m.0, given)) r is in
         ap (is_record_of forms) (sym (Some-injective (m.0, p.0) r p.2)) ∙ given_good forms m.1 p.0 p.1
 
-pub records : (forms : Forms) → UndoesOf (are_of_forms forms) (records_of forms) written_records
+pub records : (forms : Forms) → UndoesOf (are_records_of forms) (records_of forms) written_records
 unfolding records_of
 records forms =
-    then_of (are_of_forms forms) members_from object_of (each_of (record_of forms)) (map written_record) members
+    then_of (are_records_of forms) members_from object_of (each_of (record_of forms)) (map written_record) members
     (each_one_of (is_record_of forms) (record_of forms) written_record (one_record forms))
+
+-- ---- what is about them
+
+text_list : Undoes text_list_of written_texts
+unfolding text_list_of
+text_list = then elements_of array_of (each_of as_str) (map string) list texts
+
+one_about : Undoes about_of written_about
+unfolding about_of
+one_about = record { takes = takes; again = λ about. ap (λ read. read >>= λ texts. Some (about.0, texts)) (text_list.again about.1) }
+  where
+    takes : (m : List ℕ × Data) (about : LineAbout) → about_of m ≡ Some about → m ≡ written_about about
+    takes m about is =
+        let p = bind-Some (text_list_of m.1) (λ texts. Some (m.0, texts)) about is in
+        ap (λ d. (m.0, d)) (text_list.takes m.1 p.0 p.1) ∙ ap written_about (Some-injective (m.0, p.0) about p.2)
+
+pub abouts : Undoes abouts_of written_abouts
+unfolding abouts_of
+abouts = then members_from object_of (each_of about_of) (map written_about) members (each about_of written_about one_about)

@@ -10,12 +10,11 @@ use Rattle.serde_json.specs.Find.{as_object}
 use Rattle.serde_json.specs.View.{view}
 use Rattle.serde_json.specs.declared.value.Value.{Value, Object}
 use Rattle.serde_json.proofs.Views.{view-Object}
-use Rattle.oai_item.specs.Givens.{GivenRecord}
 use Rattle.oai_item.specs.Item.{is_before, are_rising}
 use Rattle.oai_item.specs.declared.forms.Forms.{Forms}
 use Rattle.oai_item.specs.declared.givens.Given.{Given}
 use Rattle.oai_names.specs.Optional.{◌>>=◌, each_of}
-use Rattle.oai_deposit.specs.Lines.{given_read, record_of, records_of}
+use Rattle.oai_deposit.specs.Lines.{LineRecord, given_read, record_of, records_of}
 use Rattle.oai_json.proofs.JsonLemmas.{members_in-members_view, seen}
 use Rattle.oai_json.proofs.ReadingLemmas.{bind-Some, Some-injective}
 
@@ -31,26 +30,26 @@ unfolding record_of
 record_of-Some forms m given is = ap (λ r. r >>= λ given. Some (m.0, given)) is
 
 -- a record keeps the name of its member
-record_of-name : (forms : Forms) (m : List ℕ × Data) (r : GivenRecord) → record_of forms m ≡ Some r → m.0 ≡ r.0
+record_of-name : (forms : Forms) (m : List ℕ × Data) (r : LineRecord) → record_of forms m ≡ Some r → m.0 ≡ r.0
 unfolding record_of
 record_of-name forms m r is =
     let given = bind-Some (given_read forms m.1) (λ given. Some (m.0, given)) r is in
-    ap (λ (x : GivenRecord). x.0) (Some-injective (m.0, given.0) r given.2)
+    ap (λ (x : LineRecord). x.0) (Some-injective (m.0, given.0) r given.2)
 
-names_kept : (forms : Forms) (ms : List (List ℕ × Data)) (rs : List GivenRecord) → each_of (record_of forms) ms ≡ Some rs → map (λ m. m.0) ms ≡ map (λ r. r.0) rs
-names_kept forms [] rs is = ap (map (λ (r : GivenRecord). r.0)) (Some-injective [] rs is)
+pub names_kept : (forms : Forms) (ms : List (List ℕ × Data)) (rs : List LineRecord) → each_of (record_of forms) ms ≡ Some rs → map (λ m. m.0) ms ≡ map (λ r. r.0) rs
+names_kept forms [] rs is = ap (map (λ (r : LineRecord). r.0)) (Some-injective [] rs is)
 names_kept forms (m ∷ ms) rs is =
     let first = bind-Some (record_of forms m) (λ y. each_of (record_of forms) ms >>= λ ys. Some (y ∷ ys)) rs is in
     let others = bind-Some (each_of (record_of forms) ms) (λ ys. Some (first.0 ∷ ys)) rs first.2 in
     ap (λ name. name ∷ map (λ (m : List ℕ × Data). m.0) ms) (record_of-name forms m first.0 first.1)
     ∙ ap (λ names. first.0.0 ∷ names) (names_kept forms ms others.0 others.1)
-    ∙ ap (map (λ (r : GivenRecord). r.0)) (Some-injective (first.0 ∷ others.0) rs others.2)
+    ∙ ap (map (λ (r : LineRecord). r.0)) (Some-injective (first.0 ∷ others.0) rs others.2)
 
 before : (a b : List ℕ) → slice_cmp nat_cmp a b ≡ Less → is_before a b ≡ true
 before a b less = ap is_lt less
 
 -- keys that ascend are prefixes that rise
-rising_names : (es : List (String Global × Value)) (rs : List GivenRecord) → map (λ e. string_bytes e.0) es ≡ map (λ r. r.0) rs
+rising_names : (es : List (String Global × Value)) (rs : List LineRecord) → map (λ e. string_bytes e.0) es ≡ map (λ r. r.0) rs
     → IsStrictlySortedBy string_cmp (keys_of es) → are_rising rs ≡ true
 unfolding IsStrictlySortedBy
 rising_names es [] same sorted = refl
@@ -69,6 +68,6 @@ seen_names [] = refl
 seen_names (e ∷ es) = ap (λ names. string_bytes e.0 ∷ names) (seen_names es)
 
 -- the records of an object's members rise
-pub rising : (forms : Forms) (es : List (String Global × Value)) (rs : List GivenRecord) → each_of (record_of forms) (map seen es) ≡ Some rs
+pub rising : (forms : Forms) (es : List (String Global × Value)) (rs : List LineRecord) → each_of (record_of forms) (map seen es) ≡ Some rs
     → IsStrictlySortedBy string_cmp (keys_of es) → are_rising rs ≡ true
 rising forms es rs is sorted = rising_names es rs (sym (seen_names es) ∙ names_kept forms (map seen es) rs is) sorted

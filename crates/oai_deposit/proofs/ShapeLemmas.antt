@@ -1,6 +1,7 @@
 -- The shape of a value is the one that it is written as; and a value that is of none has none.
-use Rattle.std.proofs.Common.{◌≡◌, ℕ, Bool, ◌&&◌, eqb, true, false, cond, Option, Some, None, IsSome, List, [], ◌∷◌, length, codes, refl, sym, ap, subst, is_some, ◌∙◌, arith}
+use Rattle.std.proofs.Common.{◌≡◌, ◌≤◌, ◌+◌, ℕ, Bool, ◌&&◌, eqb, true, false, cond, Option, Some, None, IsSome, List, [], ◌∷◌, length, codes, refl, sym, ap, subst, is_some, ◌∙◌, arith}
 use Rattle.std.proofs.lemmas.Bool.{eqb-true}
+use Rattle.std.proofs.lemmas.Bool.Decides.{nat_tests}
 use Rattle.std.specs.Ordering.{is_eq, match_ordering, nat_cmp}
 use Rattle.std.specs.Cmp.Lexicographic.{slice_cmp}
 use Rattle.std.specs.List.{IsDistinct}
@@ -11,135 +12,235 @@ use Rattle.std.proofs.lemmas.Map.Text.{is_eq-slice_cmp}
 use Rattle.std.proofs.lemmas.Slice.Eq.{bytes_eq-Decides}
 use Rattle.serde_json.specs.Data.{Data, array, boolean, member, no_members, null, number, object, string}
 use Rattle.serde_json.specs.Find.{get}
-use Rattle.oai_item.specs.Givens.{GivenRecord}
 use Rattle.oai_item.specs.declared.forms.Forms.{Forms}
 use Rattle.oai_item.specs.declared.forms.Forms.TheVariants.{Elements, Fields}
-use Rattle.oai_names.specs.Optional.{◌>>=◌}
-use Rattle.oai_json.specs.Json.{has_each, has_members, size, text_at, texts_at}
-use Rattle.oai_deposit.specs.Lines.{Shape, are_of_forms, deposits, puts, put_shape, put_members, has_put_members, deletes, purges, purge_shape, purge_members, adds_set, records_at, records_of, deposit_shape, deposit_members, deletion_shape, deletion_members, set_shape, set_members, shape_of}
-use Rattle.oai_deposit.specs.Shapes.{written_records, IsDeposit, IsPut, IsDeletion, IsPurge, IsNewSet, IsShape, ShapeLaw}
-use Rattle.oai_json.proofs.MemberLemmas.{of_another_size, of_size, text_again, text_takes, texts_are, texts_take}
+use Rattle.oai_names.specs.Optional.{◌>>=◌, tested}
+use Rattle.oai_json.specs.Json.{has_each, has_members, has_members_and, names_there, size, text_at, texts_at}
+use Rattle.oai_deposit.specs.Lines.{LineAbout, LineRecord, Shape, abouts_at, abouts_if_there, abouts_of, are_records_of, has_deposit_members, have_records, optional_members, deposits, puts, put_shape, put_members, has_put_members, deletes, purges, purge_shape, purge_members, adds_set, records_at, records_of, deposit_shape, deposit_members, deletion_shape, deletion_members, set_shape, set_members, shape_of}
+use Rattle.oai_deposit.specs.Shapes.{written_abouts, written_records, AreAbouts, IsDeposit, IsPut, IsDeletion, IsPurge, IsNewSet, IsShape, ShapeLaw}
+use Rattle.oai_json.proofs.MemberLemmas.{of_another_size, of_size, of_size_and, text_again, text_takes, texts_are, texts_take}
 use Rattle.oai_deposit.proofs.CountLemmas.{as_many}
-use Rattle.oai_deposit.proofs.ReaderLemmas.{records}
+use Rattle.oai_deposit.proofs.ReaderLemmas.{abouts, records}
 use Rattle.oai_json.proofs.ReadingLemmas.{Some-injective, bind-Some}
 
 -- ---- members
 
-records_take : (forms : Forms) (d : Data) (rs : List GivenRecord) → records_at forms d ≡ Some rs
-    → (get (codes "records") d ≡ Some (written_records rs)) × (are_of_forms forms rs ≡ true)
+records_take : (forms : Forms) (d : Data) (rs : List LineRecord) → records_at forms d ≡ Some rs
+    → (get (codes "records") d ≡ Some (written_records rs)) × (are_records_of forms rs ≡ true)
 unfolding records_at
 records_take forms d rs is =
     let p = bind-Some (get (codes "records") d) (records_of forms) rs is in
     (p.1 ∙ ap (λ e. Some e) ((records forms).takes p.0 rs p.2), (records forms).is_good p.0 rs p.2)
 
-records_again : (forms : Forms) (d : Data) (rs : List GivenRecord) → get (codes "records") d ≡ Some (written_records rs) → are_of_forms forms rs ≡ true
+records_again : (forms : Forms) (d : Data) (rs : List LineRecord) → get (codes "records") d ≡ Some (written_records rs) → are_records_of forms rs ≡ true
     → records_at forms d ≡ Some rs
 unfolding records_at
 records_again forms d rs is formed = ap (λ r. r >>= records_of forms) is ∙ (records forms).again rs formed
 
+if_there_takes : (o : Option Data) (ts : List LineAbout) → abouts_if_there o ≡ Some ts → AreAbouts ts o
+if_there_takes None ts is = sym (Some-injective [] ts is)
+if_there_takes (Some d) ts is = abouts.takes d ts is
+
+if_there_again : (o : Option Data) (ts : List LineAbout) → AreAbouts ts o → abouts_if_there o ≡ Some ts
+if_there_again None ts is = ap (λ (xs : List LineAbout). Some xs) (sym is)
+if_there_again (Some d) ts is = ap abouts_of is ∙ abouts.again ts
+
+test_passed : {A : Type 0} (b : Bool) (x y : A) → cond b (Some x) None ≡ Some y → (b ≡ true) × (x ≡ y)
+test_passed true x y is = (refl, Some-injective x y is)
+test_passed false x y is = absurd cc
+
+abouts_take : (rs : List LineRecord) (d : Data) (ts : List LineAbout) → abouts_at rs d ≡ Some ts → AreAbouts ts (get (codes "about") d) × (have_records rs ts ≡ true)
+unfolding abouts_at
+abouts_take rs d ts is =
+    let p = bind-Some (abouts_if_there (get (codes "about") d)) (tested (have_records rs)) ts is in
+    let q = test_passed (have_records rs p.0) p.0 ts p.2 in (
+      subst (λ (xs : List LineAbout). AreAbouts xs (get (codes "about") d)) q.1 (if_there_takes (get (codes "about") d) p.0 p.1),
+      ap (have_records rs) (sym q.1) ∙ q.0,
+    )
+
+abouts_again : (rs : List LineRecord) (d : Data) (ts : List LineAbout) → AreAbouts ts (get (codes "about") d) → have_records rs ts ≡ true → abouts_at rs d ≡ Some ts
+unfolding abouts_at
+abouts_again rs d ts is under =
+    ap (λ r. r >>= tested (have_records rs)) (if_there_again (get (codes "about") d) ts is) ∙ ap (λ b. cond b (Some ts) None) under
+
 -- ---- a deposit
 
-deposit_takes : (forms : Forms) (d : Data) (shape : Shape) → size d ≡ 3 → deposit_shape forms d ≡ Some shape → IsShape forms shape d
+-- so many members, of which one may be missing
+abbrev IsSized : Forms → Data → Type 0
+IsSized forms d = size d ≡ 3 + length (names_there (optional_members forms) d)
+
+deposit_takes : (forms : Forms) (d : Data) (shape : Shape) → IsSized forms d → deposit_shape forms d ≡ Some shape → IsShape forms shape d
 unfolding deposit_shape
-deposit_takes forms d shape three is =
-    let p = bind-Some (text_at (codes "deposit") d) (λ i. texts_at (codes "sets") d >>= λ s. records_at forms d >>= λ r. Some (deposits i s r)) shape is in
-    let q = bind-Some (texts_at (codes "sets") d) (λ s. records_at forms d >>= λ r. Some (deposits p.0 s r)) shape p.2 in
-    let r = bind-Some (records_at forms d) (λ r. Some (deposits p.0 q.0 r)) shape q.2 in
+deposit_takes forms d shape sized is =
+    let p = bind-Some (text_at (codes "deposit") d) (λ i. texts_at (codes "sets") d >>= λ s. records_at forms d >>= λ r. abouts_at r d >>= λ a. Some (deposits i s r a)) shape is in
+    let q = bind-Some (texts_at (codes "sets") d) (λ s. records_at forms d >>= λ r. abouts_at r d >>= λ a. Some (deposits p.0 s r a)) shape p.2 in
+    let r = bind-Some (records_at forms d) (λ r. abouts_at r d >>= λ a. Some (deposits p.0 q.0 r a)) shape q.2 in
+    let a = bind-Some (abouts_at r.0 d) (λ a. Some (deposits p.0 q.0 r.0 a)) shape r.2 in
     let taken = records_take forms d r.0 r.1 in
-    let made : IsDeposit forms p.0 q.0 r.0 d = record {
+    let about = abouts_take r.0 d a.0 a.1 in
+    let made : IsDeposit forms p.0 q.0 r.0 a.0 d = record {
       deposit = text_takes (codes "deposit") d p.0 p.1;
       sets = texts_take (codes "sets") d q.0 q.1;
       records = taken.0;
+      about = about.0;
+      under = about.1;
       formed = taken.1;
-      no_other = three;
+      no_other = sized;
     } in
-    subst (λ (c : Shape). IsShape forms c d) {x = deposits p.0 q.0 r.0} (Some-injective (deposits p.0 q.0 r.0) shape r.2) made
+    subst (λ (c : Shape). IsShape forms c d) {x = deposits p.0 q.0 r.0 a.0} (Some-injective (deposits p.0 q.0 r.0 a.0) shape a.2) made
 
-deposit_again : (forms : Forms) (d : Data) (i : List ℕ) (s : List (List ℕ)) (r : List GivenRecord) → IsDeposit forms i s r d → deposit_shape forms d ≡ Some (deposits i s r)
+deposit_again : (forms : Forms) (d : Data) (i : List ℕ) (s : List (List ℕ)) (r : List LineRecord) (a : List LineAbout) → IsDeposit forms i s r a d
+    → deposit_shape forms d ≡ Some (deposits i s r a)
 unfolding deposit_shape
-deposit_again forms d i s r is =
-    ap (λ x. x >>= λ i. texts_at (codes "sets") d >>= λ s. records_at forms d >>= λ r. Some (deposits i s r))
+deposit_again forms d i s r a is =
+    ap (λ x. x >>= λ i. texts_at (codes "sets") d >>= λ s. records_at forms d >>= λ r. abouts_at r d >>= λ a. Some (deposits i s r a))
     (text_again (codes "deposit") d i is.deposit)
-    ∙ ap (λ x. x >>= λ s. records_at forms d >>= λ r. Some (deposits i s r))
+    ∙ ap (λ x. x >>= λ s. records_at forms d >>= λ r. abouts_at r d >>= λ a. Some (deposits i s r a))
     (texts_are (codes "sets") d s is.sets)
-    ∙ ap (λ x. x >>= λ r. Some (deposits i s r)) (records_again forms d r is.records is.formed)
+    ∙ ap (λ x. x >>= λ r. abouts_at r d >>= λ a. Some (deposits i s r a)) (records_again forms d r is.records is.formed)
+    ∙ ap (λ x. x >>= λ a. Some (deposits i s r a)) (abouts_again r d a is.about is.under)
 
-three_there : (n : ℕ) (a b c : Option Data) (x y z : Data) → n ≡ 3 → a ≡ Some x → b ≡ Some y → c ≡ Some z
-    → (eqb n 3 && (is_some a && (is_some b && (is_some c && true)))) ≡ true
-three_there n a b c x y z three first second third = rw (three, first, second, third) refl
+-- what is read of each of its members
+pub deposit_found : (forms : Forms) (d : Data) (i : List ℕ) (s : List (List ℕ)) (r : List LineRecord) → text_at (codes "deposit") d ≡ Some i → texts_at (codes "sets") d ≡ Some s
+    → records_at forms d ≡ Some r → deposit_shape forms d ≡ (abouts_at r d >>= λ a. Some (deposits i s r a))
+unfolding deposit_shape
+deposit_found forms d i s r one two three =
+    ap (λ x. x >>= λ i. texts_at (codes "sets") d >>= λ s. records_at forms d >>= λ r. abouts_at r d >>= λ a. Some (deposits i s r a)) one
+    ∙ ap (λ x. x >>= λ s. records_at forms d >>= λ r. abouts_at r d >>= λ a. Some (deposits i s r a)) two
+    ∙ ap (λ x. x >>= λ r. abouts_at r d >>= λ a. Some (deposits i s r a)) three
 
-are_deposit : (forms : Forms) (d : Data) (i : List ℕ) (s : List (List ℕ)) (r : List GivenRecord) → IsDeposit forms i s r d → has_members deposit_members d ≡ true
-unfolding has_members
-are_deposit forms d i s r is =
-    three_there (size d) (get (codes "deposit") d) (get (codes "sets") d) (get (codes "records") d) _ _ _ is.no_other is.deposit is.sets is.records
+pub put_found : (forms : Forms) (d : Data) (i : List ℕ) (s : List (List ℕ)) (r : List LineRecord) → text_at (codes "put") d ≡ Some i → texts_at (codes "sets") d ≡ Some s
+    → records_at forms d ≡ Some r → put_shape forms d ≡ (abouts_at r d >>= λ a. Some (puts i s r a))
+unfolding put_shape
+put_found forms d i s r one two three =
+    ap (λ x. x >>= λ i. texts_at (codes "sets") d >>= λ s. records_at forms d >>= λ r. abouts_at r d >>= λ a. Some (puts i s r a)) one
+    ∙ ap (λ x. x >>= λ s. records_at forms d >>= λ r. abouts_at r d >>= λ a. Some (puts i s r a)) two
+    ∙ ap (λ x. x >>= λ r. abouts_at r d >>= λ a. Some (puts i s r a)) three
+
+-- the members of a shape are there, in such a number
+same_number : (n : ℕ) → eqb n n ≡ true
+same_number n = grind (arith, nat_tests)
+
+three_there : (n m : ℕ) (a b c : Option Data) (x y z : Data) → n ≡ m → a ≡ Some x → b ≡ Some y → c ≡ Some z
+    → (eqb n m && (is_some a && (is_some b && (is_some c && true)))) ≡ true
+three_there n m a b c x y z same first second third = rw (same, first, second, third, same_number m) refl
+
+are_deposit : (forms : Forms) (d : Data) (i : List ℕ) (s : List (List ℕ)) (r : List LineRecord) (a : List LineAbout) → IsDeposit forms i s r a d → has_deposit_members forms d ≡ true
+unfolding has_members_and
+are_deposit forms d i s r a is =
+    three_there (size d) (3 + length (names_there (optional_members forms) d)) (get (codes "deposit") d) (get (codes "sets") d) (get (codes "records") d) _ _ _
+    is.no_other is.deposit is.sets is.records
 
 -- ---- a put
 
 -- its members make it one only where a record may be an element
-allowed : (forms : Forms) (d : Data) → has_put_members forms d ≡ true → (forms ≡ Elements) × (has_members put_members d ≡ true)
+allowed : (forms : Forms) (d : Data) → has_put_members forms d ≡ true → (forms ≡ Elements) × IsSized forms d
 allowed Fields d is = absurd cc
-allowed Elements d is = (refl, is)
+allowed Elements d is = (refl, of_size_and put_members (optional_members Elements) d is)
 
-any_forms : (rs : List GivenRecord) → are_of_forms Elements rs ≡ true
+any_forms : (rs : List LineRecord) → are_records_of Elements rs ≡ true
 any_forms [] = refl
 any_forms (r ∷ rs) = any_forms rs
 
-put_takes : (forms : Forms) (d : Data) (shape : Shape) → forms ≡ Elements → size d ≡ 3 → put_shape forms d ≡ Some shape → IsShape forms shape d
+put_takes : (forms : Forms) (d : Data) (shape : Shape) → forms ≡ Elements → IsSized forms d → put_shape forms d ≡ Some shape → IsShape forms shape d
 unfolding put_shape
-put_takes forms d shape elements three is =
-    let p = bind-Some (text_at (codes "put") d) (λ i. texts_at (codes "sets") d >>= λ s. records_at forms d >>= λ r. Some (puts i s r)) shape is in
-    let q = bind-Some (texts_at (codes "sets") d) (λ s. records_at forms d >>= λ r. Some (puts p.0 s r)) shape p.2 in
-    let r = bind-Some (records_at forms d) (λ r. Some (puts p.0 q.0 r)) shape q.2 in
-    let made : IsPut forms p.0 q.0 r.0 d = record {
+put_takes forms d shape elements sized is =
+    let p = bind-Some (text_at (codes "put") d) (λ i. texts_at (codes "sets") d >>= λ s. records_at forms d >>= λ r. abouts_at r d >>= λ a. Some (puts i s r a)) shape is in
+    let q = bind-Some (texts_at (codes "sets") d) (λ s. records_at forms d >>= λ r. abouts_at r d >>= λ a. Some (puts p.0 s r a)) shape p.2 in
+    let r = bind-Some (records_at forms d) (λ r. abouts_at r d >>= λ a. Some (puts p.0 q.0 r a)) shape q.2 in
+    let a = bind-Some (abouts_at r.0 d) (λ a. Some (puts p.0 q.0 r.0 a)) shape r.2 in
+    let about = abouts_take r.0 d a.0 a.1 in
+    let made : IsPut forms p.0 q.0 r.0 a.0 d = record {
       put = text_takes (codes "put") d p.0 p.1;
       sets = texts_take (codes "sets") d q.0 q.1;
       records = (records_take forms d r.0 r.1).0;
+      about = about.0;
+      under = about.1;
       allowed = elements;
-      no_other = three;
+      no_other = sized;
     } in
-    subst (λ (c : Shape). IsShape forms c d) {x = puts p.0 q.0 r.0} (Some-injective (puts p.0 q.0 r.0) shape r.2) made
+    subst (λ (c : Shape). IsShape forms c d) {x = puts p.0 q.0 r.0 a.0} (Some-injective (puts p.0 q.0 r.0 a.0) shape a.2) made
 
-put_again : (forms : Forms) (d : Data) (i : List ℕ) (s : List (List ℕ)) (r : List GivenRecord) → IsPut forms i s r d → put_shape forms d ≡ Some (puts i s r)
+put_again : (forms : Forms) (d : Data) (i : List ℕ) (s : List (List ℕ)) (r : List LineRecord) (a : List LineAbout) → IsPut forms i s r a d → put_shape forms d ≡ Some (puts i s r a)
 unfolding put_shape
-put_again forms d i s r is =
-    let formed : are_of_forms forms r ≡ true = subst (λ (f : Forms). are_of_forms f r ≡ true) (sym is.allowed) (any_forms r) in
-    ap (λ x. x >>= λ i. texts_at (codes "sets") d >>= λ s. records_at forms d >>= λ r. Some (puts i s r))
+put_again forms d i s r a is =
+    let formed : are_records_of forms r ≡ true = subst (λ (f : Forms). are_records_of f r ≡ true) (sym is.allowed) (any_forms r) in
+    ap (λ x. x >>= λ i. texts_at (codes "sets") d >>= λ s. records_at forms d >>= λ r. abouts_at r d >>= λ a. Some (puts i s r a))
     (text_again (codes "put") d i is.put)
-    ∙ ap (λ x. x >>= λ s. records_at forms d >>= λ r. Some (puts i s r))
+    ∙ ap (λ x. x >>= λ s. records_at forms d >>= λ r. abouts_at r d >>= λ a. Some (puts i s r a))
     (texts_are (codes "sets") d s is.sets)
-    ∙ ap (λ x. x >>= λ r. Some (puts i s r)) (records_again forms d r is.records formed)
+    ∙ ap (λ x. x >>= λ r. abouts_at r d >>= λ a. Some (puts i s r a)) (records_again forms d r is.records formed)
+    ∙ ap (λ x. x >>= λ a. Some (puts i s r a)) (abouts_again r d a is.about is.under)
 
-are_put : (forms : Forms) (d : Data) (i : List ℕ) (s : List (List ℕ)) (r : List GivenRecord) → IsPut forms i s r d → has_put_members forms d ≡ true
-unfolding has_members
-are_put forms d i s r is =
-    subst (λ (f : Forms). has_put_members f d ≡ true) (sym is.allowed)
-    (three_there (size d) (get (codes "put") d) (get (codes "sets") d) (get (codes "records") d) _ _ _ is.no_other is.put is.sets is.records)
+put_members_there : (forms : Forms) (d : Data) → forms ≡ Elements → has_members_and put_members (optional_members forms) d ≡ true → has_put_members forms d ≡ true
+put_members_there Fields d elements is = absurd cc
+put_members_there Elements d elements is = is
+
+are_put : (forms : Forms) (d : Data) (i : List ℕ) (s : List (List ℕ)) (r : List LineRecord) (a : List LineAbout) → IsPut forms i s r a d → has_put_members forms d ≡ true
+unfolding has_members_and
+are_put forms d i s r a is =
+    put_members_there forms d is.allowed
+    (three_there (size d) (3 + length (names_there (optional_members forms) d)) (get (codes "put") d) (get (codes "sets") d) (get (codes "records") d) _ _ _
+    is.no_other is.put is.sets is.records)
+
+some_there : {o : Option Data} {x : Data} → o ≡ Some x → IsSome o
+some_there {x = x} is = subst (λ (o : Option Data). IsSome o) (sym is) refl
 
 four_names : IsDistinct bytes_eq (codes "put" ∷ codes "sets" ∷ codes "records" ∷ codes "deposit" ∷ [])
 unfolding IsDistinct
 four_names = ((refl, (refl, (refl, tt))), ((refl, (refl, tt)), ((refl, tt), (tt, tt))))
 
--- an object of three members has no fourth
-three_of_four : (d : Data) (o : Option Data) (x y z : Data) → size d ≡ 3 → get (codes "put") d ≡ Some x → get (codes "sets") d ≡ Some y → get (codes "records") d ≡ Some z
-    → get (codes "deposit") d ≡ o → is_some o ≡ false
-three_of_four d None x y z three put sets all is = refl
-three_of_four d (Some w) x y z three put sets all is =
-    let four = as_many (codes "put" ∷ codes "sets" ∷ codes "records" ∷ codes "deposit" ∷ []) d four_names (some put, (some sets, (some all, (some is, tt)))) in
-    absurd (omega (arith, four, three))
-  where
-    some : {o : Option Data} {x : Data} → o ≡ Some x → IsSome o
-    some {x = x} is = subst (λ (o : Option Data). IsSome o) (sym is) refl
+five_names : IsDistinct bytes_eq (codes "put" ∷ codes "sets" ∷ codes "records" ∷ codes "about" ∷ codes "deposit" ∷ [])
+unfolding IsDistinct
+five_names = ((refl, (refl, (refl, (refl, tt)))), ((refl, (refl, (refl, tt))), ((refl, (refl, tt)), ((refl, tt), (tt, tt)))))
 
-no_deposit : (forms : Forms) (d : Data) (i : List ℕ) (s : List (List ℕ)) (r : List GivenRecord) → IsPut forms i s r d → has_members deposit_members d ≡ false
-unfolding has_members
-no_deposit forms d i s r is =
-    ap (λ (b : Bool). eqb (size d) 3 && (b && (is_some (get (codes "sets") d) && (is_some (get (codes "records") d) && true))))
-    (three_of_four d (get (codes "deposit") d) _ _ _ is.no_other is.put is.sets is.records refl)
-    ∙ none (eqb (size d) 3)
+-- so many members, where one is missing and where it is there
+abbrev many_with : Option Data → ℕ
+many_with o = 3 + length (cond (is_some o) (codes "about" ∷ []) [])
+
+-- an object of the members of a put has none of a deposit
+no_other_there : (d : Data) (o a : Option Data) (x y z : Data) → size d ≡ many_with a → get (codes "put") d ≡ Some x → get (codes "sets") d ≡ Some y
+    → get (codes "records") d ≡ Some z → get (codes "about") d ≡ a → get (codes "deposit") d ≡ o → is_some o ≡ false
+no_other_there d None a x y z sized put sets all about is = refl
+no_other_there d (Some w) None x y z sized put sets all about is =
+    let four = as_many (codes "put" ∷ codes "sets" ∷ codes "records" ∷ codes "deposit" ∷ []) d four_names
+    (some_there put, (some_there sets, (some_there all, (some_there is, tt)))) in
+    absurd (omega (arith, four, sized))
+no_other_there d (Some w) (Some v) x y z sized put sets all about is =
+    let five = as_many (codes "put" ∷ codes "sets" ∷ codes "records" ∷ codes "about" ∷ codes "deposit" ∷ []) d five_names
+    (some_there put, (some_there sets, (some_there all, (some_there about, (some_there is, tt))))) in
+    absurd (omega (arith, five, sized))
+
+sized_with : (forms : Forms) (d : Data) → forms ≡ Elements → IsSized forms d → size d ≡ many_with (get (codes "about") d)
+sized_with Fields d elements is = absurd cc
+sized_with Elements d elements is = is
+
+no_deposit : (forms : Forms) (d : Data) (i : List ℕ) (s : List (List ℕ)) (r : List LineRecord) (a : List LineAbout) → IsPut forms i s r a d → has_deposit_members forms d ≡ false
+unfolding has_members_and
+no_deposit forms d i s r a is =
+    ap (λ (b : Bool). eqb (size d) (3 + length (names_there (optional_members forms) d)) && (b && (is_some (get (codes "sets") d) && (is_some (get (codes "records") d) && true))))
+    (no_other_there d (get (codes "deposit") d) (get (codes "about") d) _ _ _ (sized_with forms d is.allowed is.no_other) is.put is.sets is.records refl refl)
+    ∙ none (eqb (size d) (3 + length (names_there (optional_members forms) d)))
   where
     none : (b : Bool) → (b && false) ≡ false
     none true = refl
     none false = refl
+
+-- with `Fields` nothing is given about a record
+four_of_deposit : IsDistinct bytes_eq (codes "deposit" ∷ codes "sets" ∷ codes "records" ∷ codes "about" ∷ [])
+unfolding IsDistinct
+four_of_deposit = ((refl, (refl, (refl, tt))), ((refl, (refl, tt)), ((refl, tt), (tt, tt))))
+
+pub no_about : (d : Data) (i : List ℕ) (s : List (List ℕ)) (r : List LineRecord) (a : List LineAbout) → IsDeposit Fields i s r a d → a ≡ []
+no_about d i s r a is = by_member (get (codes "about") d) refl is.about
+  where
+    by_member : (o : Option Data) → get (codes "about") d ≡ o → AreAbouts a o → a ≡ []
+    by_member None found none = none
+    by_member (Some e) found some =
+        let four = as_many (codes "deposit" ∷ codes "sets" ∷ codes "records" ∷ codes "about" ∷ []) d four_of_deposit
+        (some_there is.deposit, (some_there is.sets, (some_there is.records, (some_there found, tt)))) in
+        let three : size d ≡ 3 = is.no_other in
+        absurd (omega (arith, four, three))
 
 -- ---- a deletion
 
@@ -271,8 +372,8 @@ None≢Some shape is = absurd cc
 shape_takes : (forms : Forms) (d : Data) (shape : Shape) → shape_of forms d ≡ Some shape → IsShape forms shape d
 unfolding shape_of
 shape_takes forms d shape =
-    if_taken (has_members deposit_members d) (deposit_shape forms d) (after_deposit forms d) shape (IsShape forms shape d)
-    (λ is. deposit_takes forms d shape (of_size deposit_members d is))
+    if_taken (has_deposit_members forms d) (deposit_shape forms d) (after_deposit forms d) shape (IsShape forms shape d)
+    (λ is. deposit_takes forms d shape (of_size_and deposit_members (optional_members forms) d is))
     (if_taken (has_members deletion_members d) (deletion_shape d) (after_deletion forms d) shape (IsShape forms shape d)
     (λ is. deletion_takes forms d shape (of_size deletion_members d is))
     (if_taken (has_members purge_members d) (purge_shape d) (after_purge forms d) shape (IsShape forms shape d)
@@ -280,14 +381,21 @@ shape_takes forms d shape =
     (if_taken (has_members set_members d) (set_shape d) (after_set forms d) shape (IsShape forms shape d)
     (λ is. set_takes forms d shape (of_size set_members d is))
     (if_taken (has_put_members forms d) (put_shape forms d) None shape (IsShape forms shape d)
-    (λ is. let so = allowed forms d is in put_takes forms d shape so.0 (of_size put_members d so.1))
+    (λ is. let so = allowed forms d is in put_takes forms d shape so.0 so.1)
     (λ none. absurd (None≢Some shape none))))))
 
 -- it is of another number of members
-past_deposit : (forms : Forms) (d : Data) (n : ℕ) → size d ≡ n → eqb n 3 ≡ false → shape_of forms d ≡ after_deposit forms d
-unfolding shape_of
-past_deposit forms d n is other =
-    not_there (has_members deposit_members d) (deposit_shape forms d) (after_deposit forms d) (of_another_size deposit_members d n is other)
+fewer : (n m : ℕ) → n ≤ 2 → eqb n (3 + m) ≡ false
+fewer n m few = grind (arith, nat_tests)
+
+more : (n m k : ℕ) → n ≡ 3 + m → k ≤ 2 → eqb n k ≡ false
+more n m k is few = grind (arith, nat_tests)
+
+past_deposit : (forms : Forms) (d : Data) → size d ≤ 2 → shape_of forms d ≡ after_deposit forms d
+unfolding shape_of has_members_and
+past_deposit forms d few =
+    not_there (has_deposit_members forms d) (deposit_shape forms d) (after_deposit forms d)
+    (ap (λ b. b && has_each deposit_members d) (fewer (size d) (length (names_there (optional_members forms) d)) few))
 
 past_deletion : (forms : Forms) (d : Data) (n : ℕ) → size d ≡ n → eqb n 1 ≡ false → after_deposit forms d ≡ after_deletion forms d
 past_deletion forms d n is other =
@@ -302,21 +410,28 @@ past_set forms d n is other = not_there (has_members set_members d) (set_shape d
 
 shape_again : (forms : Forms) (d : Data) (shape : Shape) → IsShape forms shape d → shape_of forms d ≡ Some shape
 unfolding shape_of
-shape_again forms d (deposits i s r) is =
-    there (has_members deposit_members d) (deposit_shape forms d) (after_deposit forms d) (are_deposit forms d i s r is) ∙ deposit_again forms d i s r is
-shape_again forms d (puts i s r) is =
-    not_there (has_members deposit_members d) (deposit_shape forms d) (after_deposit forms d) (no_deposit forms d i s r is)
-    ∙ past_deletion forms d 3 is.no_other refl ∙ past_purge forms d 3 is.no_other refl ∙ past_set forms d 3 is.no_other refl
-    ∙ there (has_put_members forms d) (put_shape forms d) None (are_put forms d i s r is) ∙ put_again forms d i s r is
+shape_again forms d (deposits i s r a) is =
+    there (has_deposit_members forms d) (deposit_shape forms d) (after_deposit forms d) (are_deposit forms d i s r a is) ∙ deposit_again forms d i s r a is
+shape_again forms d (puts i s r a) is =
+    let others : ℕ = length (names_there (optional_members forms) d) in
+    not_there (has_deposit_members forms d) (deposit_shape forms d) (after_deposit forms d) (no_deposit forms d i s r a is)
+    ∙ past_deletion forms d (size d) refl (more (size d) others 1 is.no_other (omega arith))
+    ∙ past_purge forms d (size d) refl (more (size d) others 1 is.no_other (omega arith))
+    ∙ past_set forms d (size d) refl (more (size d) others 2 is.no_other (omega arith))
+    ∙ there (has_put_members forms d) (put_shape forms d) None (are_put forms d i s r a is) ∙ put_again forms d i s r a is
 shape_again forms d (deletes i) is =
-    past_deposit forms d 1 is.no_other refl
+    let one = is.no_other in
+    past_deposit forms d (omega (arith, one))
     ∙ there (has_members deletion_members d) (deletion_shape d) (after_deletion forms d) (are_deletion d i is) ∙ deletion_again d i is
 shape_again forms d (purges b) is =
-    past_deposit forms d 1 is.no_other refl
+    let one = is.no_other in
+    past_deposit forms d (omega (arith, one))
     ∙ not_there (has_members deletion_members d) (deletion_shape d) (after_deletion forms d) (no_deletion d b is)
     ∙ there (has_members purge_members d) (purge_shape d) (after_purge forms d) (are_purge d b is) ∙ purge_again d b is
 shape_again forms d (adds_set s n) is =
-    past_deposit forms d 2 is.no_other refl ∙ past_deletion forms d 2 is.no_other refl ∙ past_purge forms d 2 is.no_other refl
+    let two = is.no_other in
+    past_deposit forms d (omega (arith, two))
+    ∙ past_deletion forms d 2 is.no_other refl ∙ past_purge forms d 2 is.no_other refl
     ∙ there (has_members set_members d) (set_shape d) (after_set forms d) (are_new_set d s n is) ∙ set_again d s n is
 
 -- ---- the law

@@ -12,17 +12,16 @@ use Rattle.json.proofs.Printed.Trees.{value-json_tokens}
 use Rattle.serde_json.specs.Data.{Data, string, object, put}
 use Rattle.serde_json.specs.Read.{of_json, of_members, read}
 use Rattle.oai_item.specs.declared.fields.Field.{Field}
-use Rattle.oai_item.specs.Givens.{GivenRecord}
 use Rattle.oai_item.specs.Item.{is_before, are_rising}
 use Rattle.oai_item.specs.declared.forms.Forms.{Forms}
+use Rattle.oai_item.specs.declared.forms.Forms.TheVariants.{Elements, Fields}
 use Rattle.oai_item.specs.declared.givens.Given.{Given}
 use Rattle.oai_item.specs.declared.givens.Given.TheVariants.{Listed, Whole}
-use Rattle.oai_json.specs.Json.{array_of, members_of}
+use Rattle.oai_json.specs.Json.{array_of, members_of, object_of}
 use Rattle.oai_json.specs.Tokens.{array_tokens, text_tokens}
 use Rattle.oai_json.proofs.JsonLemmas.{json_in-Some}
 use Rattle.oai_json.proofs.TokenLemmas.{Spell, SpellMembers, array_spelled, text_spelled}
-use Rattle.oai_deposit.specs.Dumps.{deposit_value}
-use Rattle.oai_deposit.specs.Lines.{are_of_forms, deposits, is_of_forms, shape_of}
+use Rattle.oai_deposit.specs.Lines.{LineRecord, are_records_of, deposits, is_of_forms, shape_of}
 use Rattle.oai_deposit.specs.Shapes.{IsDeposit, written_field, written_given, written_record, written_records, written_texts}
 use Rattle.oai_deposit.specs.Tokens.{field_tokens, given_tokens, record_tokens, records_tokens, deposit_tokens, is_none_or_before, may_follow, IsDepositLine}
 use Rattle.oai_deposit.proofs.ShapeLemmas.{shape_law_holds}
@@ -50,11 +49,11 @@ given_spelled : (given : Given) → Spell 2 (given_tokens given) (written_given 
 given_spelled (Listed fields) = fields_spelled fields
 given_spelled (Whole text) = let one = text_spelled text in (one.0, one.1, one.2, omega (arith, one.3))
 
-rising_rest : (a : GivenRecord) (rs : List GivenRecord) → are_rising (a ∷ rs) ≡ true → are_rising rs ≡ true
+rising_rest : (a : LineRecord) (rs : List LineRecord) → are_rising (a ∷ rs) ≡ true → are_rising rs ≡ true
 rising_rest a [] h = refl
 rising_rest a (b ∷ rs) h = right_true (is_before a.0 b.0) (are_rising (b ∷ rs)) h
 
-members_spelled : (done rs : List GivenRecord) → are_rising (done ++ rs) ≡ true
+members_spelled : (done rs : List LineRecord) → are_rising (done ++ rs) ≡ true
     → SpellMembers 2 (flat_map record_tokens rs ++ Token.end_object ∷ []) (members_of (map written_record done)) (members_of (map written_record (done ++ rs)))
 members_spelled done [] rise = (json.no_members, refl, ap (λ rs. Some (members_of (map written_record rs))) (sym (append-nil done)), omega arith)
 members_spelled done (r ∷ rs) rise =
@@ -72,14 +71,18 @@ members_spelled done (r ∷ rs) rise =
       omega (arith, one.3, others.3),
     )
 
-records_spelled : (rs : List GivenRecord) → are_rising rs ≡ true → Spell 3 (records_tokens rs) (written_records rs)
+records_spelled : (rs : List LineRecord) → are_rising rs ≡ true → Spell 3 (records_tokens rs) (written_records rs)
 records_spelled rs rise =
     let inside = members_spelled [] rs rise in
     (json.object inside.0, ap (λ ts. Token.begin_object ∷ ts) inside.1, ap (option_map object) inside.2, omega (arith, inside.3))
 
 -- ---- the deposit
 
-deposit_spelled : (i : List ℕ) (s : List (List ℕ)) (r : List GivenRecord) → are_rising r ≡ true → Spell 4 (deposit_tokens i s r) (deposit_value i s r)
+-- its value, of the members in the order of their names
+abbrev alone_value : List ℕ → List (List ℕ) → List LineRecord → Data
+alone_value i s r = object_of ((codes "deposit", string i) ∷ (codes "records", written_records r) ∷ (codes "sets", written_texts s) ∷ [])
+
+deposit_spelled : (i : List ℕ) (s : List (List ℕ)) (r : List LineRecord) → are_rising r ≡ true → Spell 4 (deposit_tokens i s r) (alone_value i s r)
 deposit_spelled i s r rise =
     let sets = array_spelled 0 text_tokens string text_spelled s in
     let records = records_spelled r rise in (
@@ -90,11 +93,13 @@ deposit_spelled i s r rise =
       omega (arith, sets.3, records.3),
     )
 
-deposit_shape_is : (forms : Forms) (i : List ℕ) (s : List (List ℕ)) (r : List GivenRecord) → are_of_forms forms r ≡ true
-    → shape_of forms (deposit_value i s r) ≡ Some (deposits i s r)
-deposit_shape_is forms i s r formed =
-    let is : IsDeposit forms i s r (deposit_value i s r) = record { deposit = refl; sets = refl; records = refl; formed = formed; no_other = refl } in
-    ((shape_law_holds forms (deposit_value i s r)).fits (deposits i s r)).1 is
+alone_deposit : (forms : Forms) (i : List ℕ) (s : List (List ℕ)) (r : List LineRecord) → are_records_of forms r ≡ true → IsDeposit forms i s r [] (alone_value i s r)
+alone_deposit Fields i s r formed = record { deposit = refl; sets = refl; records = refl; about = refl; under = refl; formed = formed; no_other = refl }
+alone_deposit Elements i s r formed = record { deposit = refl; sets = refl; records = refl; about = refl; under = refl; formed = formed; no_other = refl }
+
+deposit_shape_is : (forms : Forms) (i : List ℕ) (s : List (List ℕ)) (r : List LineRecord) → are_records_of forms r ≡ true
+    → shape_of forms (alone_value i s r) ≡ Some (deposits i s r [])
+deposit_shape_is forms i s r formed = ((shape_law_holds forms (alone_value i s r)).fits (deposits i s r [])).1 (alone_deposit forms i s r formed)
 
 -- the value of a text whose tokens were read
 abbrev whole : Option (json.Json × List Token) → Option Data
@@ -105,16 +110,16 @@ spelled_reads text ts d same spelled =
     ap whole (ap (json.value 127) (same ∙ sym spelled.1 ∙ sym (append-nil (tree.json_tokens spelled.0))) ∙ value-json_tokens spelled.0 127 [] (omega (arith, spelled.3)))
     ∙ spelled.2
 
-pub is_deposit_line : (forms : Forms) (line text : List ℕ) (i : List ℕ) (s : List (List ℕ)) (r : List GivenRecord) → text ≡ line → IsUtf8 line → are_rising r ≡ true
-    → are_of_forms forms r ≡ true → tokens text ≡ deposit_tokens i s r → IsDepositLine forms line i s r
+pub is_deposit_line : (forms : Forms) (line text : List ℕ) (i : List ℕ) (s : List (List ℕ)) (r : List LineRecord) → text ≡ line → IsUtf8 line → are_rising r ≡ true
+    → are_records_of forms r ≡ true → tokens text ≡ deposit_tokens i s r → IsDepositLine forms line i s r
 is_deposit_line forms line text i s r same utf8 rise formed are =
-    let reads = spelled_reads text (deposit_tokens i s r) (deposit_value i s r) are (deposit_spelled i s r rise) in
-    (deposit_value i s r, json_in-Some line (deposit_value i s r) utf8 (ap read (sym same) ∙ reads), deposit_shape_is forms i s r formed)
+    let reads = spelled_reads text (deposit_tokens i s r) (alone_value i s r) are (deposit_spelled i s r rise) in
+    (alone_value i s r, json_in-Some line (alone_value i s r) utf8 (ap read (sym same) ∙ reads), deposit_shape_is forms i s r formed)
 
 -- ---- loops
 
 -- the prefix behind the last one
-pub rising_more : (rs : List GivenRecord) (r : GivenRecord) → are_rising rs ≡ true → may_follow rs r.0 ≡ true → are_rising (rs ++ r ∷ []) ≡ true
+pub rising_more : (rs : List LineRecord) (r : LineRecord) → are_rising rs ≡ true → may_follow rs r.0 ≡ true → are_rising (rs ++ r ∷ []) ≡ true
 rising_more [] r rise follows = refl
 rising_more (a ∷ []) r rise follows = rw follows refl
 rising_more (a ∷ b ∷ rs) r rise follows =
@@ -123,8 +128,8 @@ rising_more (a ∷ b ∷ rs) r rise follows =
     rw (left_true (is_before a.0 b.0) (are_rising (b ∷ rs)) rise) (rising_more (b ∷ rs) r (rising_rest a (b ∷ rs) rise) follows)
 
 -- and of the forms
-pub formed_more : (forms : Forms) (rs : List GivenRecord) (r : GivenRecord) → are_of_forms forms rs ≡ true → is_of_forms forms r.1 ≡ true
-    → are_of_forms forms (rs ++ r ∷ []) ≡ true
+pub formed_more : (forms : Forms) (rs : List LineRecord) (r : LineRecord) → are_records_of forms rs ≡ true → is_of_forms forms r.1 ≡ true
+    → are_records_of forms (rs ++ r ∷ []) ≡ true
 formed_more forms [] r formed is = rw is refl
 formed_more forms (a ∷ rs) r formed is =
-    rw (left_true (is_of_forms forms a.1) (are_of_forms forms rs) formed) (formed_more forms rs r (right_true (is_of_forms forms a.1) (are_of_forms forms rs) formed) is)
+    rw (left_true (is_of_forms forms a.1) (are_records_of forms rs) formed) (formed_more forms rs r (right_true (is_of_forms forms a.1) (are_records_of forms rs) formed) is)

@@ -1,5 +1,5 @@
 -- The JSON object of a command. RFC 8259, sections 4, 5 and 7.
-use Rattle.std.specs.Prelude.{◌≡◌, ◌↔◌, ℕ, true, List, [], ◌∷◌, map, codes, Some, None}
+use Rattle.std.specs.Prelude.{◌≡◌, ◌↔◌, ◌+◌, ℕ, true, List, [], ◌∷◌, length, map, codes, Option, Some, None}
 use Rattle.serde_json.specs.Data.{Data, string}
 use Rattle.serde_json.specs.Find.{get}
 use Rattle.oai_item.specs.declared.fields.Field.{Field}
@@ -7,9 +7,8 @@ use Rattle.oai_item.specs.declared.forms.Forms.{Forms}
 use Rattle.oai_item.specs.declared.forms.Forms.TheVariants.{Elements}
 use Rattle.oai_item.specs.declared.givens.Given.{Given}
 use Rattle.oai_item.specs.declared.givens.Given.TheVariants.{Listed, Whole}
-use Rattle.oai_item.specs.Givens.{GivenRecord}
-use Rattle.oai_json.specs.Json.{size, array_of, object_of}
-use Rattle.oai_deposit.specs.Lines.{Shape, are_of_forms, deposits, puts, deletes, purges, adds_set, shape_of}
+use Rattle.oai_json.specs.Json.{size, names_there, array_of, object_of}
+use Rattle.oai_deposit.specs.Lines.{LineAbout, LineRecord, Shape, are_records_of, have_records, optional_members, deposits, puts, deletes, purges, adds_set, shape_of}
 
 -- [TEXT,..]
 abbrev pub written_texts : List (List ℕ) → Data
@@ -25,30 +24,49 @@ written_given (Listed fields) = array_of (map written_field fields)
 written_given (Whole text) = string text
 
 -- PREFIX:[[NAME,TEXT],..], or PREFIX:TEXT
-abbrev pub written_record : GivenRecord → List ℕ × Data
+abbrev pub written_record : LineRecord → List ℕ × Data
 written_record r = (r.0, written_given r.1)
 
 -- {PREFIX:[[NAME,TEXT],..],PREFIX:TEXT,..}
-abbrev pub written_records : List GivenRecord → Data
+abbrev pub written_records : List LineRecord → Data
 written_records records = object_of (map written_record records)
 
--- {"deposit":ID,"sets":[SPEC,..],"records":{PREFIX:[[NAME,TEXT],..],PREFIX:TEXT,..}}, its members in any order; with `Fields` no record is a TEXT
+-- PREFIX:[TEXT,..]
+abbrev pub written_about : LineAbout → List ℕ × Data
+written_about about = (about.0, written_texts about.1)
+
+-- {PREFIX:[TEXT,..],..}
+abbrev pub written_abouts : List LineAbout → Data
+written_abouts abouts = object_of (map written_about abouts)
+
+-- .. which may be missing, and then nothing is given about a record
+abbrev pub AreAbouts : List LineAbout → Option Data → Type 0
+AreAbouts abouts None = abouts ≡ []
+AreAbouts abouts (Some d) = d ≡ written_abouts abouts
+
+-- {"deposit":ID,"sets":[SPEC,..],"records":{PREFIX:[[NAME,TEXT],..],PREFIX:TEXT,..},"about":{PREFIX:[TEXT,..],..}}, its members in any order, and
+-- `about` may be missing; with `Fields` it is, and no record is a TEXT
 pub record IsDeposit (forms : Forms) (identifier : List ℕ) (specs : List (List ℕ))
-    (given : List GivenRecord) (d : Data) : Type 0 where
+    (given : List LineRecord) (abouts : List LineAbout) (d : Data) : Type 0 where
   pub deposit : get (codes "deposit") d ≡ Some (string identifier)
   pub sets : get (codes "sets") d ≡ Some (written_texts specs)
   pub records : get (codes "records") d ≡ Some (written_records given)
-  pub formed : are_of_forms forms given ≡ true
-  pub no_other : size d ≡ 3
+  pub about : AreAbouts abouts (get (codes "about") d)
+  pub under : have_records given abouts ≡ true
+  pub formed : are_records_of forms given ≡ true
+  pub no_other : size d ≡ 3 + length (names_there (optional_members forms) d)
 
--- {"put":ID,"sets":[SPEC,..],"records":{PREFIX:[[NAME,TEXT],..],PREFIX:TEXT,..}}, its members in any order; with `Fields` no value is a put
+-- {"put":ID,"sets":[SPEC,..],"records":{PREFIX:[[NAME,TEXT],..],PREFIX:TEXT,..},"about":{PREFIX:[TEXT,..],..}}, its members in any order, and
+-- `about` may be missing; with `Fields` no value is a put
 pub record IsPut (forms : Forms) (identifier : List ℕ) (specs : List (List ℕ))
-    (given : List GivenRecord) (d : Data) : Type 0 where
+    (given : List LineRecord) (abouts : List LineAbout) (d : Data) : Type 0 where
   pub put : get (codes "put") d ≡ Some (string identifier)
   pub sets : get (codes "sets") d ≡ Some (written_texts specs)
   pub records : get (codes "records") d ≡ Some (written_records given)
+  pub about : AreAbouts abouts (get (codes "about") d)
+  pub under : have_records given abouts ≡ true
   pub allowed : forms ≡ Elements
-  pub no_other : size d ≡ 3
+  pub no_other : size d ≡ 3 + length (names_there (optional_members forms) d)
 
 -- {"delete":ID}
 pub record IsDeletion (identifier : List ℕ) (d : Data) : Type 0 where
@@ -68,8 +86,8 @@ pub record IsNewSet (spec title : List ℕ) (d : Data) : Type 0 where
 
 -- the value has the shape, with these texts
 abbrev pub IsShape : Forms → Shape → Data → Type 0
-IsShape forms (deposits identifier sets records) d = IsDeposit forms identifier sets records d
-IsShape forms (puts identifier sets records) d = IsPut forms identifier sets records d
+IsShape forms (deposits identifier sets records abouts) d = IsDeposit forms identifier sets records abouts d
+IsShape forms (puts identifier sets records abouts) d = IsPut forms identifier sets records abouts d
 IsShape forms (deletes identifier) d = IsDeletion identifier d
 IsShape forms (purges before) d = IsPurge before d
 IsShape forms (adds_set spec name) d = IsNewSet spec name d

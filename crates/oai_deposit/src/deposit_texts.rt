@@ -1,6 +1,7 @@
 ghost use Rattle.std.specs.Prelude.{◌≡◌, true};
 ghost use Rattle.oai_item.specs.Item.{are_rising};
 
+use crate::about_texts::AboutTexts;
 use oai_item::Given;
 use oai_names::{Sequence, Text};
 use std::marker::Model;
@@ -14,10 +15,10 @@ pub(crate) struct RecordTexts {
 
 impl Model for RecordTexts {
     ghost use Rattle.std.specs.Prelude.{◌≡◌, true, List};
-    ghost use Rattle.oai_item.specs.Givens.{GivenRecord};
+    ghost use Rattle.oai_deposit.specs.Lines.{LineRecord};
     ghost use Rattle.oai_item.specs.Item.{are_rising};
 
-    ghost Value = { List GivenRecord };
+    ghost Value = { List LineRecord };
 
     ghost view = { λ r. r.records };
 
@@ -52,4 +53,6 @@ pub(crate) struct DepositTexts<'a> {
     pub(crate) sets: Vec<&'a str>,
     /// The records, of any texts.
     pub(crate) records: RecordTexts,
+    /// What is about them, of any texts.
+    pub(crate) abouts: AboutTexts<'a>,
 }

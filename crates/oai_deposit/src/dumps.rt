@@ -6,26 +6,28 @@ ghost use Rattle.serde_json.specs.Read.{max_depth};
 ghost use Rattle.serde_json.specs.View.{members_view};
 ghost use Rattle.serde_json.specs.Written.{compact_text, has_float};
 ghost use Rattle.oai_json.specs.Json.{json_in};
+ghost use Rattle.oai_deposit.specs.Calls.{with_about_put};
 ghost use Rattle.oai_deposit.specs.Lines.{adds_set, are_of_forms, asked_change, deletes, deposits, line_of};
 ghost use Rattle.oai_item.specs.Givens.{given_back};
 ghost use Rattle.oai_item.specs.declared.forms.Forms.{Forms};
-ghost use Rattle.oai_deposit.specs.Dumps.{IsDump, IsHeldItem, IsHeldSet, IsLineOf, deletion_value, deposit_value, dump_changes, set_value};
+ghost use Rattle.oai_deposit.specs.Dumps.{IsDump, IsHeldItem, IsHeldSet, IsLineOf, deletion_value, deposit_value, dump_changes, line_abouts, line_record, set_value};
 ghost use Rattle.oai_item.specs.Item.{ItemState};
 
-use crate::dump_values::{records_value, text_value, texts_value};
+use crate::dump_values::{abouts_members, records_value, text_value, texts_value};
 use oai_item::Item;
 use oai_names::{Identifier, SetSpec};
 use serde_json::{Map, Value, put};
 use std::alloc::{AllocError, Global};
 
-/// The line, without its end, that deposits the item: its identifier, its sets and its records, an element as its text.
-/// Parsed as a deposit line, of forms that its records have, it requests exactly that. The error is out of memory.
+/// The line, without its end, that deposits the item: its identifier, its sets and its records, an element as its text,
+/// and what is about them, if something is. Parsed as a deposit line, of forms that its records have, it requests exactly that. The error is out of memory.
 pub fn deposit_line(alloc: Global, item: &Item) -> Result<String, AllocError>
     ensures line { IfOk result (λ line. IsLineOf (deposit_value item.now.identifier item.now.sets (map given_back item.now.formats))
         (string_bytes line)) }
     ensures asks { IfOk result (λ line. (forms : Forms) → are_of_forms forms (map given_back item.now.formats) ≡ true
         → line_of forms (string_bytes line)
-        ≡ asked_change (deposits item.now.identifier item.now.sets (map given_back item.now.formats))) }
+        ≡ asked_change (deposits item.now.identifier item.now.sets (map line_record (map given_back item.now.formats))
+        (line_abouts (map given_back item.now.formats)))) }
 {
     let mut members = Map::new(alloc);
     put(
@@ -46,7 +48,24 @@ pub fn deposit_line(alloc: Global, item: &Item) -> Result<String, AllocError>
         "records",
         records_value(alloc, item.formats())?,
     )?;
+    put_abouts(alloc, abouts_members(alloc, item.formats())?, &mut members)?;
     line_of_members(alloc, members)
+}
+
+/// Puts the member `about`, an object of these members, among the others, if there are any. The error is out of memory.
+#[tactic(auto, using(crate::proofs::WrittenLemmas::about_not_put, crate::proofs::WrittenLemmas::about_put))]
+fn put_abouts(
+    alloc: Global,
+    abouts: Map<String, Value>,
+    members: &mut Map<String, Value>,
+) -> Result<(), AllocError>
+    ensures { IfOk result (λ _. members_view members.new.entries
+        ≡ with_about_put (members_view abouts.entries) (members_view members.old.entries)) }
+{
+    if abouts.len() == 0 {
+        return Ok(());
+    }
+    put(members, alloc, "about", Value::Object(abouts))
 }
 
 /// The line, without its end, that deletes the item with that identifier. The error is out of memory.

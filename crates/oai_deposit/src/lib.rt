@@ -2,6 +2,7 @@
 //! repository holds, as the lines that deposit it again.
 #![tactic(auto)]
 
+mod about_texts;
 mod changes;
 mod deposit_texts;
 mod dump_values;

@@ -15,6 +15,7 @@ ghost use Rattle.oai_deposit.specs.Lines as lines;
 ghost use Rattle.oai_deposit.specs.Readings.{FindsBy, ReturnsReading, passed};
 ghost use Rattle.oai_deposit.specs.Shapes.{ShapeLaw};
 
+use crate::about_texts::abouts_at;
 use crate::changes::Change;
 use crate::deposit_texts::DepositTexts;
 use crate::faults::LineFault;
@@ -24,17 +25,17 @@ use crate::records::records_at;
 use crate::tokens::read_deposit;
 use json::Scratch;
 use oai_item::{Forms, LineRefusal, Records, is_short_text};
-use oai_json::{has_members, read_json};
+use oai_json::{has_members, has_members_and, read_json};
 use oai_names::{Identifier, NameFault, Sequence, SetSpec, Text};
 use serde_json::Value;
 use std::alloc::Global;
 
 /// Reads one line of a deposit, without its line end: a JSON object (RFC 8259) with exactly the members of a command.
 /// A record is a list of fields or, if the forms say so, a text that is an XML element, and is then given by its canonical
-/// text. The errors, in this order: `BadJson`, `BadCommand`, `BadXml`, `BadIdentifier`, `BadSetSpec`, `BadText`, each for
+/// text; so is what may be given about it. The errors, in this order: `BadJson`, `BadCommand`, `BadXml`, `BadIdentifier`, `BadSetSpec`, `BadText`, each for
 /// the whole line before the next; and at any point `NoMemory`, but not for a line that is empty or not in UTF-8. Of two members
-/// with one name the last counts. A deposit with its members in the order `deposit`, `sets`, `records`, under rising
-/// prefixes, is read without making a JSON value of it; each text of a line is copied from the parser's result at most
+/// with one name the last counts. A deposit with its members in the order `deposit`, `sets`, `records`, and no
+/// other, under rising prefixes, is read without making a JSON value of it; each text of a line is copied from the parser's result at most
 /// once.
 #[tactic(auto, unfolding(crate::specs::Lines::line_of))]
 pub fn read_line(alloc: Global, forms: Forms, line: &[u8]) -> Result<Change, LineFault>
@@ -64,7 +65,7 @@ pub fn shape_law()
     ensures { ShapeLaw }
 {}
 
-/// The law of the forms: with `Fields` no line deposits an element, and none is a put. A theorem, proved by an empty
+/// The law of the forms: with `Fields` no line deposits an element, or anything about a record, and none is a put. A theorem, proved by an empty
 /// function.
 pub fn forms_law()
     ensures lists { (line identifier : List ℕ) (specs : List (List ℕ)) (given : List GivenRecord)
@@ -80,7 +81,7 @@ fn read_value(alloc: Global, forms: Forms, value: &Value) -> Result<Change, Line
     ensures { ReturnsReading (has_command_members forms (view value.now) ≡ true) result
         (lines.change_asked (lines.shape_of forms (view value.now))) }
 {
-    if has_members(value, &["deposit", "sets", "records"]) {
+    if has_deposit_members(forms, value) {
         deposit_of(alloc, forms, value)
     } else if has_members(value, &["delete"]) {
         deletion_of(alloc, value)
@@ -95,13 +96,26 @@ fn read_value(alloc: Global, forms: Forms, value: &Value) -> Result<Change, Line
     }
 }
 
-/// Whether the value is an object with exactly the members of a put, and a record may be an element.
+/// Whether the value is an object with exactly the members of a deposit, of which `about` may be missing, and is where no
+/// record may be an element.
+fn has_deposit_members(forms: Forms, value: &Value) -> bool
+    ensures { result ≡ lines.has_deposit_members forms (view value.now) }
+{
+    let members = ["deposit", "sets", "records"];
+    match forms {
+        Forms::Fields => has_members_and(value, &members, &[]),
+        Forms::Elements => has_members_and(value, &members, &["about"]),
+    }
+}
+
+/// Whether the value is an object with exactly the members of a put, of which `about` may be missing, and a record may be
+/// an element.
 fn has_put_members(forms: Forms, value: &Value) -> bool
     ensures { result ≡ lines.has_put_members forms (view value.now) }
 {
     match forms {
         Forms::Fields => false,
-        Forms::Elements => has_members(value, &["put", "sets", "records"]),
+        Forms::Elements => has_members_and(value, &["put", "sets", "records"], &["about"]),
     }
 }
 
@@ -113,10 +127,12 @@ fn deposit_of(alloc: Global, forms: Forms, value: &Value) -> Result<Change, Line
     let identifier = command_text(value, "deposit")?;
     let sets = texts_at(alloc, value, "sets")?;
     let records = records_at(alloc, forms, value)?;
+    let abouts = abouts_at(value)?;
     let texts = DepositTexts {
         identifier,
         sets,
         records,
+        abouts,
     };
     deposit_from(alloc, texts)
 }
@@ -129,10 +145,12 @@ fn put_of(alloc: Global, forms: Forms, value: &Value) -> Result<Change, LineFaul
     let identifier = command_text(value, "put")?;
     let sets = texts_at(alloc, value, "sets")?;
     let records = records_at(alloc, forms, value)?;
+    let abouts = abouts_at(value)?;
     let texts = DepositTexts {
         identifier,
         sets,
         records,
+        abouts,
     };
     put_from(alloc, texts)
 }
@@ -141,7 +159,7 @@ fn put_of(alloc: Global, forms: Forms, value: &Value) -> Result<Change, LineFaul
 #[tactic(auto, unfolding(crate::specs::Lines::asked_change))]
 fn deposit_from(alloc: Global, texts: DepositTexts<'_>) -> Result<Change, LineFault>
     ensures { ReturnsReading Anywhere result (lines.asked_change (lines.deposits texts.entry.identifier.now
-        (map (λ text. text.now) texts.entry.sets.items) texts.entry.records)) }
+        (map (λ text. text.now) texts.entry.sets.items) texts.entry.records texts.entry.abouts)) }
 {
     let (identifier, sets, records) = parts_from(alloc, texts)?;
     Ok(Change::Deposit {
@@ -155,7 +173,7 @@ fn deposit_from(alloc: Global, texts: DepositTexts<'_>) -> Result<Change, LineFa
 #[tactic(auto, unfolding(crate::specs::Lines::asked_change))]
 fn put_from(alloc: Global, texts: DepositTexts<'_>) -> Result<Change, LineFault>
     ensures { ReturnsReading Anywhere result (lines.asked_change (lines.puts texts.entry.identifier.now
-        (map (λ text. text.now) texts.entry.sets.items) texts.entry.records)) }
+        (map (λ text. text.now) texts.entry.sets.items) texts.entry.records texts.entry.abouts)) }
 {
     let (identifier, sets, records) = parts_from(alloc, texts)?;
     Ok(Change::Put {
@@ -171,14 +189,16 @@ fn parts_from(
     texts: DepositTexts<'_>,
 ) -> Result<(Identifier, Sequence<SetSpec>, Records), LineFault>
     ensures { ReturnsReading Anywhere result (lines.asked_parts texts.entry.identifier.now
-        (map (λ text. text.now) texts.entry.sets.items) (lines.elements_read texts.entry.records)) }
+        (map (λ text. text.now) texts.entry.sets.items)
+        (lines.elements_read (lines.with_abouts texts.entry.records texts.entry.abouts))) }
 {
     let DepositTexts {
         identifier,
         sets,
         records,
+        abouts,
     } = texts;
-    let records = read_elements(alloc, records)?;
+    let records = read_elements(alloc, records, &abouts)?;
     let identifier = identifier_of(alloc, identifier)?;
     let sets = set_specs_of(alloc, sets.as_slice())?;
     if !have_xml_texts(records.as_slice()) {

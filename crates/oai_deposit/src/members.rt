@@ -42,7 +42,7 @@ pub(crate) fn texts_at<'v>(
 
 /// The text of each string; `BadCommand` at the first value that is none.
 #[tactic(auto, using(oai_json::proofs::ReadingLemmas::starts))]
-fn texts_in(alloc: Global, values: &[Value]) -> Result<Vec<&str>, LineFault>
+pub(crate) fn texts_in(alloc: Global, values: &[Value]) -> Result<Vec<&str>, LineFault>
     ensures { FindsBy BadCommand (λ texts. map (λ text. text.now) texts.items) Anywhere result
         (each_of as_str (map view values.now)) }
 {

@@ -1,14 +1,15 @@
 //! Deposits that are read from the tokens of their line, without making a JSON value: those with their members in the
-//! order `deposit`, `sets`, `records`, under rising prefixes.
+//! order `deposit`, `sets`, `records`, under rising prefixes, and no other.
 
 ghost use Rattle.std.specs.Prelude.{◌≡◌, [], ◌∷◌, ◌++◌, map, true, IfSome};
 ghost use Rattle.std.specs.List.{flat_map};
 ghost use Rattle.json.specs.Token as token;
 ghost use Rattle.oai_item.specs.Item.{are_rising};
 ghost use Rattle.oai_item.specs.declared.givens.Given.TheVariants.{Whole};
-ghost use Rattle.oai_deposit.specs.Lines.{are_of_forms, is_of_forms};
+ghost use Rattle.oai_deposit.specs.Lines.{are_records_of, is_of_forms};
 ghost use Rattle.oai_deposit.specs.Tokens as tokens;
 
+use crate::about_texts::AboutTexts;
 use crate::deposit_texts::{DepositTexts, RecordTexts};
 use crate::records::field_from;
 use json::{Reader, Scratch, Token};
@@ -30,8 +31,9 @@ pub(crate) fn read_deposit<'a>(
     line: &'a [u8],
     scratch: &'a mut Scratch,
 ) -> Option<DepositTexts<'a>>
-    ensures { IfSome result (λ texts. tokens.IsDepositLine forms line.now
+    ensures line { IfSome result (λ texts. tokens.IsDepositLine forms line.now
         texts.identifier.now (map (λ set. set.now) texts.sets.items) texts.records) }
+    ensures alone { IfSome result (λ texts. texts.abouts ≡ []) }
 {
     let text = str::from_utf8(line).ok()?;
     let mut reader = Reader::new(text, scratch).ok()?;
@@ -48,10 +50,11 @@ fn take_deposit<'a>(
     forms: Forms,
     reader: &mut Reader<'a>,
 ) -> Option<DepositTexts<'a>>
-    ensures formed { IfSome result (λ texts. are_of_forms forms texts.records ≡ true) }
+    ensures formed { IfSome result (λ texts. are_records_of forms texts.records ≡ true) }
     ensures taken { IfSome result (λ texts. reader.old
         ≡ tokens.deposit_tokens texts.identifier.now (map (λ set. set.now) texts.sets.items) texts.records
         ++ reader.new) }
+    ensures alone { IfSome result (λ texts. texts.abouts ≡ []) }
 {
     take_begin_object(reader)?;
     take_key(reader, "deposit")?;
@@ -65,12 +68,13 @@ fn take_deposit<'a>(
         identifier,
         sets,
         records,
+        abouts: AboutTexts::none(),
     })
 }
 
 /// Reads the next object of records, whose prefixes rise.
 fn take_records(alloc: Global, forms: Forms, reader: &mut Reader<'_>) -> Option<RecordTexts>
-    ensures formed { IfSome result (λ records. are_of_forms forms records ≡ true) }
+    ensures formed { IfSome result (λ records. are_records_of forms records ≡ true) }
     ensures taken { IfSome result (λ records. reader.old
         ≡ tokens.records_tokens records ++ reader.new) }
 {
@@ -88,7 +92,7 @@ fn add_records(
     records: &mut Vec<(Text, Given)>,
 ) -> Option<()>
     requires { records.old.items ≡ [] }
-    ensures formed { IfSome result (λ _. are_of_forms forms records.new.items ≡ true) }
+    ensures formed { IfSome result (λ _. are_records_of forms records.new.items ≡ true) }
     ensures taken { IfSome result (λ _. reader.old
         ≡ flat_map tokens.record_tokens records.new.items ++ token.Token.end_object ∷ reader.new) }
     ensures rising { IfSome result (λ _. are_rising records.new.items ≡ true) }

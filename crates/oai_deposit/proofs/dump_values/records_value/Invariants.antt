@@ -3,12 +3,13 @@ use Rattle.serde_json.specs.View.{members_view}
 use Rattle.oai_item.specs.Givens.{given_back}
 use Rattle.oai_item.specs.Item.{Metadata}
 use Rattle.oai_json.specs.Json.{members_of}
+use Rattle.oai_deposit.specs.Dumps.{line_record}
 use Rattle.oai_deposit.specs.Shapes.{written_record}
 use Rattle.oai_deposit.proofs.dump_values.records_value.Given as goal
 
 abbrev pub invariant-loop-record : goal.invariant-loop-record
 invariant-loop-record l =
-    (done : List Metadata) × (l.fn.records ≡ done ++ l.left) × (members_view l.members.entries ≡ members_of (map written_record (map given_back done)))
+    (done : List Metadata) × (l.fn.records ≡ done ++ l.left) × (members_view l.members.entries ≡ members_of (map written_record (map line_record (map given_back done))))
 
 abbrev pub decreases-loop-record : goal.decreases-loop-record
 decreases-loop-record l = length l.left

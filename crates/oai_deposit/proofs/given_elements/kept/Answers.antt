@@ -1,19 +1,31 @@
--- The root is that of the element, whose text is its own canonical text.
-use Rattle.std.proofs.Common.{◌≡◌, ℕ, List, [], ◌∷◌, Ok, subst}
-use Rattle.oai_xml.specs.Roots.{root_of}
-use Rattle.oai_xml.specs.Trees.{Tree}
-use Rattle.oai_xml.specs.Whole.{SpellsTree}
-use Rattle.oai_item.specs.Elements.{element_field}
-use Rattle.oai_deposit.specs.Lines.{element_read}
-use Rattle.oai_deposit.proofs.ElementLemmas.{element_noted}
+-- What is about the record stands behind the record itself.
+use Rattle.std.proofs.Common.{◌≡◌, ◌++◌, ℕ, List, Option, Vec, Global, length, rules}
+use Rattle.std.proofs.lemmas.Result.{err_from_is_err_and}
+use Rattle.oai_xml.specs.Roots.{RootName}
+use Rattle.oai_item.specs.Givens.{field_texts, noted_given}
+use Rattle.oai_item.specs.declared.fields.Field.{Field}
+use Rattle.oai_deposit.proofs.ElementLemmas.{about_fault, kept_noted, kept_read, own_fault}
 use Rattle.oai_deposit.proofs.given_elements.kept.Goals as goal
 
-pub returns-in_ok-element_fields-in-Whole-clause-noted : goal.returns-in_ok-element_fields-in-Whole-clause-noted
-returns-in_ok-element_fields-in-Whole-clause-noted c =
-    let element : List ℕ = c.in_ok-element-in-Whole.element in
-    let root = c.in_ok-root-in-Whole.root in
-    let is : element_read c.in-Whole.text ≡ Ok element = rw (← c.as_str.ensures) c.in_ok-element-in-Whole.ensures in
-    let told : (t : Tree) → SpellsTree element t → root ≡ root_of t = subst (λ (text : List ℕ). (t : Tree) → SpellsTree text t → root ≡ root_of t) c.as_str-in-Whole.ensures c.in_ok-root-in-Whole.ensures in
-    let made = c.in_ok-element_fields-in-Whole.ensures in
-    let same : element_field element ∷ [] ≡ c.in_ok-element_fields-in-Whole.field-0 = cc in
-    rw (← same) (element_noted c.in-Whole.text element root is told)
+pub returns-in_err-fields-clause-given : goal.returns-in_err-fields-clause-given
+returns-in_err-fields-clause-given c = λ prefix.
+    let p = err_from_is_err_and c.from_residual.result c.from_residual.ensures.1 in
+    rw (p.1, p.2) (own_fault (λ (own : Vec Field Global × Option RootName). noted_given own.0.items own.1) c.args.given _ c.in_err-fields.field-0.0 c.in_err-fields.ensures.given prefix)
+
+pub returns-in_err-elements-clause-given : goal.returns-in_err-elements-clause-given
+returns-in_err-elements-clause-given c = λ prefix.
+    let p = err_from_is_err_and c.from_residual-in_err-elements.result c.from_residual-in_err-elements.ensures.1 in
+    let about = rw c.as_slice.ensures.value at c.in_err-elements.ensures.texts in
+    rw (p.1, p.2) (about_fault (λ (fields : Vec Field Global). field_texts fields.items) c.args.given _ _ c.in_err-elements.field-0.0 c.in_ok-fields.ensures.given about prefix)
+
+pub returns : goal.returns
+returns c =
+    let own : List Field = c.in_ok-fields.fields.items in
+    let elements : List Field = c.in_ok-elements.elements.items in
+    let all : c.append.new.self.items ≡ own ++ elements = search rules in
+    let many : c.len-count.result ≡ length elements = search rules in
+    let about = rw c.as_slice.ensures.value at c.in_ok-elements.ensures.texts in
+    record {
+      given = λ prefix. rw (c.new.ensures, all, many) (kept_read prefix c.args.given _ own elements c.in_ok-fields.root c.in_ok-fields.ensures.given about);
+      noted = rw (c.new.ensures, all, many) (kept_noted own elements c.in_ok-fields.root c.in_ok-fields.ensures.noted c.in_ok-elements.ensures.about);
+    }
