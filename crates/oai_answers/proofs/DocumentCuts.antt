@@ -12,17 +12,16 @@ use Rattle.oai_item.specs.declared.formats.Format.{Format}
 use Rattle.oai_xml.specs.Documents.{is_canonical}
 use Rattle.oai_xml.specs.Trees.{Tree}
 use Rattle.oai_answers.specs.Answers.{Continuation, DescribedSet, Description, Dissemination, Document, Page, VerbAnswer, completes, fails, gives_record, identifies, lists_formats, lists_headers, lists_records, lists_sets, remains, whole}
-use Rattle.oai_answers.specs.Documents.{answer_element, document, error_element, extent_attributes, formats_element, identify_element, sets_element, get_record_element, head, header_element, header_start, identifiers_element, metadata, metadata_part, record_element, records_element, token_element}
+use Rattle.oai_answers.specs.Documents.{answer_element, behind_header, document, error_element, extent_attributes, formats_element, identify_element, sets_element, get_record_element, head, header_element, header_start, identifiers_element, record_content, record_element, records_element, token_element}
 use Rattle.oai_answers.specs.Markup.{attribute_start, element, end_tag, plain, spelled_attribute, start_tag, text_element}
-use Rattle.oai_answers.specs.MetadataTrees.{metadata_tree}
-use Rattle.oai_answers.specs.Seen.{answer_seen, document_seen, empty_token, has_elements, header_seen, identity_seen, metadata_seen, no_token, offer_seen, record_seen, seen_error, seen_formats, seen_headers, seen_identity, seen_record, seen_records, seen_sets, seen_token, set_seen, token_seen}
+use Rattle.oai_answers.specs.Seen.{about_seen, answer_seen, document_seen, empty_token, has_elements, header_seen, identity_seen, metadata_seen, no_token, offer_seen, record_seen, seen_error, seen_formats, seen_headers, seen_identity, seen_record, seen_records, seen_sets, seen_token, set_seen, token_seen}
 use Rattle.oai_answers.specs.declared.errors.ErrorCode.{ErrorCode}
 use Rattle.oai_answers.specs.declared.errors.ErrorCode.TheVariants.{BadVerb}
 use Rattle.oai_item.specs.declared.deleted_record.DeletedRecord.TheVariants.{No}
 use Rattle.oai_answers.specs.declared.tokens.Extent.{Extent}
 use Rattle.oai_answers.proofs.PartCuts.{error_cut, formats_cut, identify_cut, is_described, request_cut, second_cut, sets_cut}
 use Rattle.oai_answers.proofs.Printed.{decimal_lacks, quote_is, second_lacks}
-use Rattle.oai_answers.proofs.RecordCuts.{Content, Dated, freely, header_cut, is_plain_content, metadata_cut}
+use Rattle.oai_answers.proofs.RecordCuts.{Content, Dated, content_cut, content_seen, freely, header_cut, is_plain_content}
 use Rattle.oai_answers.proofs.Spelled.{attribute_cut, element_cut, elements_cut, tag_at, tag_closes}
 
 -- ---- records
@@ -56,60 +55,82 @@ slash_at (x ∷ y ∷ rest) h =
     apart : (y : ℕ) → y ≡ 47 → eqb y 109 ≡ false
     apart y is = ap (λ n. eqb n 109) is
 
+-- an end tag begins no record, no header and no container
+no_start : (x : ℕ) (word rest : List ℕ) → eqb 47 x ≡ false → closes rest ≡ true → without (60 ∷ x ∷ word) rest ≡ true
+no_start x word [] apart h = cc
+no_start x word (a ∷ []) apart h = absurd (no_second (eqb a 60) h)
+  where
+    no_second : (b : Bool) → (b && false) ≡ true → ⊥
+    no_second true h = cc
+    no_second false h = cc
+no_start x word (a ∷ b ∷ rest) apart h =
+    let second = and_parts (eqb a 60) (eqb b 47 && true) h in
+    by_tests (eqb a 60) (ap (λ n. eqb n x) (eqb-true b 47 (and_parts (eqb b 47) true second.1).0) ∙ apart)
+  where
+    by_tests : (first : Bool) → eqb b x ≡ false → not (first && (eqb b x && begins word rest)) ≡ true
+    by_tests true is = ap (λ t. not (t && begins word rest)) is
+    by_tests false is = refl
+
 as_live : Bool → ℕ
 as_live b = cond b 1 0
 
-part_told : (d : Dissemination) (rest : List ℕ) → closes rest ≡ true → as_live (eqb (get_or (metadata_part d.format d.item ++ rest) 1 0) 109) ≡ as_live d.item.live
-unfolding metadata_part element start_tag plain
+part_told : (d : Dissemination) (rest : List ℕ) → closes rest ≡ true → as_live (eqb (get_or (behind_header d.format d.item ++ rest) 1 0) 109) ≡ as_live d.item.live
+unfolding behind_header record_content element start_tag plain
 part_told d rest ends = by_test d.item.live
   where
-    by_test : (b : Bool) → as_live (eqb (get_or (cond b (element (codes "metadata") (metadata d.format (fields_in d.format.prefix d.item.formats))) [] ++ rest) 1 0) 109) ≡ as_live b
+    by_test : (b : Bool) → as_live (eqb (get_or (cond b (record_content d.format (fields_in d.format.prefix d.item.formats)) [] ++ rest) 1 0) 109) ≡ as_live b
     by_test true = refl
     by_test false = ap as_live (slash_at rest ends)
 
-abbrev some_metadata : Tree → Option Tree
-some_metadata tree = Some tree
+-- what is seen behind a header
+abbrev Behind : Type 0
+Behind = Option Tree × List Tree
 
-abbrev live_seen : Dissemination → Option Tree
-live_seen d = some_metadata (metadata_tree d.format (fields_in d.format.prefix d.item.formats))
+abbrev some_seen : Tree × List Tree → Behind
+some_seen seen = pair (Some seen.0) seen.1
 
-live_cut : Cuts closes is_plain_record (λ (d : Dissemination). element (codes "metadata") (metadata d.format (fields_in d.format.prefix d.item.formats))) live_seen
-live_cut =
-    let content = of_part content_of metadata_cut in
-    seen_as some_metadata (where_next (λ rest _. refl) (element_cut (codes "metadata") content (λ rest. refl)))
+abbrev live_seen : Dissemination → Behind
+live_seen d = some_seen (content_seen (content_of d))
 
-abbrev nothing_seen : Option Tree
-nothing_seen = None
+live_cut : Cuts closes is_plain_record (λ (d : Dissemination). record_content d.format (fields_in d.format.prefix d.item.formats)) live_seen
+unfolding start_tag plain
+live_cut = seen_as some_seen (where_next (λ rest ends. no_start 97 (codes "bout>") rest refl ends) (of_part content_of content_cut))
+
+abbrev nothing_seen : Behind
+nothing_seen = pair None []
 
 dead_cut : Cuts closes is_plain_record (λ (d : Dissemination). []) (λ d. nothing_seen)
 dead_cut = seen_as (λ _. nothing_seen) (constant [])
 
-part_of_kind : (k : ℕ) → Cuts closes (λ d. is_plain_record d && eqb (as_live d.item.live) k) (λ (d : Dissemination). metadata_part d.format d.item) (λ d. metadata_seen d.format d.item)
-unfolding metadata_part as_live
+abbrev behind_seen : Dissemination → Behind
+behind_seen d = pair (metadata_seen d.format d.item) (about_seen d.format d.item)
+
+part_of_kind : (k : ℕ) → Cuts closes (λ d. is_plain_record d && eqb (as_live d.item.live) k) (λ (d : Dissemination). behind_header d.format d.item) behind_seen
+unfolding behind_header as_live
 part_of_kind zero = where_same dead_cut (λ d h. let parts = and_parts (is_plain_record d) (eqb (as_live d.item.live) 0) h in by_test d d.item.live parts.0 parts.1)
   where
     by_test : (d : Dissemination) (b : Bool) → is_plain_record d ≡ true → eqb (as_live b) 0 ≡ true
-        → (is_plain_record d ≡ true) × (cond b (element (codes "metadata") (metadata d.format (fields_in d.format.prefix d.item.formats))) [] ≡ [])
-        × (nothing_seen ≡ cond b (live_seen d) nothing_seen)
+        → (is_plain_record d ≡ true) × (cond b (record_content d.format (fields_in d.format.prefix d.item.formats)) [] ≡ [])
+        × (nothing_seen ≡ pair (cond b (live_seen d).0 None) (cond b (live_seen d).1 []))
     by_test d true good kind = cc
     by_test d false good kind = (good, refl, refl)
 part_of_kind (suc k) = where_same live_cut (λ d h. let parts = and_parts (is_plain_record d) (eqb (as_live d.item.live) (suc k)) h in by_test d d.item.live parts.0 parts.1)
   where
     by_test : (d : Dissemination) (b : Bool) → is_plain_record d ≡ true → eqb (as_live b) (suc k) ≡ true
         → (is_plain_record d ≡ true)
-        × (cond b (element (codes "metadata") (metadata d.format (fields_in d.format.prefix d.item.formats))) [] ≡ element (codes "metadata") (metadata d.format (fields_in d.format.prefix d.item.formats)))
-        × (live_seen d ≡ cond b (live_seen d) nothing_seen)
+        × (cond b (record_content d.format (fields_in d.format.prefix d.item.formats)) [] ≡ record_content d.format (fields_in d.format.prefix d.item.formats))
+        × (live_seen d ≡ pair (cond b (live_seen d).0 None) (cond b (live_seen d).1 []))
     by_test d true good kind = (good, refl, refl)
     by_test d false good kind = absurd (omega (arith, eqb-true 0 (suc k) kind))
 
-part_cut : Cuts closes is_plain_record (λ (d : Dissemination). metadata_part d.format d.item) (λ d. metadata_seen d.format d.item)
+part_cut : Cuts closes is_plain_record (λ (d : Dissemination). behind_header d.format d.item) behind_seen
 part_cut = by_kind (λ d. as_live d.item.live) (λ bytes. as_live (eqb (get_or bytes 1 0) 109)) (λ d rest _ ends. part_told d rest ends) part_of_kind
 
 pub record_cut : Cuts anything is_plain_record (λ (d : Dissemination). record_element d.granularity d.format d.item) (λ d. record_seen d.granularity d.format d.item)
 unfolding record_element
 record_cut =
     let header = freely (of_part (λ (d : Dissemination). pair d.granularity d.item) header_cut) in
-    seen_as (λ s. record { header = s.0; metadata = s.1 }) (element_cut (codes "record") (both header part_cut (λ d rest _ _. refl)) (tag_closes (codes "record")))
+    seen_as (λ s. record { header = s.0; metadata = s.1.0; about = s.1.1 }) (element_cut (codes "record") (both header part_cut (λ d rest _ _. refl)) (tag_closes (codes "record")))
 
 -- ---- tokens
 
@@ -201,22 +222,6 @@ token_cut = by_kind token_kind tell_token (λ c rest _ ends. token_told c rest e
 
 -- ---- lists
 
--- an end tag begins no record and no header
-no_start : (x : ℕ) (word rest : List ℕ) → eqb 47 x ≡ false → closes rest ≡ true → without (60 ∷ x ∷ word) rest ≡ true
-no_start x word [] apart h = cc
-no_start x word (a ∷ []) apart h = absurd (no_second (eqb a 60) h)
-  where
-    no_second : (b : Bool) → (b && false) ≡ true → ⊥
-    no_second true h = cc
-    no_second false h = cc
-no_start x word (a ∷ b ∷ rest) apart h =
-    let second = and_parts (eqb a 60) (eqb b 47 && true) h in
-    by_tests (eqb a 60) (ap (λ n. eqb n x) (eqb-true b 47 (and_parts (eqb b 47) true second.1).0) ∙ apart)
-  where
-    by_tests : (first : Bool) → eqb b x ≡ false → not (first && (eqb b x && begins word rest)) ≡ true
-    by_tests true is = ap (λ t. not (t && begins word rest)) is
-    by_tests false is = refl
-
 header_follows : (c : Continuation) (rest : List ℕ) → closes rest ≡ true → without (codes "<header") (token_element c ++ rest) ≡ true
 unfolding token_element plain
 header_follows whole rest ends = no_start 104 (codes "eader") rest refl ends
@@ -265,7 +270,7 @@ records_cut : Cuts (without (start_tag (codes "record"))) are_plain_records (λ 
 unfolding record_element
 records_cut =
     let write : Dissemination → List ℕ = λ d. record_element d.granularity d.format d.item in
-    let content : Dissemination → List ℕ = λ d. header_element d.granularity d.item ++ metadata_part d.format d.item in
+    let content : Dissemination → List ℕ = λ d. header_element d.granularity d.item ++ behind_header d.format d.item in
     let all = elements_cut (codes "record") content write (λ d. refl) record_cut in
     where_same (of_part (λ (t : Told). map (told_record t) t.1.items) all)
     (λ t good. (

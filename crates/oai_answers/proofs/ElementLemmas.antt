@@ -5,7 +5,7 @@ use Rattle.std.specs.List.{flat_map}
 use Rattle.std.specs.Str.{bytes_eq}
 use Rattle.std.proofs.lemmas.Grind.{flat_map-append}
 use Rattle.oai_names.specs.Escapes.{attribute_spelling, escaped, escaped_attribute}
-use Rattle.oai_item.specs.Elements.{element_in}
+use Rattle.oai_item.specs.Elements.{content_in, element_in}
 use Rattle.oai_item.specs.Givens.{is_none_or_canonical}
 use Rattle.oai_item.specs.declared.fields.Field.{Field}
 use Rattle.oai_item.specs.declared.formats.Format.{Format}
@@ -90,7 +90,7 @@ content_as : (format : Format) (fields : List Field) (o : Option (List ℕ)) →
 content_as format fields None is = fields_written format fields
 content_as format fields (Some text) is = element_written format fields text (element_tested text is)
 
--- what is written of a record, where an element that is kept is in canonical text
+-- what is written of a record, where an element that is kept as the record itself is in canonical text
 pub metadata_written : (format : Format) (fields : List Field) → is_none_or_canonical (element_in fields) ≡ true → metadata format fields ≡ spelled (metadata_tree format fields)
 unfolding metadata metadata_tree
-metadata_written format fields is = content_as format fields (element_in fields) is
+metadata_written format fields is = content_as format (content_in fields) (element_in fields) is

@@ -1,6 +1,7 @@
 pub mod Appending
 pub mod Spelled
 pub mod Printed
+pub mod ContentLemmas
 pub mod PartCuts
 pub mod Written
 pub mod ElementLemmas

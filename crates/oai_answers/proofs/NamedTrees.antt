@@ -8,10 +8,11 @@ use Rattle.std.proofs.lemmas.Bool.Decides.{nat_tests}
 use Rattle.std.proofs.lemmas.List.Folds.{list_all-append}
 use Rattle.std.proofs.lemmas.Slice.Eq.{bytes_eq-Decides}
 use Rattle.oai_names.specs.Names.{is_among}
-use Rattle.oai_item.specs.Elements.{element_in, is_element_of, keeps_element_of}
+use Rattle.oai_names.proofs.Lists.{all-weaker}
+use Rattle.oai_item.specs.Elements.{about_in, behind_content, content_in, element_in, is_about, is_element_of, is_nameless, keeps_element_of}
 use Rattle.oai_item.specs.Formats.{dublin_core}
-use Rattle.oai_item.specs.Givens.{is_none_or_canonical}
-use Rattle.oai_item.specs.Known.{are_fields_of, are_listed_in}
+use Rattle.oai_item.specs.Givens.{field_texts, is_none_or_canonical}
+use Rattle.oai_item.specs.Known.{are_fields_of, are_listed_in, is_content_of, is_listed_in}
 use Rattle.oai_item.specs.Rules.{are_names, are_uris, has_few_fields, has_repeat, is_allowed, is_element_name, is_element_name_byte, is_first_byte, is_name}
 use Rattle.oai_item.specs.declared.fields.Field.{Field}
 use Rattle.oai_item.specs.declared.formats.Format.{Format}
@@ -26,7 +27,7 @@ use Rattle.oai_xml.proofs.TreeCuts.{content_named, is_named, is_named_tag, tree_
 use Rattle.oai_answers.specs.ElementParts.{in_order}
 use Rattle.oai_answers.specs.MetadataTrees.{declared_attributes, declared_tree, dublin_core_attributes, dublin_core_tree, field_tree, fields_tree, metadata_tree, tree_or}
 use Rattle.oai_answers.specs.Seen.{IsGoodFormat}
-use Rattle.oai_answers.proofs.RecordCuts.{is_plain_content}
+use Rattle.oai_answers.proofs.RecordCuts.{is_plain_content, is_plain_metadata}
 
 -- ---- names of formats
 
@@ -110,6 +111,12 @@ order_named (t ∷ trees) h =
     and_from (is_named_tag (t.name, t.attributes)) (content_named t.content && content_named (in_order trees)) parts.0
     (and_from (content_named t.content) (content_named (in_order trees)) parts.1 (order_named trees one.1))
 
+-- fields that are listed in a format have names among its own
+pub listed_among : (format : Format) (fields : List Field) → are_listed_in format fields ≡ true → list_all (λ (field : Field). is_among format.fields field.name) fields ≡ true
+listed_among format fields all =
+    all-weaker (is_listed_in format) (λ (field : Field). is_among format.fields field.name)
+    (λ field is. (and_parts (not (is_nameless field)) (is_among format.fields field.name) is).1) fields all
+
 each_named : (qualifier : List ℕ) (names : List (List ℕ)) (fields : List Field) → is_named qualifier ≡ true → list_all is_named names ≡ true
     → list_all (λ (field : Field). is_among names field.name) fields ≡ true → list_all tree_named (map (field_tree qualifier) fields) ≡ true
 each_named qualifier names [] q all there = refl
@@ -133,7 +140,7 @@ dublin_core_tree_named names fields all there =
     and_from (is_named_tag (codes "oai_dc:dc", dublin_core_attributes)) (content_named (in_order (map (field_tree (codes "dc:")) fields))) dublin_core_tag
     (order_named (map (field_tree (codes "dc:")) fields) (each_named (codes "dc:") names fields refl all there))
 
-declared_tree_named : (format : Format) (fields : List Field) → is_named format.root ≡ true → list_all is_named format.fields ≡ true → are_listed_in format fields ≡ true
+declared_tree_named : (format : Format) (fields : List Field) → is_named format.root ≡ true → list_all is_named format.fields ≡ true → list_all (λ (field : Field). is_among format.fields field.name) fields ≡ true
     → tree_named (declared_tree format fields) ≡ true
 unfolding declared_tree
 declared_tree_named format fields root all there =
@@ -142,44 +149,30 @@ declared_tree_named format fields root all there =
 
 fields_tree_named : (format : Format) (fields : List Field) → IsGoodFormat format → are_listed_in format fields ≡ true → tree_named (fields_tree format fields) ≡ true
 unfolding fields_tree
-fields_tree_named format fields (inl same) there =
+fields_tree_named format fields (inl same) listed =
     ap (λ b. tree_named (cond b (dublin_core_tree fields) (declared_tree format fields))) (ap (λ (f : Format). bytes_eq f.prefix (codes "oai_dc")) same ∙ dublin_core_known)
-    ∙ dublin_core_tree_named format.fields fields (names_good format (inl same)) there
-fields_tree_named format fields (inr allowed) there = by_test (bytes_eq format.prefix (codes "oai_dc"))
+    ∙ dublin_core_tree_named format.fields fields (names_good format (inl same)) (listed_among format fields listed)
+fields_tree_named format fields (inr allowed) listed = by_test (bytes_eq format.prefix (codes "oai_dc"))
   where
     by_test : (b : Bool) → tree_named (cond b (dublin_core_tree fields) (declared_tree format fields)) ≡ true
-    by_test true = dublin_core_tree_named format.fields fields (names_good format (inr allowed)) there
-    by_test false = declared_tree_named format fields (rule_named format.root (names_allowed format allowed).0) (names_good format (inr allowed)) there
+    by_test true = dublin_core_tree_named format.fields fields (names_good format (inr allowed)) (listed_among format fields listed)
+    by_test false = declared_tree_named format fields (rule_named format.root (names_allowed format allowed).0) (names_good format (inr allowed)) (listed_among format fields listed)
 
 -- ---- elements
 
--- no good format has a field without a name
-nameless_name : is_name [] ≡ false
-unfolding is_element_name
-nameless_name = refl
+-- the record itself, and what is about it
+content_own : (format : Format) (fields : List Field) → are_fields_of (Some format) fields ≡ true → (is_content_of format fields ≡ true) × (list_all is_about (behind_content fields) ≡ true)
+content_own format fields own = and_parts (is_content_of format fields) (list_all is_about (behind_content fields)) own
 
-none_nameless : (names : List (List ℕ)) → list_all is_name names ≡ true → is_among names [] ≡ false
-none_nameless [] h = refl
-none_nameless ([] ∷ names) h = absurd (true≢false (sym (and_parts (is_name []) (list_all is_name names) h).0 ∙ nameless_name))
-none_nameless ((b ∷ name) ∷ names) h = none_nameless names (and_parts (is_name (b ∷ name)) (list_all is_name names) h).1
-
-dublin_core_nameless : is_among dublin_core.fields [] ≡ false
-unfolding dublin_core
-dublin_core_nameless = refl
-
-pub good_nameless : (format : Format) → IsGoodFormat format → is_among format.fields [] ≡ false
-good_nameless format (inl same) = ap (λ (f : Format). is_among f.fields []) same ∙ dublin_core_nameless
-good_nameless format (inr allowed) = none_nameless format.fields (names_allowed format allowed).1
-
--- so fields that keep something keep an element of the format
-pub kept_so : (format : Format) (fields : List Field) (text : List ℕ) → IsGoodFormat format → element_in fields ≡ Some text → are_fields_of (Some format) fields ≡ true → is_element_of format text ≡ true
-kept_so format fields text good is own = by_test (are_listed_in format fields) refl (ap (λ o. are_listed_in format fields || keeps_element_of format o) (sym is) ∙ own)
+-- fields that keep an element as the record itself keep one of the format, since no format lists a field without a name
+pub kept_so : (format : Format) (fields : List Field) (text : List ℕ) → element_in fields ≡ Some text → are_fields_of (Some format) fields ≡ true → is_element_of format text ≡ true
+kept_so format fields text is own =
+    by_test (are_listed_in format (content_in fields)) (ap (are_listed_in format) (kept_element (content_in fields) text is))
+    (ap (λ o. are_listed_in format (content_in fields) || keeps_element_of format o) (sym is) ∙ (content_own format fields own).0)
   where
-    by_test : (b : Bool) → are_listed_in format fields ≡ b → (b || is_element_of format text) ≡ true → is_element_of format text ≡ true
-    by_test false listed h = h
-    by_test true listed h =
-        let among : (is_among format.fields [] && true) ≡ true = ap (are_listed_in format) (sym (kept_element fields text is)) ∙ listed in
-        absurd (true≢false (sym (and_parts (is_among format.fields []) true among).0 ∙ good_nameless format good))
+    by_test : (b : Bool) → b ≡ false → (b || is_element_of format text) ≡ true → is_element_of format text ≡ true
+    by_test false unlisted h = h
+    by_test true unlisted h = absurd (true≢false unlisted)
 
 pub canonical_so : (format : Format) (text : List ℕ) → is_element_of format text ≡ true → is_canonical text ≡ true
 unfolding is_element_of
@@ -194,17 +187,39 @@ only_listed : (b : Bool) → (b || false) ≡ true → b ≡ true
 only_listed true h = refl
 only_listed false h = h
 
-pub plain_content : (format : Format) (fields : List Field) → IsGoodFormat format → are_fields_of (Some format) fields ≡ true → is_plain_content (format, fields) ≡ true
+-- fields that keep no element as the record itself are listed in the format
+pub listed_own : (format : Format) (fields : List Field) → element_in fields ≡ None → are_fields_of (Some format) fields ≡ true → are_listed_in format (content_in fields) ≡ true
+listed_own format fields is own =
+    only_listed (are_listed_in format (content_in fields)) (ap (λ o. are_listed_in format (content_in fields) || keeps_element_of format o) (sym is) ∙ (content_own format fields own).0)
+
+plain_metadata : (format : Format) (fields : List Field) → IsGoodFormat format → are_fields_of (Some format) fields ≡ true → is_plain_metadata (format, fields) ≡ true
 unfolding metadata_tree
-plain_content format fields good own = by_element (element_in fields) refl
+plain_metadata format fields good own = by_element (element_in fields) refl
   where
+    content : List Field
+    content = content_in fields
+
     by_element : (o : Option (List ℕ)) → element_in fields ≡ o
-        → (tree_named (tree_or (fields_tree format fields) (option_and_then tree_in o)) && is_none_or_canonical o) ≡ true
-    by_element None is =
-        and_from (tree_named (fields_tree format fields)) true (fields_tree_named format fields good (only_listed (are_listed_in format fields) (ap (λ o. are_listed_in format fields || keeps_element_of format o) (sym is) ∙ own))) refl
+        → (tree_named (tree_or (fields_tree format content) (option_and_then tree_in o)) && is_none_or_canonical o) ≡ true
+    by_element None is = and_from (tree_named (fields_tree format content)) true (fields_tree_named format content good (listed_own format fields is own)) refl
     by_element (Some text) is =
-        let canonical : is_canonical text ≡ true = canonical_so format text (kept_so format fields text good is own) in
-        and_from (tree_named (tree_or (fields_tree format fields) (tree_in text))) (is_canonical text) (tree_kept (fields_tree format fields) text (element_tested text canonical)) canonical
+        let canonical : is_canonical text ≡ true = canonical_so format text (kept_so format fields text is own) in
+        and_from (tree_named (tree_or (fields_tree format content) (tree_in text))) (is_canonical text) (tree_kept (fields_tree format content) text (element_tested text canonical)) canonical
 
 pub canonical_own : (format : Format) (fields : List Field) → IsGoodFormat format → are_fields_of (Some format) fields ≡ true → is_none_or_canonical (element_in fields) ≡ true
-canonical_own format fields good own = (and_parts (tree_named (metadata_tree format fields)) (is_none_or_canonical (element_in fields)) (plain_content format fields good own)).1
+canonical_own format fields good own = (and_parts (tree_named (metadata_tree format fields)) (is_none_or_canonical (element_in fields)) (plain_metadata format fields good own)).1
+
+-- ---- elements about a record
+
+each_canonical : (fields : List Field) → list_all is_about fields ≡ true → list_all is_canonical (field_texts fields) ≡ true
+each_canonical [] all = refl
+each_canonical (field ∷ fields) all =
+    let parts = and_parts (is_about field) (list_all is_about fields) all in
+    and_from (is_canonical field.text) (list_all is_canonical (field_texts fields)) (and_parts (is_nameless field) (is_canonical field.text) parts.0).1 (each_canonical fields parts.1)
+
+pub about_own : (format : Format) (fields : List Field) → are_fields_of (Some format) fields ≡ true → list_all is_canonical (about_in fields) ≡ true
+about_own format fields own = each_canonical (behind_content fields) (content_own format fields own).1
+
+pub plain_content : (format : Format) (fields : List Field) → IsGoodFormat format → are_fields_of (Some format) fields ≡ true → is_plain_content (format, fields) ≡ true
+plain_content format fields good own =
+    and_from (is_plain_metadata (format, fields)) (list_all is_canonical (about_in fields)) (plain_metadata format fields good own) (about_own format fields own)

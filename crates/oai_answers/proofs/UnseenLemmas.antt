@@ -5,7 +5,7 @@ use Rattle.oai_item.specs.Rules.{is_allowed, is_element_name, is_uri}
 use Rattle.oai_item.specs.ShortTexts.{is_short_text}
 use Rattle.oai_names.specs.Characters.{is_xml_text}
 use Rattle.std.specs.Str as str
-use Rattle.oai_answers.specs.Documents.{document, fields_metadata, request_element, get_record_element, header_element, metadata, metadata_part, record_element, declared_metadata, declared_start, schema_location}
+use Rattle.oai_answers.specs.Documents.{behind_header, document, fields_metadata, request_element, get_record_element, header_element, metadata, record_content, record_element, declared_metadata, declared_start, schema_location}
 use Rattle.oai_answers.specs.Seen.{IsRegular}
 use Rattle.oai_answers.specs.Unseen.{issue_by_prefix, issue_in_both, issue_of_day, plain_issue}
 use Rattle.oai_time.specs.TimeTexts.{day_text}
@@ -27,13 +27,13 @@ unfolding is_allowed is_element_name is_uri is_short_text is_xml_text record_nam
 regular_in_both = (inr refl, refl)
 
 pub same_by_prefix : document issue_by_prefix ≡ document plain_issue
-unfolding document request_element get_record_element record_element metadata_part metadata fields_metadata record_named declared_metadata declared_start schema_location header_element
+unfolding document request_element get_record_element record_element behind_header record_content metadata fields_metadata record_named declared_metadata declared_start schema_location header_element
 same_by_prefix = refl
 
 pub same_of_day : document issue_of_day ≡ document plain_issue
-unfolding document request_element get_record_element record_element header_element metadata_part day_text
+unfolding document request_element get_record_element record_element header_element behind_header day_text
 same_of_day = refl
 
 pub same_in_both : document issue_in_both ≡ document plain_issue
-unfolding document request_element get_record_element record_element header_element metadata_part metadata fields_metadata record_named
+unfolding document request_element get_record_element record_element header_element behind_header record_content metadata fields_metadata record_named
 same_in_both = refl

@@ -9,7 +9,7 @@ use Rattle.oai_names.specs.Escapes.{escaped_text, escaped_attribute}
 use Rattle.oai_time.specs.TimeTexts.{datestamp_text, second_text}
 use Rattle.oai_time.specs.declared.granularity.Granularity.{Granularity}
 use Rattle.oai_time.specs.declared.granularity.Granularity.TheVariants.{Day, Second}
-use Rattle.oai_item.specs.Elements.{element_in}
+use Rattle.oai_item.specs.Elements.{about_in, content_in, element_in}
 use Rattle.oai_item.specs.declared.fields.Field.{Field}
 use Rattle.oai_item.specs.declared.formats.Format.{Format}
 use Rattle.oai_answers.specs.Answers.{Attributes, arguments_told, DescribedSet, Description, Dissemination, Continuation, whole, remains, completes, Page, VerbAnswer, fails, identifies, lists_formats, lists_sets, gives_record, lists_headers, lists_records, Document}
@@ -191,9 +191,14 @@ abbrev pub content_written : Format → List Field → Option (List ℕ) → Lis
 content_written format fields None = fields_metadata format fields
 content_written format fields (Some element) = plain element
 
--- the metadata of a record: the element that its fields keep, or its fields
+-- the metadata of a record: the element that its fields keep as the record itself, or those that are it
 unfoldable pub metadata : Format → List Field → List ℕ
-metadata format fields = content_written format fields (element_in fields)
+metadata format fields = content_written format (content_in fields) (element_in fields)
+
+-- a record behind its header: its metadata, and then each element about it, as it stands
+unfoldable pub record_content : Format → List Field → List ℕ
+record_content format fields =
+    element (codes "metadata") (metadata format fields) ++ flat_map (container (codes "about")) (about_in fields)
 
 -- Headers and records. Sections 2.5, 2.5.1 and 4.1
 
@@ -211,16 +216,13 @@ header_element granularity item =
     ++ flat_map (text_element (codes "setSpec")) item.sets
     ++ end_tag (codes "header")
 
--- the part of a record after its header, the item's record in the format: a deleted record has none
-unfoldable pub metadata_part : Format → ItemState → List ℕ
-metadata_part format item =
-    if item.live
-    then element (codes "metadata") (metadata format (fields_in format.prefix item.formats))
-    else []
+-- what stands in a record behind its header, of the item's record in the format: a deleted record has its header alone
+unfoldable pub behind_header : Format → ItemState → List ℕ
+behind_header format item = if item.live then record_content format (fields_in format.prefix item.formats) else []
 
 unfoldable pub record_element : Granularity → Format → ItemState → List ℕ
 record_element granularity format item =
-    element (codes "record") (header_element granularity item ++ metadata_part format item)
+    element (codes "record") (header_element granularity item ++ behind_header format item)
 
 unfoldable pub get_record_element : Dissemination → List ℕ
 get_record_element d = element (codes "GetRecord") (record_element d.granularity d.format d.item)

@@ -1,5 +1,6 @@
 pub mod Answers
 pub mod Appends
+pub mod Contents
 pub mod Borrowed
 pub mod ElementParts
 pub mod MetadataTrees

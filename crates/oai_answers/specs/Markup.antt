@@ -2,7 +2,7 @@
 use Rattle.std.specs.Prelude.{ℕ, List, ◌++◌, codes}
 use Rattle.oai_names.specs.Escapes.{escaped_text, escaped_attribute}
 use Rattle.oai_answers.specs.declared.tags.Tag.{Tag}
-use Rattle.oai_answers.specs.declared.tags.Tag.TheVariants.{Record, Header, Identifier, Datestamp, SetSpec, Metadata, DublinCore}
+use Rattle.oai_answers.specs.declared.tags.Tag.TheVariants.{Record, Header, Identifier, Datestamp, SetSpec, Metadata, About, DublinCore}
 
 -- bytes that are written unescaped: the bytes themselves. It marks them for the prover, and changes nothing
 unfoldable pub plain : List ℕ → List ℕ
@@ -49,4 +49,5 @@ tag_name Identifier = codes "identifier"
 tag_name Datestamp = codes "datestamp"
 tag_name SetSpec = codes "setSpec"
 tag_name Metadata = codes "metadata"
+tag_name About = codes "about"
 tag_name DublinCore = codes "oai_dc:dc"

@@ -1,7 +1,7 @@
 -- The metadata of a record, as a tree: OAI-PMH 2.0, section 2.5.
 use Rattle.std.specs.Prelude.{ℕ, if◌then◌else◌, List, [], ◌∷◌, ◌++◌, map, codes, Option, Some, None, option_and_then}
 use Rattle.std.specs.Str.{bytes_eq}
-use Rattle.oai_item.specs.Elements.{element_in}
+use Rattle.oai_item.specs.Elements.{content_in, element_in}
 use Rattle.oai_item.specs.declared.fields.Field.{Field}
 use Rattle.oai_item.specs.declared.formats.Format.{Format}
 use Rattle.oai_xml.specs.Documents.{tree_in}
@@ -60,6 +60,6 @@ tree_or fields (Some tree) = tree
 abbrev pub element_tree : List ℕ → Tree
 element_tree text = tree_or (bare_parent [] []) (tree_in text)
 
--- the metadata of a record: the tree of the element that its fields keep, or that of its fields
+-- the metadata of a record: the tree of the element that its fields keep as the record itself, or that of those that are it
 unfoldable pub metadata_tree : Format → List Field → Tree
-metadata_tree format fields = tree_or (fields_tree format fields) (option_and_then tree_in (element_in fields))
+metadata_tree format fields = tree_or (fields_tree format (content_in fields)) (option_and_then tree_in (element_in fields))

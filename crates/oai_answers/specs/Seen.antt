@@ -1,11 +1,12 @@
 -- What the bytes of a document show to a reader: all that the document prints. OAI-PMH 2.0, sections 2.5, 3.2, 3.5, 3.6
 -- and 4.
-use Rattle.std.specs.Prelude.{◌≡◌, ◌⊎◌, ℕ, Bool, true, if◌then◌else◌, List, map, codes, Option, None, Some}
+use Rattle.std.specs.Prelude.{◌≡◌, ◌⊎◌, ℕ, Bool, true, if◌then◌else◌, List, [], map, codes, Option, None, Some}
 use Rattle.std.specs.Fmt.{decimal}
 use Rattle.std.specs.List.{list_all}
 use Rattle.std.specs.Str.{bytes_eq}
 use Rattle.oai_time.specs.TimeTexts.{datestamp_text, second_text}
 use Rattle.oai_time.specs.declared.granularity.Granularity.{Granularity}
+use Rattle.oai_item.specs.Elements.{about_in}
 use Rattle.oai_item.specs.Formats.{dublin_core}
 use Rattle.oai_item.specs.Item.{ItemState, fields_in}
 use Rattle.oai_item.specs.Known.{are_fields_of}
@@ -28,10 +29,12 @@ pub record SeenHeader : Type 0 where
   pub datestamp : List ℕ
   pub sets : List (List ℕ)
 
--- of a record: its header; and the tree of its metadata, where it is live. `fields_law` says what such a tree shows of fields
+-- of a record: its header; and, where it is live, the tree of its metadata, and those of the elements about it. `fields_law` says what the tree of
+-- metadata shows of fields
 pub record SeenRecord : Type 0 where
   pub header : SeenHeader
   pub metadata : Option Tree
+  pub about : List Tree
 
 -- of how a list continues (section 3.5): nothing; or a token, with expirationDate, completeListSize and cursor as they
 -- are printed; or the empty token, with completeListSize and cursor
@@ -95,10 +98,16 @@ abbrev pub metadata_seen : Format → ItemState → Option Tree
 metadata_seen format item =
     if item.live then Some (metadata_tree format (fields_in format.prefix item.formats)) else None
 
+-- the elements about it
+abbrev pub about_seen : Format → ItemState → List Tree
+about_seen format item =
+    if item.live then map element_tree (about_in (fields_in format.prefix item.formats)) else []
+
 abbrev pub record_seen : Granularity → Format → ItemState → SeenRecord
 record_seen granularity format item = record {
   header = header_seen granularity item;
   metadata = metadata_seen format item;
+  about = about_seen format item;
 }
 
 abbrev pub token_seen : Continuation → SeenToken
@@ -146,7 +155,8 @@ document_seen d = record {
 abbrev pub IsGoodFormat : Format → Type 0
 IsGoodFormat format = (format ≡ dublin_core) ⊎ (is_allowed format ≡ true)
 
--- each field of the item's record in the format is a field of the format, or they keep an element of the format
+-- the item's record in the format: each field of the record itself is a field of the format, or they keep an element of it; and what is about it are
+-- elements in canonical text
 abbrev pub has_own_fields : Format → ItemState → Bool
 has_own_fields format item = are_fields_of (Some format) (fields_in format.prefix item.formats)
 

@@ -12,8 +12,9 @@ ghost use Rattle.oai_answers.specs.Unseen.{issue_by_prefix, issue_in_both, issue
 /// The bytes of a document determine what a reader sees of it: the date, the base URL, the arguments as `request`
 /// repeats them, and of the answer all that it prints (OAI-PMH 2.0, sections 2.5 and 3). No text of an item can forge a
 /// header, swallow a record or pass for another: of each live record its element is seen, or the element that its fields
-/// are written as ([`fields_law`]). The only premises: formats satisfy the rules of formats, and the fields of each record
-/// are those of its format, or keep an element of it. A theorem, proved by an empty function.
+/// are written as ([`fields_law`]), and the elements about it. The only premises: formats satisfy the rules of formats; the
+/// fields of each record are those of its format, or keep an element of it; and what is about a record, or describes a
+/// repository or a set, are elements in canonical text. A theorem, proved by an empty function.
 pub fn document_law()
     ensures { (a b : Document) → IsRegular a.answer → IsRegular b.answer
         → document a ≡ document b → document_seen a ≡ document_seen b }

@@ -1,12 +1,15 @@
-ghost use Rattle.std.specs.Prelude.{◌≡◌, OnOk, ◌++◌, codes};
-ghost use Rattle.std.specs.List.{flat_map};
+ghost use Rattle.std.specs.Prelude.{◌≡◌, ◌∷◌, OnOk, IfSome, ◌++◌, codes};
+ghost use Rattle.std.specs.List.{before_first, flat_map};
+ghost use Rattle.std.specs.Option.{option_copied};
+ghost use Rattle.oai_item.specs.Elements.{behind_content, element_in, from_nameless, is_nameless};
 ghost use Rattle.oai_answers.specs.Appends.{Appends};
+ghost use Rattle.oai_answers.specs.Contents.{about_from, content_from, field_told};
 ghost use Rattle.oai_answers.specs.Documents.{declared_metadata, declared_start, dublin_core_metadata, dublin_core_start, field_element, fields_metadata, metadata, qualifier_of, schema_location};
 ghost use Rattle.oai_answers.specs.Markup.{end_tag, start_tag};
 
 use crate::markup::{attribute, end, put, put_text, put_value, start_attribute};
 use crate::tags::{Tag, close};
-use oai_item::{Fields, Format};
+use oai_item::{FieldTexts, Fields, Format};
 use std::alloc::AllocError;
 
 /// The start tag of unqualified Dublin Core, with its namespaces and its schema.
@@ -47,44 +50,91 @@ impl Qualifier {
     }
 }
 
-/// Appends the metadata in its format: the element that the fields keep, as it stands, or the fields.
-#[tactic(auto, unfolding(crate::specs::Documents::metadata, crate::specs::Markup::plain))]
+/// Appends the metadata in its format: the element that the fields keep as the record itself, as it stands, or the fields
+/// that are it. The fields that remain are about the record.
+#[tactic(auto, unfolding(crate::specs::Documents::metadata))]
 pub(crate) fn write_metadata(
     format: &Format,
-    fields: Fields<'_>,
+    fields: &mut Fields<'_>,
     out: &mut Vec<u8>,
 ) -> Result<(), AllocError>
-    ensures { OnOk result (Appends out.old.items out.new.items (metadata format.now fields.entry)) }
+    ensures written { OnOk result (Appends out.old.items out.new.items (metadata format.now fields.old)) }
+    ensures about { OnOk result (fields.new ≡ behind_content fields.old) }
 {
-    match fields.element() {
-        Some(element) => put(element, out),
-        None => write_fields_metadata(format, fields, out),
+    match fields.next() {
+        Some(first) => write_first(format, first, fields, out),
+        None => {
+            *fields = Fields::none();
+            write_fields_metadata(format, None, fields, out)
+        }
     }
 }
 
-/// Appends the fields in their format.
+/// Appends the metadata, of which the first field was taken.
+#[tactic(auto, unfolding(crate::specs::Documents::metadata, crate::specs::Markup::plain))]
+fn write_first(
+    format: &Format,
+    first: FieldTexts<'_>,
+    others: &mut Fields<'_>,
+    out: &mut Vec<u8>,
+) -> Result<(), AllocError>
+    ensures written { OnOk result (Appends out.old.items out.new.items
+        (metadata format.now (field_told first.entry ∷ others.old))) }
+    ensures about { OnOk result (others.new ≡ from_nameless others.old) }
+{
+    match element_of(&first, others) {
+        Some(element) => put(element, out),
+        None => write_fields_metadata(format, Some(first), others, out),
+    }
+}
+
+/// The element that is the record itself, if the first field has no name, and none with a name follows.
+fn element_of<'a>(first: &FieldTexts<'a>, others: &Fields<'_>) -> Option<&'a str>
+    ensures element { option_copied result ≡ element_in (field_told first.now ∷ others.now) }
+    ensures alone { IfSome result (λ _. from_nameless others.now ≡ others.now) }
+{
+    if !first.name.is_empty() {
+        return None;
+    }
+    let mut ahead = others.copy();
+    match ahead.next_named() {
+        Some(_) => None,
+        None => Some(first.text),
+    }
+}
+
+/// Appends the fields in their format: the first, if there is one, and those with names that follow.
 #[tactic(auto, unfolding(crate::specs::Documents::fields_metadata))]
 fn write_fields_metadata(
     format: &Format,
-    fields: Fields<'_>,
+    first: Option<FieldTexts<'_>>,
+    others: &mut Fields<'_>,
     out: &mut Vec<u8>,
 ) -> Result<(), AllocError>
-    ensures { OnOk result (Appends out.old.items out.new.items (fields_metadata format.now fields.entry)) }
+    ensures written { OnOk result (Appends out.old.items out.new.items
+        (fields_metadata format.now (content_from first.entry others.old))) }
+    ensures about { OnOk result (others.new ≡ about_from first.entry others.old) }
 {
     if format.prefix.as_str() == "oai_dc" {
-        write_dublin_core(fields, out)
+        write_dublin_core(first, others, out)
     } else {
-        write_declared(format, fields, out)
+        write_declared(format, first, others, out)
     }
 }
 
 /// Appends the metadata in unqualified Dublin Core (OAI-PMH 2.0, section 2.5; DCES 1.1).
 #[tactic(auto, unfolding(crate::specs::Documents::dublin_core_metadata))]
-fn write_dublin_core(fields: Fields<'_>, out: &mut Vec<u8>) -> Result<(), AllocError>
-    ensures { OnOk result (Appends out.old.items out.new.items (dublin_core_metadata fields.entry)) }
+fn write_dublin_core(
+    first: Option<FieldTexts<'_>>,
+    others: &mut Fields<'_>,
+    out: &mut Vec<u8>,
+) -> Result<(), AllocError>
+    ensures written { OnOk result (Appends out.old.items out.new.items
+        (dublin_core_metadata (content_from first.entry others.old))) }
+    ensures about { OnOk result (others.new ≡ about_from first.entry others.old) }
 {
     write_dublin_core_start(out)?;
-    write_fields(Qualifier::Dc, fields, out)?;
+    write_fields(Qualifier::Dc, first, others, out)?;
     close(Tag::DublinCore, out)?;
     Ok(())
 }
@@ -99,12 +149,18 @@ fn write_dublin_core_start(out: &mut Vec<u8>) -> Result<(), AllocError>
 
 /// Appends the metadata in a declared format.
 #[tactic(auto, unfolding(crate::specs::Documents::declared_metadata))]
-fn write_declared(format: &Format, fields: Fields<'_>, out: &mut Vec<u8>) -> Result<(), AllocError>
-    ensures { OnOk result (Appends out.old.items out.new.items
-        (declared_metadata format.now fields.entry)) }
+fn write_declared(
+    format: &Format,
+    first: Option<FieldTexts<'_>>,
+    others: &mut Fields<'_>,
+    out: &mut Vec<u8>,
+) -> Result<(), AllocError>
+    ensures written { OnOk result (Appends out.old.items out.new.items
+        (declared_metadata format.now (content_from first.entry others.old))) }
+    ensures about { OnOk result (others.new ≡ about_from first.entry others.old) }
 {
     write_declared_start(format, out)?;
-    write_fields(Qualifier::Bare, fields, out)?;
+    write_fields(Qualifier::Bare, first, others, out)?;
     end(format.root.as_str(), out)?;
     Ok(())
 }
@@ -136,16 +192,36 @@ fn write_schema_location(format: &Format, out: &mut Vec<u8>) -> Result<(), Alloc
     Ok(())
 }
 
-/// Appends the fields, in order.
+/// Appends the first field, if there is one, and those with names that follow, in order.
 fn write_fields(
     qualifier: Qualifier,
-    mut fields: Fields<'_>,
+    first: Option<FieldTexts<'_>>,
+    others: &mut Fields<'_>,
     out: &mut Vec<u8>,
 ) -> Result<(), AllocError>
-    ensures { OnOk result (Appends out.old.items out.new.items
-        (flat_map (field_element (qualifier_of qualifier)) fields.entry)) }
+    ensures written { OnOk result (Appends out.old.items out.new.items
+        (flat_map (field_element (qualifier_of qualifier)) (content_from first.entry others.old))) }
+    ensures about { OnOk result (others.new ≡ about_from first.entry others.old) }
 {
-    while let Some(field) = fields.next() {
+    let Some(first) = first else {
+        return Ok(());
+    };
+    write_field(qualifier, first.name, first.text, out)?;
+    write_named_fields(qualifier, others, out)?;
+    Ok(())
+}
+
+/// Appends the fields up to the first without a name, in order.
+fn write_named_fields(
+    qualifier: Qualifier,
+    fields: &mut Fields<'_>,
+    out: &mut Vec<u8>,
+) -> Result<(), AllocError>
+    ensures written { OnOk result (Appends out.old.items out.new.items
+        (flat_map (field_element (qualifier_of qualifier)) (before_first is_nameless fields.old))) }
+    ensures about { OnOk result (fields.new ≡ from_nameless fields.old) }
+{
+    while let Some(field) = fields.next_named() {
         write_field(qualifier, field.name, field.text, out)?;
     }
     Ok(())

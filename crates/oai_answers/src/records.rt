@@ -1,20 +1,22 @@
-ghost use Rattle.std.specs.Prelude.{OnOk};
+ghost use Rattle.std.specs.Prelude.{OnOk, codes};
 ghost use Rattle.std.specs.List.{flat_map};
 ghost use Rattle.oai_answers.specs.Appends.{Appends};
 ghost use Rattle.oai_answers.specs.Borrowed.{dissemination_of};
-ghost use Rattle.oai_answers.specs.Documents.{get_record_element, metadata_part, record_element};
+ghost use Rattle.oai_answers.specs.Documents.{behind_header, get_record_element, record_content, record_element};
+ghost use Rattle.oai_answers.specs.Markup.{container};
+ghost use Rattle.oai_item.specs.Givens.{field_texts};
 
 use crate::fields::fields_in;
 use crate::headers::write_header;
-use crate::markup::{end, start};
+use crate::markup::{end, put, start};
 use crate::metadata::write_metadata;
 use crate::tags::{Tag, close, open};
-use oai_item::{Format, Item};
+use oai_item::{Fields, Format, Item};
 use oai_time::Granularity;
 use std::alloc::AllocError;
 
-/// An item in a format: a document has the fields of the item's record with the format's prefix (OAI-PMH 2.0, section
-/// 2.5).
+/// An item in a format: a document has the item's record with the format's prefix, and the elements about it (OAI-PMH
+/// 2.0, section 2.5).
 #[derive(Clone, Copy, Debug)]
 pub struct Record<'a> {
     /// The item.
@@ -74,22 +76,60 @@ fn write_record(
 {
     open(Tag::Record, out)?;
     write_header(granularity, item, out)?;
-    write_metadata_part(format, item, out)?;
+    write_behind_header(format, item, out)?;
     close(Tag::Record, out)?;
     Ok(())
 }
 
-/// Appends the element `metadata`, or nothing for a deleted record.
-#[tactic(auto, unfolding(crate::specs::Documents::metadata_part, crate::specs::Markup::element))]
-fn write_metadata_part(format: &Format, item: &Item, out: &mut Vec<u8>) -> Result<(), AllocError>
+/// Appends the element `metadata` and the elements `about`, or nothing for a deleted record.
+#[tactic(auto, unfolding(crate::specs::Documents::behind_header))]
+fn write_behind_header(format: &Format, item: &Item, out: &mut Vec<u8>) -> Result<(), AllocError>
     ensures { OnOk result (Appends out.old.items out.new.items
-        (metadata_part format.now item.now)) }
+        (behind_header format.now item.now)) }
 {
     if !item.is_live() {
         return Ok(());
     }
+    write_record_content(format, fields_in(format.prefix.as_str(), item), out)
+}
+
+/// Appends the element `metadata`, and an element `about` for each element about the record.
+#[tactic(auto, unfolding(crate::specs::Documents::record_content, crate::specs::Markup::element))]
+fn write_record_content(
+    format: &Format,
+    fields: Fields<'_>,
+    out: &mut Vec<u8>,
+) -> Result<(), AllocError>
+    ensures { OnOk result (Appends out.old.items out.new.items
+        (record_content format.now fields.entry)) }
+{
+    let mut left = fields;
     open(Tag::Metadata, out)?;
-    write_metadata(format, fields_in(format.prefix.as_str(), item), out)?;
+    write_metadata(format, &mut left, out)?;
     close(Tag::Metadata, out)?;
+    write_each_about(left, out)?;
+    Ok(())
+}
+
+/// Appends the element `about` around the text of each field.
+fn write_each_about(mut fields: Fields<'_>, out: &mut Vec<u8>) -> Result<(), AllocError>
+    ensures { OnOk result (Appends out.old.items out.new.items
+        (flat_map (container (codes "about")) (field_texts fields.entry))) }
+{
+    while let Some(field) = fields.next() {
+        write_about(field.text, out)?;
+    }
+    Ok(())
+}
+
+/// Appends the element `about` around an element, which is written as it stands.
+#[tactic(auto, unfolding(crate::specs::Markup::container, crate::specs::Markup::element))]
+fn write_about(element: &str, out: &mut Vec<u8>) -> Result<(), AllocError>
+    ensures { OnOk result (Appends out.old.items out.new.items
+        (container (codes "about") element.now)) }
+{
+    open(Tag::About, out)?;
+    put(element, out)?;
+    close(Tag::About, out)?;
     Ok(())
 }

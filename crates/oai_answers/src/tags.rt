@@ -15,6 +15,7 @@ pub(crate) enum Tag {
     Datestamp,
     SetSpec,
     Metadata,
+    About,
     DublinCore,
 }
 
@@ -31,6 +32,7 @@ impl Tag {
             Tag::Datestamp => "<datestamp>",
             Tag::SetSpec => "<setSpec>",
             Tag::Metadata => "<metadata>",
+            Tag::About => "<about>",
             Tag::DublinCore => "<oai_dc:dc>",
         }
     }
@@ -47,6 +49,7 @@ impl Tag {
             Tag::Datestamp => "</datestamp>",
             Tag::SetSpec => "</setSpec>",
             Tag::Metadata => "</metadata>",
+            Tag::About => "</about>",
             Tag::DublinCore => "</oai_dc:dc>",
         }
     }
