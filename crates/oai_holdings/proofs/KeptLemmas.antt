@@ -1,23 +1,25 @@
 -- What a repository keeps true of its items stays true under each change that is not refused.
 use Rattle.std.proofs.Common.{◌≡◌, ◌<◌, ◌≤◌, ◌+◌, ℕ, ℤ, Bool, true, false, not, ◌&&◌, cond, List, [], ◌∷◌, ◌++◌, length, length-append, map, codes, Option, None, Some, is_some, is_none, Result, Ok, Err, is_err, refl, ap, ◌∙◌, arith}
-use Rattle.std.specs.Prelude.{filter, find, nat_lt, nat_le}
+use Rattle.std.specs.Prelude.{◌||◌, filter, find, nat_lt, nat_le}
 use Rattle.std.specs.List.{flat_map, list_all, list_any}
 use Rattle.std.specs.Option.{option_or}
 use Rattle.std.specs.Str.{bytes_eq}
-use Rattle.std.proofs.lemmas.Bool.{and_parts, or_left, or_right}
+use Rattle.std.proofs.lemmas.Bool.{and_parts, eqb-true, or_left, or_right}
 use Rattle.std.proofs.lemmas.Bool.Decides.{nat_tests}
 use Rattle.std.proofs.lemmas.List.Elements.{All-filter}
 use Rattle.std.proofs.lemmas.List.Folds.{list_all-map, list_any-append}
 use Rattle.std.proofs.lemmas.List.Sums.{AllPass-from_list_all, list_all-from_AllPass}
+use Rattle.oai_names.specs.Names.{is_among}
 use Rattle.oai_names.specs.Sets.{has_set}
+use Rattle.oai_xml.specs.Documents.{is_canonical}
 use Rattle.oai_item.specs.Item.{ItemState, Metadata, emptied, has_record, live_item, record_named, tombstone_of}
 use Rattle.oai_item.specs.Items.{is_named, item_named, without, placed}
 use Rattle.oai_item.specs.Order.{precedes}
 use Rattle.oai_item.specs.Formats.{format_named}
 use Rattle.oai_item.specs.Encoding.{IsMeasure, encoded, encoded_field, encoded_record}
 use Rattle.oai_item.specs.Givens.{GivenRecord, kept as as_kept, kept_fields}
-use Rattle.oai_item.specs.Known.{are_fields_of, are_given_in, are_listed_in, has_format, has_known_fields, has_listed_fields, is_given_in, is_of_format}
-use Rattle.oai_item.specs.Elements.{element_field, is_element_of}
+use Rattle.oai_item.specs.Known.{are_fields_of, are_given_in, are_listed_in, has_format, has_known_fields, has_listed_fields, is_given_in, is_listed_in, is_of_format, may_have_about}
+use Rattle.oai_item.specs.Elements.{element_field, element_of_content, is_about, is_element_of, keeps_element_of}
 use Rattle.oai_item.specs.Membership.{reduced, distinct, is_above}
 use Rattle.oai_item.specs.declared.givens.Given.{Given}
 use Rattle.oai_item.specs.declared.givens.Given.TheVariants.{Listed, Whole}
@@ -29,6 +31,7 @@ use Rattle.oai_item.specs.declared.refusals.ChangeRefusal.{ChangeRefusal}
 use Rattle.oai_item.specs.declared.sizes.TheConstants.{MAX_ITEM_BYTES}
 use Rattle.oai_item.specs.declared.sizes.TooLarge.{TooLarge as LengthFault}
 use Rattle.oai_item.specs.declared.refusals.ChangeRefusal.TheVariants.{UnknownSet, UnknownFormat, NoDc, UnknownField, NotOfFormat, DropsFormat, TooLarge, TooManyItems}
+use Rattle.oai_item.proofs.Contents.{behind_again, canonical_about, content_again, has_name}
 use Rattle.oai_item.proofs.Lengths.{length-encoded, length-encoded_list, length-encoded_record}
 use Rattle.oai_item.proofs.Named.{found_name, of_found}
 use Rattle.oai_names.proofs.Lists.{all-filter, all-weaker}
@@ -72,11 +75,35 @@ few_put config None None old new there one many few = let more : old < config.it
 
 -- ---- a deposit that is not refused
 
--- what is given may be kept in the format, if there is one: a list has fields of it, or the element is one of it
-known_given : (format : Option Format) (given : Given) → are_given_in format given ≡ true → is_given_in format given ≡ true → are_fields_of format (kept_fields given) ≡ true
-known_given None given listed own = refl
-known_given (Some format) (Listed fields) listed own = or_left (are_listed_in format fields) _ listed
-known_given (Some format) (Whole text) listed own = or_right (are_listed_in format (element_field text ∷ [])) (is_element_of format text) own
+-- what is given may be kept in the format, if there is one: a list has fields of it, or the element is one of it, and what is about them are elements
+abbrev all_fields : Given → List (List ℕ) → List Field
+all_fields given about = kept_fields given ++ map element_field about
+
+in_format : (format : Format) (field : Field) (fields : List Field) (about : List (List ℕ)) → list_all has_name fields ≡ true
+    → (are_listed_in format (field ∷ fields) || keeps_element_of format (element_of_content (field ∷ fields))) ≡ true → list_all is_canonical about ≡ true
+    → are_fields_of (Some format) ((field ∷ fields) ++ map element_field about) ≡ true
+in_format format field fields about named own all =
+    both _ _
+    (ap (λ (w : List Field). are_listed_in format w || keeps_element_of format (element_of_content w)) (content_again field fields about named) ∙ own)
+    (ap (list_all is_about) (behind_again field fields about named) ∙ canonical_about about all)
+  where
+    both : (a b : Bool) → a ≡ true → b ≡ true → (a && b) ≡ true
+    both a b one other = rw (one, other) refl
+
+listed_named : (format : Format) (field : Field) → is_listed_in format field ≡ true → has_name field ≡ true
+listed_named format field is = (and_parts (has_name field) (is_among format.fields field.name) is).0
+
+known_given : (format : Option Format) (given : Given) (about : List (List ℕ)) → are_given_in format given ≡ true → is_given_in format given ≡ true → may_have_about given about ≡ true
+    → are_fields_of format (all_fields given about) ≡ true
+known_given None given about listed own may = refl
+known_given (Some format) (Listed []) [] listed own may = refl
+known_given (Some format) (Listed []) (text ∷ about) listed own may = absurd (omega (arith, eqb-true (length (text ∷ about)) 0 may))
+known_given (Some format) (Listed (field ∷ fields)) about listed own may =
+    let others = and_parts (is_listed_in format field) (are_listed_in format fields) listed in
+    in_format format field fields about (all-weaker (is_listed_in format) has_name (listed_named format) fields others.1)
+    (or_left (are_listed_in format (field ∷ fields)) _ listed) may
+known_given (Some format) (Whole text) about listed own may =
+    in_format format (element_field text) [] about refl (or_right (are_listed_in format (element_field text ∷ [])) (is_element_of format text) own) may
 
 known_all : (formats : List Format) (records : List GivenRecord) → list_all (has_listed_fields formats) records ≡ true → list_all (is_of_format formats) records ≡ true
     → list_all (has_known_fields formats) (map as_kept records) ≡ true
@@ -84,7 +111,8 @@ known_all formats [] listed own = refl
 known_all formats (r ∷ records) listed own =
     let one = and_parts (has_listed_fields formats r) (list_all (has_listed_fields formats) records) listed in
     let other = and_parts (is_of_format formats r) (list_all (is_of_format formats) records) own in
-    rw (known_given (format_named r.0 formats) r.1 one.0 other.0, known_all formats records one.1 other.1) refl
+    let parts = and_parts (is_given_in (format_named r.0 formats) r.1) (may_have_about r.1 r.2) other.0 in
+    rw (known_given (format_named r.0 formats) r.1 r.2 one.0 parts.0 parts.1, known_all formats records one.1 other.1) refl
 
 -- what the first tests of a deposit say
 pub record Stands (config : RepositoryConfig) (sets : List NamedSet) (specs : List (List ℕ)) (records : List GivenRecord) : Type 0 where

@@ -4,3 +4,4 @@ pub mod IndexLemmas
 pub mod PurgeLemmas
 pub mod PutLemmas
 pub mod RestoreLemmas
+pub mod DifferenceLemmas

@@ -17,8 +17,9 @@ abbrev pub is_too_large : ItemState → Bool
 is_too_large item = nat_lt MAX_ITEM_BYTES (length (encoded item))
 
 -- an item that satisfies the repository's invariants: it has a record in unqualified Dublin Core (section 2.5), each of
--- its records is in a format of the repository and has no other fields than that format's, or keeps an element of it, each of its setSpecs is that
--- of a set, and it can be stored
+-- its records is in a format of the repository, has no other fields than that format's or keeps an element of it, and
+-- has behind that only elements about the record (section 2.5), each of its setSpecs is that of a set, and it can be
+-- stored
 abbrev pub is_well_kept : RepositoryConfig → List NamedSet → ItemState → Bool
 is_well_kept config sets item =
     has_record (codes "oai_dc") item.formats

@@ -8,3 +8,4 @@ pub mod Calls
 pub mod Indexing
 pub mod Purges
 pub mod Saved
+pub mod Differences

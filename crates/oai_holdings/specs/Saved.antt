@@ -1,9 +1,10 @@
 -- The items and sets that are saved, and which may be restored: this repository's own.
-use Rattle.std.specs.Prelude.{◌≡◌, ◌⊎◌, ℕ, Bool, true, false, ◌&&◌, nat_lt, List, Option, None, Some, is_none, is_some, Result, Ok, Err}
+use Rattle.std.specs.Prelude.{◌≡◌, ◌⊎◌, ℕ, Bool, true, false, ◌&&◌, ◌||◌, not, ◌==◌, nat_lt, List, length, Option, None, Some, is_none, is_some, Result, Ok, Err}
 use Rattle.std.specs.List.{list_any}
-use Rattle.oai_item.specs.Elements.{element_in}
+use Rattle.oai_item.specs.Elements.{behind_content, element_in}
 use Rattle.oai_item.specs.Item.{ItemState, Metadata}
 use Rattle.oai_item.specs.Items.{items_after}
+use Rattle.oai_item.specs.declared.fields.Field.{Field}
 use Rattle.oai_item.specs.declared.faults.Fault.{Fault}
 use Rattle.oai_item.specs.declared.faults.Fault.TheVariants as fault
 use Rattle.oai_settings.specs.Config.{RepositoryConfig}
@@ -24,15 +25,19 @@ may_have_set sets spec = is_none (set_refusal sets spec)
 abbrev pub may_have_item : RepositoryConfig → List NamedSet → ℕ → ItemState → Bool
 may_have_item config sets count item = is_well_kept config sets item && nat_lt count config.items
 
--- a record is kept as an element
+-- fields keep an element, as the record itself or about it
+abbrev pub keep_elements : List Field → Bool
+keep_elements fields = is_some (element_in fields) || not (length (behind_content fields) == 0)
+
+-- a record is so kept
 abbrev pub keeps_element : Metadata → Bool
-keeps_element metadata = is_some (element_in metadata.1)
+keeps_element metadata = keep_elements metadata.1
 
 -- a record of the item is
 abbrev pub has_element : ItemState → Bool
 has_element item = list_any keeps_element item.formats
 
--- a part cannot be restored; of one with an element memory may have run out as it was read
+-- a part cannot be restored; of one with elements memory may have run out as it was read
 abbrev pub IsDamagedOrShort : Bool → Result (Unit {0}) Fault → Type 0
 IsDamagedOrShort false result = result ≡ Err fault.Damaged
 IsDamagedOrShort true result = (result ≡ Err fault.Damaged) ⊎ (result ≡ Err fault.NoMemory)

@@ -16,7 +16,7 @@ mod sameness;
 use crate::item_index::ItemIndex;
 use deletions::delete;
 use deposits::{Deposit, put_deposit, put_if_new};
-pub(crate) use deposits::{have_sets, is_among};
+pub(crate) use deposits::{have_sets, is_listed_in};
 use oai_catalogue::Versions;
 use oai_deposit::Change;
 use oai_item::{ChangeRefusal, Fault, Refusal};

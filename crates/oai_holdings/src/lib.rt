@@ -3,10 +3,12 @@
 
 mod changes;
 mod item_index;
+mod laws;
 mod restores;
 mod saves;
 
 pub use changes::{ChangeContext, make_change, told_stamp};
 pub use item_index::ItemIndex;
+pub use laws::difference_law;
 pub use restores::{restore_item, restore_set};
 pub use saves::read_behind;

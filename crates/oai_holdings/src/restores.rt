@@ -1,11 +1,11 @@
 //! Restores a part of what was saved: a set or an item is added.
-ghost use Rattle.std.specs.Prelude.{◌≡◌, ◌≤◌, ◌++◌, ◌∷◌, [], if◌then◌else◌, not, false, true, Some, Ok, Err, length, is_some, IfErr, IfOk, IsTrue, OnErr, OnOk};
-ghost use Rattle.std.specs.List.{list_all, list_any};
+ghost use Rattle.std.specs.Prelude.{◌≡◌, ◌≤◌, ◌==◌, ◌++◌, ◌∷◌, [], if◌then◌else◌, not, false, true, Some, Ok, Err, length, is_some, IfErr, IfOk, IsTrue, OnErr, OnOk};
+ghost use Rattle.std.specs.List.{before_first, list_all, list_any};
 ghost use Rattle.std.specs.Option.{option_copied};
 ghost use Rattle.oai_item.specs.Encoding.{encoded};
 ghost use Rattle.oai_item.specs.Item.{IsStamp};
-ghost use Rattle.oai_item.specs.Elements.{element_in};
-ghost use Rattle.oai_item.specs.Known.{are_fields_of, are_listed_in, has_format, has_known_fields};
+ghost use Rattle.oai_item.specs.Elements.{content_in, element_in, is_about, is_nameless};
+ghost use Rattle.oai_item.specs.Known.{are_fields_of, are_listed_in, has_format, has_known_fields, is_content_of};
 ghost use Rattle.oai_item.specs.declared.faults.Fault.TheVariants as fault;
 ghost use Rattle.oai_item.specs.declared.sizes.TheConstants.{MAX_ITEM_BYTES};
 ghost use Rattle.oai_catalogue.specs.Store.{Spends};
@@ -13,14 +13,17 @@ ghost use Rattle.oai_holdings.specs.Changes.{with_new};
 ghost use Rattle.oai_holdings.specs.Index.{IsIndexed, stored_items};
 ghost use Rattle.oai_holdings.specs.Indexing.{HoldsItems, Moves};
 ghost use Rattle.oai_holdings.specs.Kept as spec;
-ghost use Rattle.oai_holdings.specs.Saved.{IsDamagedOrShort, fault_of_store, has_element, keeps_element, may_have_item, may_have_set};
+ghost use Rattle.oai_holdings.specs.Saved.{IsDamagedOrShort, fault_of_store, has_element, keep_elements, keeps_element, may_have_item, may_have_set};
 
-use crate::changes::{add_set, have_sets, is_among};
+use crate::changes::{add_set, have_sets, is_listed_in};
 use crate::item_index::ItemIndex;
 use oai_catalogue::Versions;
-use oai_item::{Fault, Fields, Format, Formats, Item, ItemRecords, Refusal, is_element_of};
+use oai_item::{
+    Fault, FieldTexts, Fields, Format, Formats, Item, ItemRecords, Refusal, is_element_of,
+};
 use oai_names::{SetSpec, SetTree};
 use oai_settings::RepoConfig;
+use oai_xml::is_canonical;
 use std::alloc::{AllocError, Global};
 
 /// Adds the set as the last one. The error is `Damaged` if a change that adds it would be refused, otherwise out of
@@ -40,8 +43,8 @@ pub fn restore_set(sets: &mut SetTree, set: &SetSpec, name: &str) -> Result<(), 
 }
 
 /// Adds the item, in place of the one with its identifier, if there is one. `Damaged` if it violates the repository's
-/// invariants, or there are as many items as there may be; of an item with an element, out of memory may come in its
-/// place. Otherwise any fault may come. After an error everything is unchanged.
+/// invariants, or there are as many items as there may be; of an item with elements, out of memory may come in its place.
+/// Otherwise any fault may come. After an error everything is unchanged.
 pub fn restore_item<V: Versions>(
     alloc: Global,
     config: &RepoConfig,
@@ -72,7 +75,7 @@ pub fn restore_item<V: Versions>(
 }
 
 /// Whether the item satisfies the repository's invariants, and the repository, which has `count` items, may have one
-/// more. The error is out of memory, as an element is read.
+/// more. The error is out of memory, as elements are read.
 fn may_have_item(
     alloc: Global,
     config: &RepoConfig,
@@ -89,8 +92,9 @@ fn may_have_item(
 }
 
 /// Whether the item satisfies the repository's invariants: it has a record in oai_dc, each of its records is in a
-/// format of the repository and has no other fields than that format's, or keeps an element of it, its sets exist, and it
-/// is not too large. The error is out of memory, as an element is read.
+/// format of the repository and has no other fields than that format's, or keeps an element of it, and has behind that
+/// only elements about the record, its sets exist, and it is not too large. The error is out of memory, as elements are
+/// read.
 fn is_well_kept(
     alloc: Global,
     config: &RepoConfig,
@@ -131,7 +135,7 @@ fn have_formats(formats: &Formats, mut records: ItemRecords<'_>) -> bool
     true
 }
 
-/// Whether each record may be kept in its format. The error is out of memory, as an element is read.
+/// Whether each record may be kept in its format. The error is out of memory, as elements are read.
 fn have_known_fields(
     alloc: Global,
     formats: &Formats,
@@ -148,10 +152,10 @@ fn have_known_fields(
     Ok(true)
 }
 
-/// Whether the fields may be kept in the format, if there is one. The error is out of memory, as an element is read.
+/// Whether the fields may be kept in the format, if there is one. The error is out of memory, as elements are read.
 fn are_known(alloc: Global, format: Option<&Format>, fields: Fields<'_>) -> Result<bool, AllocError>
     ensures known { IfOk result (λ known. known ≡ are_fields_of (option_copied format.entry) fields.entry) }
-    ensures short { OnErr result (is_some (element_in fields.entry) ≡ true) }
+    ensures short { OnErr result (keep_elements fields.entry ≡ true) }
 {
     match format {
         Some(format) => are_fields_of(alloc, format, fields),
@@ -159,42 +163,72 @@ fn are_known(alloc: Global, format: Option<&Format>, fields: Fields<'_>) -> Resu
     }
 }
 
-/// Whether each field is one of the format's, or they keep an element of it. The error is out of memory, as the element
-/// is read.
+/// Whether the fields are a record of the format, and behind it elements about it. The error is out of memory, as
+/// elements are read.
 fn are_fields_of(alloc: Global, format: &Format, fields: Fields<'_>) -> Result<bool, AllocError>
     ensures known { IfOk result (λ are. are ≡ are_fields_of (Some format.now) fields.entry) }
+    ensures short { OnErr result (keep_elements fields.entry ≡ true) }
+{
+    let about = fields.about();
+    if !are_content_of(alloc, format, fields)? {
+        return Ok(false);
+    }
+    are_about(alloc, about)
+}
+
+/// Whether the record itself is of the format: each of its fields is one of the format's, or they keep an element of it.
+/// The error is out of memory, as the element is read.
+fn are_content_of(alloc: Global, format: &Format, fields: Fields<'_>) -> Result<bool, AllocError>
+    ensures content { IfOk result (λ are. are ≡ is_content_of format.now fields.entry) }
     ensures short { OnErr result (is_some (element_in fields.entry) ≡ true) }
 {
     match fields.element() {
-        Some(element) => is_kept_in(alloc, format, element, fields),
-        None => Ok(are_listed_in(format, fields)),
+        Some(element) => is_element_of(alloc, format, element),
+        None => Ok(is_list_of(format, fields)),
     }
 }
 
-/// Whether the element that the fields keep is one of the format, or they are fields of it. The error is out of memory.
-fn is_kept_in(
-    alloc: Global,
-    format: &Format,
-    element: &str,
-    fields: Fields<'_>,
-) -> Result<bool, AllocError>
-    requires { element_in fields ≡ Some element.now }
-    ensures { IfOk result (λ is. is ≡ are_fields_of (Some format.now) fields.entry) }
+/// Whether each field of the record itself is one of the format's.
+fn is_list_of(format: &Format, mut fields: Fields<'_>) -> bool
+    ensures { result ≡ are_listed_in format.now (content_in fields.entry) }
 {
-    if are_listed_in(format, fields) {
-        return Ok(true);
+    match fields.next() {
+        Some(field) => is_listed_in(format, field.name) && are_listed_in(format, fields),
+        None => true,
     }
-    is_element_of(alloc, format, element)
 }
 
-/// Whether each field is one of the format's.
+/// Whether each field up to the first without a name is one of the format's.
 fn are_listed_in(format: &Format, mut fields: Fields<'_>) -> bool
-    ensures { result ≡ are_listed_in format.now fields.entry }
+    ensures { result ≡ are_listed_in format.now (before_first is_nameless fields.entry) }
 {
-    while let Some(field) = fields.next() {
-        if !is_among(format.fields.as_slice(), field.name) {
+    while let Some(field) = fields.next_named() {
+        if !is_listed_in(format, field.name) {
             return false;
         }
     }
     true
+}
+
+/// Whether each field is an element about a record. The error is out of memory, as the elements are read.
+fn are_about(alloc: Global, mut fields: Fields<'_>) -> Result<bool, AllocError>
+    ensures about { IfOk result (λ are. are ≡ list_all is_about fields.entry) }
+    ensures short { OnErr result (not (length fields.entry == 0) ≡ true) }
+{
+    while let Some(field) = fields.next() {
+        if !is_about(alloc, &field)? {
+            return Ok(false);
+        }
+    }
+    Ok(true)
+}
+
+/// Whether the field has no name, and its text is an element in canonical text. The error is out of memory.
+fn is_about(alloc: Global, field: &FieldTexts<'_>) -> Result<bool, AllocError>
+    ensures { IfOk result (λ is. is ≡ is_about (record { name = field.now.name.now; text = field.now.text.now })) }
+{
+    if !field.name.is_empty() {
+        return Ok(false);
+    }
+    is_canonical(alloc, field.text)
 }

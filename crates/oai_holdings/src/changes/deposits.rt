@@ -1,5 +1,5 @@
 //! Deposits: why one is refused, and the item that it makes.
-ghost use Rattle.std.specs.Prelude.{◌≡◌, ◌≤◌, ◌⊎◌, None, Some, false, length, map, IfOk, IsTrue, OnErr, OnOk};
+ghost use Rattle.std.specs.Prelude.{◌≡◌, ◌≤◌, ◌⊎◌, ◌&&◌, ◌==◌, not, None, Some, false, true, length, map, IfOk, IsTrue, OnErr, OnOk};
 ghost use Rattle.std.specs.List.{list_all};
 ghost use Rattle.std.specs.Option.{option_copied};
 ghost use Rattle.oai_names.specs.Names.{is_among};
@@ -10,8 +10,9 @@ ghost use Rattle.oai_item.specs.declared.sizes.TheConstants.{MAX_ITEM_BYTES};
 ghost use Rattle.oai_catalogue.specs.Calls.{OnlyReads};
 ghost use Rattle.oai_catalogue.specs.Store.{Spends};
 ghost use Rattle.oai_item.specs.Item.{IsStamp, has_record, live_item, record_named};
-ghost use Rattle.oai_item.specs.Givens.{IsNoted, kept as as_kept, noted_given};
-ghost use Rattle.oai_item.specs.Known.{are_listed_in, has_format, has_listed_fields, is_given_in, is_of_format};
+ghost use Rattle.oai_item.specs.Givens.{IsNotedContent, field_texts, kept as as_kept, noted_given};
+ghost use Rattle.oai_item.specs.Elements.{is_about};
+ghost use Rattle.oai_item.specs.Known.{are_listed_in, has_format, has_listed_fields, is_given_in, is_of_format, may_have_about};
 ghost use Rattle.oai_item.specs.Membership.{reduced};
 ghost use Rattle.oai_holdings.specs.Calls.{fault_in};
 ghost use Rattle.oai_holdings.specs.Changes as spec;
@@ -311,9 +312,9 @@ fn have_listed_fields(formats: &Formats, mut records: GivenRecords<'_>) -> bool
 
 /// Whether each field of the record is one of its format's, if it is a list.
 fn has_listed_fields(formats: &Formats, given: &GivenRecord<'_>) -> bool
-    requires { IsNoted given.now.fields.now (option_copied given.now.root) }
+    requires { IsNotedContent given.now.fields.now (option_copied given.now.root) }
     ensures { result ≡ has_listed_fields formats.now
-        (given.now.prefix.now, noted_given given.now.fields.now (option_copied given.now.root)) }
+        (given.now.prefix.now, noted_given given.now.fields.now (option_copied given.now.root), field_texts given.now.about.now) }
 {
     match formats.find_named(given.prefix) {
         Some(format) => given.root.is_some() || are_listed_in(format, given.fields),
@@ -325,10 +326,20 @@ fn has_listed_fields(formats: &Formats, given: &GivenRecord<'_>) -> bool
 fn are_listed_in(format: &Format, fields: &[Field]) -> bool
     ensures { result ≡ are_listed_in format.now fields.now }
 {
-    fields.iter().all(|field| is_among(format.fields.as_slice(), field.name.as_str()))
+    fields
+        .iter()
+        .all(|field| is_listed_in(format, field.name.as_str()))
 }
 
-/// Whether each element has the root of its format, and the format of each list has fields.
+/// Whether a field of that name has a name, and is one of the format's.
+pub(crate) fn is_listed_in(format: &Format, name: &str) -> bool
+    ensures { result ≡ (not (length name.now == 0) && is_among format.now.fields name.now) }
+{
+    !name.is_empty() && is_among(format.fields.as_slice(), name)
+}
+
+/// Whether each element has the root of its format, the format of each list has fields, and nothing is given about a
+/// record where nothing is given as the record.
 fn are_of_formats(formats: &Formats, mut records: GivenRecords<'_>) -> bool
     ensures { result ≡ list_all (is_of_format formats.now) records.entry }
 {
@@ -340,21 +351,23 @@ fn are_of_formats(formats: &Formats, mut records: GivenRecords<'_>) -> bool
     true
 }
 
-/// Whether the record has the root of its format, or its format has fields, if it is a list.
+/// Whether the record has the root of its format, or its format has fields, if it is a list, and something is given as the
+/// record if something is given about it.
 fn is_of_format(formats: &Formats, given: &GivenRecord<'_>) -> bool
-    requires { IsNoted given.now.fields.now (option_copied given.now.root) }
+    requires content { IsNotedContent given.now.fields.now (option_copied given.now.root) }
+    requires about { list_all is_about given.now.about.now ≡ true }
     ensures { result ≡ is_of_format formats.now
-        (given.now.prefix.now, noted_given given.now.fields.now (option_copied given.now.root)) }
+        (given.now.prefix.now, noted_given given.now.fields.now (option_copied given.now.root), field_texts given.now.about.now) }
 {
     match formats.find_named(given.prefix) {
-        Some(format) => is_given_in(format, given),
-        None => true,
+        Some(format) => is_given_in(format, given) && may_have_about(given),
+        None => may_have_about(given),
     }
 }
 
 /// The same of its format.
 fn is_given_in(format: &Format, given: &GivenRecord<'_>) -> bool
-    requires { IsNoted given.now.fields.now (option_copied given.now.root) }
+    requires { IsNotedContent given.now.fields.now (option_copied given.now.root) }
     ensures { result ≡ is_given_in (Some format.now)
         (noted_given given.now.fields.now (option_copied given.now.root)) }
 {
@@ -364,8 +377,18 @@ fn is_given_in(format: &Format, given: &GivenRecord<'_>) -> bool
     }
 }
 
+/// Whether nothing is given about the record, or something is given as the record.
+fn may_have_about(given: &GivenRecord<'_>) -> bool
+    requires content { IsNotedContent given.now.fields.now (option_copied given.now.root) }
+    requires about { list_all is_about given.now.about.now ≡ true }
+    ensures { result ≡ may_have_about
+        (noted_given given.now.fields.now (option_copied given.now.root)) (field_texts given.now.about.now) }
+{
+    !given.fields.is_empty() || given.about.is_empty()
+}
+
 /// Whether the name is one of these.
-pub(crate) fn is_among(names: &[Text], name: &str) -> bool
+fn is_among(names: &[Text], name: &str) -> bool
     ensures { result ≡ is_among names.now name.now }
 {
     names.iter().any(|other| other.as_str() == name)

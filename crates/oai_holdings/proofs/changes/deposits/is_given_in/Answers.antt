@@ -1,5 +1,5 @@
 -- The root that is noted is that of the element.
-use Rattle.std.proofs.Common.{◌≡◌, ◌∙◌}
+use Rattle.std.proofs.Common.{◌∙◌}
 use Rattle.oai_item.proofs.GivenLemmas.{noted_root}
 use Rattle.oai_holdings.proofs.changes.deposits.is_given_in.Goals as goal
 
