@@ -75,7 +75,7 @@ IsSeenAlike verb g format page its k other its_page =
     (map (seen_by verb g (Some format)) page.items ≡ map (seen_by its k (Some other)) its_page.items) × (token_seen page.continuation ≡ token_seen its_page.continuation)
 
 abbrev header_alone : SeenHeader → SeenRecord
-header_alone header = record { header = header; metadata = None }
+header_alone header = record { header = header; metadata = None; about = [] }
 
 alike : (verb its : ListVerb) (base its_base : List ℕ) (format other : Format) (page its_page : Page) → is_of_records verb ≡ true → is_of_records its ≡ true
     → answer_seen base (answer_by_verb verb format page) ≡ answer_seen its_base (answer_by_verb its other its_page)

@@ -69,7 +69,8 @@ pub record MayBePut (config : RepositoryConfig) (state : RepoState) (item : Item
   pub room : is_one_too_many config (item_named item.identifier state.holdings.items) (length state.holdings.items) ≡ false
   pub dead : item.live ≡ false → IsLeftOver config state item
 
--- each record of the item is in a format of the repository and has no field but that format's, or keeps an element of it
+-- each record of the item is in a format of the repository, and has no field but that format's or keeps an element of it, and behind that only elements
+-- about it
 abbrev pub has_known_records : RepositoryConfig → ItemState → Bool
 has_known_records config item = list_all (has_format config.formats) item.formats && list_all (has_known_fields config.formats) item.formats
 

@@ -52,9 +52,9 @@ bytes_written config exchanges = map (λ (exchange : Transition). outcome_output
 -- what an answer by the verb shows of an item: its header, and by ListRecords its record in the format
 abbrev pub seen_by : ListVerb → Granularity → Option Format → ItemState → SeenRecord
 seen_by list.Records granularity (Some format) item = record_seen granularity format item
-seen_by list.Records granularity None item = record { header = header_seen granularity item; metadata = None }
-seen_by list.Identifiers granularity format item = record { header = header_seen granularity item; metadata = None }
-seen_by list.Sets granularity format item = record { header = header_seen granularity item; metadata = None }
+seen_by list.Records granularity None item = record { header = header_seen granularity item; metadata = None; about = [] }
+seen_by list.Identifiers granularity format item = record { header = header_seen granularity item; metadata = None; about = [] }
+seen_by list.Sets granularity format item = record { header = header_seen granularity item; metadata = None; about = [] }
 
 -- and of the items that a list request selects
 abbrev pub selection_seen : RepositoryConfig → ListQuery → List ItemState → List SeenRecord

@@ -41,7 +41,7 @@ after seconds command = record { moment = pos (1_704_067_200 + seconds); command
 
 -- an item with an empty record in Dublin Core
 abbrev pub deposit : List ℕ → Command
-deposit identifier = changing (change.Deposit identifier [] ((codes "oai_dc", Listed []) ∷ []))
+deposit identifier = changing (change.Deposit identifier [] ((codes "oai_dc", Listed [], []) ∷ []))
 
 abbrev pub delete : List ℕ → Command
 delete identifier = changing (change.Delete identifier)

@@ -19,3 +19,5 @@ pub mod RestoreLemmas
 pub mod SavedLemmas
 pub mod NewLemmas
 pub mod PutLemmas
+pub mod UnseenLemmas
+pub mod SavedListLemmas

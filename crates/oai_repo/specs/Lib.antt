@@ -10,4 +10,5 @@ pub mod Tables
 pub mod Seen
 pub mod Views
 pub mod Saved
+pub mod SavedLists
 pub mod Puts

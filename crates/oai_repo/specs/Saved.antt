@@ -26,7 +26,7 @@ part_state (Begins clock next) = has_clock clock next
 part_state (HasSet spec name) = has_named_set (spec.now, name.now)
 part_state (HasItem item) = has_item item.now
 
--- the part is an item with an element
+-- the part is an item with elements
 abbrev pub is_with_element : SavedPartState → Bool
 is_with_element (has_clock clock next) = false
 is_with_element (has_named_set set) = false

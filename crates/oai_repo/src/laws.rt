@@ -7,11 +7,13 @@ ghost use Rattle.oai_repo.specs.Calls.{changes_lists};
 ghost use Rattle.oai_holdings.specs.Kept.{AreKept};
 ghost use Rattle.oai_item.specs.Givens.{GivenRecord};
 ghost use Rattle.oai_deposit.specs.declared.changes.Change.TheVariants as change;
-ghost use Rattle.oai_repo.specs.Machine.{act_at, changing, requesting};
+ghost use Rattle.oai_repo.specs.Machine.{Command, act_at, changing, requesting};
 ghost use Rattle.oai_repo.specs.Puts.{AreAlikeButForStamps};
 ghost use Rattle.oai_repo.specs.Saved.{ended, parts_of, with_parts};
+ghost use Rattle.oai_repo.specs.SavedLists.{AreBeginnings, Beginning, listed_parts, with_listed_parts};
+ghost use Rattle.oai_holdings.specs.Differences.{ItemDifference};
 ghost use Rattle.oai_holdings.specs.Holdings.{no_holdings};
-ghost use Rattle.oai_repo.specs.State.{RepoState, moved};
+ghost use Rattle.oai_repo.specs.State.{RepoState, moved, state_at_clock};
 ghost use Rattle.oai_settings.specs.Config.{RepositoryConfig};
 ghost use Rattle.oai_time.specs.declared.granularity.Granularity.{Granularity};
 
@@ -26,6 +28,13 @@ pub fn tick_law()
         → changes_lists (request_of granularity (decoded_pairs [])) ≡ false }
 {}
 
+/// Lists that have ended are not seen: without those that have by its clock, a state answers the same to every command,
+/// at every moment, and leaves the same state. So they need not be saved. A theorem, proved by an empty function.
+pub fn unseen_law()
+    ensures { (config : RepositoryConfig) (state : RepoState) (moment : ℤ) (command : Command)
+        → act_at config (state_at_clock state.clock state) moment command ≡ act_at config state moment command }
+{}
+
 /// A state is restored from its parts: restored over one that holds nothing, whatever its clock and its lists, they
 /// make that state with no list open, and with the number of the next list that they have. A theorem, proved by an
 /// empty function.
@@ -34,6 +43,16 @@ pub fn restore_law()
     ensures { (config : RepositoryConfig) (state start : RepoState) (raise : ℕ)
         → AreKept config state.holdings → start.holdings ≡ no_holdings
         → with_parts start (parts_of (ended raise state)) ≡ ended raise state }
+{}
+
+/// A state is restored from its parts with all its open lists: restored over one that holds nothing, whatever its clock
+/// and its lists, they make that state. A list is saved without its items: where it began stands among the changes of
+/// the items, and it has what its filter selects of those that are held there. A theorem, proved by an empty function.
+pub fn listed_law()
+    ensures { (state start : RepoState) (beginnings : List Beginning) (last : List ItemDifference)
+        → start.holdings ≡ no_holdings
+        → AreBeginnings [] beginnings last state.open_lists.lists state.holdings.items
+        → with_listed_parts start (listed_parts state beginnings last) ≡ state }
 {}
 
 /// A put that comes again, at whatever moment and whatever it was answered, is answered the same, and leaves the state

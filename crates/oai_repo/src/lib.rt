@@ -14,7 +14,7 @@ mod saved_parts;
 mod tokens;
 mod view;
 
-pub use laws::{put_law, restore_law, tick_law};
+pub use laws::{listed_law, put_law, restore_law, tick_law, unseen_law};
 pub use oai_item::Refusal;
 pub use oai_settings::RepoConfig;
 pub use repo::Repo;

@@ -248,7 +248,7 @@ impl Repo {
     /// Restores a part of a saved state, after those that were restored before. `Damaged` if it does not fit: the
     /// repository begins though a list is held, or with a clock that is not in the years 0001 to 9998; the set exists
     /// or has no parent, or there are 10,000; the item violates the repository's invariants, or there are as many items
-    /// as there may be; of an item with an element `NoMemory` may come in its place. Otherwise any fault may come,
+    /// as there may be; of an item with elements `NoMemory` may come in its place. Otherwise any fault may come,
     /// `Damaged` only if the store returns other items than were put into it, and `TooManyPages` only if it may lack
     /// room for one call. After a fault everything is unchanged.
     pub fn restore<V: Versions>(&mut self, store: &mut V, part: &SavedPart<'_>) -> Result<(), Fault>
