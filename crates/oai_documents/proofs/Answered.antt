@@ -49,7 +49,7 @@ use Rattle.oai_holdings.specs.Kept.{is_well_kept}
 use Rattle.oai_documents.specs.Answering.{have_namespaces}
 use Rattle.oai_documents.specs.DocumentTrees.{document_tree}
 use Rattle.oai_documents.specs.Schema.{IsOfSchema}
-use Rattle.oai_documents.specs.WellFormed.{HasMembers, has_root_in, HasNamespace, HasFittingElements, IsFilled, is_foreign, may_be_default}
+use Rattle.oai_documents.specs.WellFormed.{HasAboutIn, HasMembers, has_root_in, HasNamespace, HasFittingElements, IsFilled, is_foreign, may_be_default}
 use Rattle.oai_documents.proofs.SchemaLemmas.{document_is}
 use Rattle.oai_documents.proofs.WholeTrees.{document_whole}
 
@@ -325,5 +325,5 @@ some_answer passes config d rules is all =
 pub given_whole : (d : Document) → IsGivenDocument may_be_default d → HasFittingElements d.answer → is_whole (document_tree d) ≡ true
 given_whole d given room = document_whole d given.regular given.own room
 
-pub given_of_schema : (d : Document) → IsGivenDocument is_foreign d → IsOfSchema (document_tree d)
-given_of_schema d given = document_is d given.regular given.filled given.own
+pub given_of_schema : (d : Document) → IsGivenDocument is_foreign d → HasAboutIn is_foreign d.answer → IsOfSchema (document_tree d)
+given_of_schema d given about = document_is d given.regular given.filled given.own about

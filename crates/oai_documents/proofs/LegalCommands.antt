@@ -41,7 +41,7 @@ use Rattle.oai_item.specs.declared.fields.Field.{Field}
 use Rattle.oai_item.specs.declared.refusals.LineRefusal.{LineRefusal}
 use Rattle.oai_item.specs.declared.refusals.LineRefusal.TheVariants.{BadIdentifier, BadSetSpec, BadText}
 use Rattle.oai_json.specs.Json.{items_of, json_in, members_of}
-use Rattle.oai_deposit.specs.Lines.{DepositParts, Shape, adds_set, as_deposit, as_given, as_put, asked_change, asked_parts, before_others, change_asked, deletes, deposits, puts, elements_read, given_element, have_xml_texts, line_of, purges, read_as_element, shape_of, value_asked}
+use Rattle.oai_deposit.specs.Lines.{DepositParts, LineAbout, LineRecord, Shape, about_read, adds_set, as_deposit, as_given, as_put, asked_change, asked_parts, before_about, before_others, change_asked, deletes, deposits, puts, element_read, elements_read, given_element, have_xml_texts, line_of, purges, read_as_element, record_read, shape_of, texts_about, value_asked, with_about, with_abouts}
 use Rattle.oai_deposit.specs.Shapes.{IsShape, written_field, written_given, written_record, written_records}
 use Rattle.oai_deposit.proofs.ShapeLemmas.{shape_law_holds}
 use Rattle.oai_args.specs.Arguments.{given, occurrence_of}
@@ -219,26 +219,75 @@ given_legal (Whole text) given texts is all = by_canonical (canonical text) refl
         (both (element_legal text element found (and_parts (is_xml_text element) true characters).0) refl)
     by_canonical (Err at) found is = cc
 
-records_legal : (written given : List GivenRecord) → are_text_values (members_of (map written_record written)) ≡ true → elements_read written ≡ Ok given
-    → have_xml_texts (map kept given) ≡ true → list_all is_legal_record (map kept given) ≡ true
-unfolding have_xml_texts elements_read
-records_legal [] [] texts is all = refl
-records_legal [] (r ∷ given) texts is all = cc
-records_legal (w ∷ written) given texts is all =
-    let parts = and_parts (is_text_data (written_record w).1) (are_text_values (members_of (map written_record written))) texts in
-    by_parts (λ gs later fine. records_legal written gs parts.1 later fine) (given_element w.1) (elements_read written) refl refl is
+-- the texts of fields are of XML's characters
+abbrev is_xml_field : Field → Bool
+is_xml_field field = is_xml_text field.text
+
+-- an element that was read
+read_legal : (text element : List ℕ) → element_read text ≡ Ok element → is_xml_text element ≡ true → is_legal_text element ≡ true
+read_legal text element is characters = by_canonical (canonical text) refl is
   where
-    by_parts : ((gs : List GivenRecord) → elements_read written ≡ Ok gs → have_xml_texts (map kept gs) ≡ true → list_all is_legal_record (map kept gs) ≡ true)
-        → (one : Result Given LineRefusal) (others : Result (List GivenRecord) LineRefusal) → given_element w.1 ≡ one → elements_read written ≡ others
-        → before_others w.0 one others ≡ Ok given → list_all is_legal_record (map kept given) ≡ true
-    by_parts legal_others (Ok g) (Ok gs) first later is =
-        let same : (w.0, g) ∷ gs ≡ given = cc in
+    by_canonical : (c : Result (List ℕ) ℕ) → canonical text ≡ c → read_as_element c ≡ Ok element → is_legal_text element ≡ true
+    by_canonical (Ok e) found is =
+        let same : e ≡ element = cc in
+        element_legal text element (found ∙ ap (λ (w : List ℕ). Ok w) same) characters
+    by_canonical (Err at) found is = cc
+
+-- those about a record
+about_legal : (texts elements : List (List ℕ)) → about_read texts ≡ Ok elements → list_all is_xml_field (map element_field elements) ≡ true → list_all is_legal_field (map element_field elements) ≡ true
+unfolding about_read
+about_legal [] [] is all = refl
+about_legal [] (e ∷ elements) is all = cc
+about_legal (text ∷ texts) elements is all = by_parts (λ es later fine. about_legal texts es later fine) (element_read text) (about_read texts) refl refl is
+  where
+    by_parts : ((es : List (List ℕ)) → about_read texts ≡ Ok es → list_all is_xml_field (map element_field es) ≡ true → list_all is_legal_field (map element_field es) ≡ true)
+        → (one : Result (List ℕ) LineRefusal) (others : Result (List (List ℕ)) LineRefusal) → element_read text ≡ one → about_read texts ≡ others → before_others one others ≡ Ok elements
+        → list_all is_legal_field (map element_field elements) ≡ true
+    by_parts legal_others (Ok e) (Ok es) first later is =
+        let same : e ∷ es ≡ elements = cc in
+        let fine : list_all is_xml_field (map element_field (e ∷ es)) ≡ true = subst (λ (ws : List (List ℕ)). list_all is_xml_field (map element_field ws) ≡ true) (sym same) all in
+        let each = and_parts (is_xml_text e) (list_all is_xml_field (map element_field es)) fine in
+        subst (λ (ws : List (List ℕ)). list_all is_legal_field (map element_field ws) ≡ true) same (both (read_legal text e first each.0) (legal_others es later each.1))
+    by_parts legal_others (Ok e) (Err cause) first later is = cc
+    by_parts legal_others (Err cause) others first later is = cc
+
+-- what is kept of a record and what is about it
+record_legal : (prefix : List ℕ) (written : Given) (texts : List (List ℕ)) (r : GivenRecord) → is_text_data (written_given written) ≡ true → record_read (prefix, written, texts) ≡ Ok r
+    → list_all is_xml_field (kept r).1 ≡ true → is_legal_record (kept r) ≡ true
+record_legal prefix written texts r its is all = by_parts (given_element written) (about_read texts) refl refl is
+  where
+    by_parts : (one : Result Given LineRefusal) (others : Result (List (List ℕ)) LineRefusal) → given_element written ≡ one → about_read texts ≡ others → before_about prefix one others ≡ Ok r
+        → is_legal_record (kept r) ≡ true
+    by_parts (Ok g) (Ok about) first later is =
+        let whole : GivenRecord = (prefix, g, about) in
+        let same : whole ≡ r = cc in
+        let fine : list_all is_xml_field (kept_fields g ++ map element_field about) ≡ true = subst (λ (w : GivenRecord). list_all is_xml_field (kept w).1 ≡ true) (sym same) all in
+        let parts = and_parts (list_all is_xml_field (kept_fields g)) (list_all is_xml_field (map element_field about)) (sym (list_all-append is_xml_field (kept_fields g) (map element_field about)) ∙ fine) in
+        subst (λ (w : GivenRecord). is_legal_record (kept w) ≡ true) same
+        (list_all-append is_legal_field (kept_fields g) (map element_field about) ∙ both (given_legal written g its first parts.0) (about_legal texts about later parts.1))
+    by_parts (Ok g) (Err cause) first later is = cc
+    by_parts (Err cause) others first later is = cc
+
+records_legal : (abouts : List LineAbout) (written : List LineRecord) (given : List GivenRecord) → are_text_values (members_of (map written_record written)) ≡ true
+    → elements_read (with_abouts written abouts) ≡ Ok given → have_xml_texts (map kept given) ≡ true → list_all is_legal_record (map kept given) ≡ true
+unfolding have_xml_texts elements_read
+records_legal abouts [] [] texts is all = refl
+records_legal abouts [] (r ∷ given) texts is all = cc
+records_legal abouts (w ∷ written) given texts is all =
+    let parts = and_parts (is_text_data (written_record w).1) (are_text_values (members_of (map written_record written))) texts in
+    by_parts (λ gs later fine. records_legal abouts written gs parts.1 later fine) (record_read (with_about abouts w)) (elements_read (with_abouts written abouts)) refl refl is
+  where
+    by_parts : ((gs : List GivenRecord) → elements_read (with_abouts written abouts) ≡ Ok gs → have_xml_texts (map kept gs) ≡ true → list_all is_legal_record (map kept gs) ≡ true)
+        → (one : Result GivenRecord LineRefusal) (others : Result (List GivenRecord) LineRefusal) → record_read (with_about abouts w) ≡ one → elements_read (with_abouts written abouts) ≡ others
+        → before_others one others ≡ Ok given → list_all is_legal_record (map kept given) ≡ true
+    by_parts legal_others (Ok r) (Ok rs) first later is =
+        let same : r ∷ rs ≡ given = cc in
         let parts = and_parts (is_text_data (written_record w).1) (are_text_values (members_of (map written_record written))) texts in
-        let fine : have_xml_texts (map kept ((w.0, g) ∷ gs)) ≡ true = subst (λ (rs : List GivenRecord). have_xml_texts (map kept rs) ≡ true) (sym same) all in
-        let each = and_parts (list_all (λ (field : Field). is_xml_text field.text) (kept_fields g)) (have_xml_texts (map kept gs)) fine in
-        subst (λ (rs : List GivenRecord). list_all is_legal_record (map kept rs) ≡ true) same
-        (both (given_legal w.1 g parts.0 first each.0) (legal_others gs later each.1))
-    by_parts legal_others (Ok g) (Err cause) first later is = cc
+        let fine : have_xml_texts (map kept (r ∷ rs)) ≡ true = subst (λ (gs : List GivenRecord). have_xml_texts (map kept gs) ≡ true) (sym same) all in
+        let each = and_parts (list_all is_xml_field (kept r).1) (have_xml_texts (map kept rs)) fine in
+        subst (λ (gs : List GivenRecord). list_all is_legal_record (map kept gs) ≡ true) same
+        (both (record_legal w.0 w.1 (texts_about abouts w.0) r parts.0 first each.0) (legal_others rs later each.1))
+    by_parts legal_others (Ok r) (Err cause) first later is = cc
     by_parts legal_others (Err cause) others first later is = cc
 
 pub short_characters : (text : List ℕ) → is_short_text text ≡ true → is_xml_text text ≡ true
@@ -246,11 +295,11 @@ unfolding is_short_text
 short_characters text is = (and_parts _ (is_xml_text text) is).1
 
 -- the parts of a deposit, whose texts are tested
-parts_legal : (d : Data) (written : List GivenRecord) (identifier : List ℕ) (sets : List (List ℕ)) (parts : DepositParts) → get (codes "records") d ≡ Some (written_records written) → is_text_data d ≡ true
-    → asked_parts identifier sets (elements_read written) ≡ Ok parts → is_legal_change (change.Deposit parts.0 parts.1 parts.2) ≡ true
-parts_legal d written identifier sets parts found text is = by_elements (elements_read written) refl is
+parts_legal : (d : Data) (written : List LineRecord) (abouts : List LineAbout) (identifier : List ℕ) (sets : List (List ℕ)) (parts : DepositParts) → get (codes "records") d ≡ Some (written_records written) → is_text_data d ≡ true
+    → asked_parts identifier sets (elements_read (with_abouts written abouts)) ≡ Ok parts → is_legal_change (change.Deposit parts.0 parts.1 parts.2) ≡ true
+parts_legal d written abouts identifier sets parts found text is = by_elements (elements_read (with_abouts written abouts)) refl is
   where
-    by_tests : (records : List GivenRecord) (a b c : Bool) → elements_read written ≡ Ok records
+    by_tests : (records : List GivenRecord) (a b c : Bool) → elements_read (with_abouts written abouts) ≡ Ok records
         → may_be_identifier identifier ≡ a → list_all may_be_set_spec sets ≡ b → have_xml_texts (map kept records) ≡ c
         → cond (not a) (Err BadIdentifier) (cond (not b) (Err BadSetSpec) (cond (not c) (Err BadText) (Ok (identifier, sets, records)))) ≡ Ok parts
         → is_legal_change (change.Deposit parts.0 parts.1 parts.2) ≡ true
@@ -259,30 +308,30 @@ parts_legal d written identifier sets parts found text is = by_elements (element
         let same : whole ≡ parts = cc in
         let told : is_text_data (written_records written) ≡ true = found_text (codes "records") d (written_records written) text found in
         subst (λ (p : DepositParts). is_legal_change (change.Deposit p.0 p.1 p.2) ≡ true) same
-        (both (both (identifier_legal identifier named) (all-weaker may_be_set_spec is_legal_text set_spec_legal sets specs)) (records_legal written records told read texts))
+        (both (both (identifier_legal identifier named) (all-weaker may_be_set_spec is_legal_text set_spec_legal sets specs)) (records_legal abouts written records told read texts))
     by_tests records true true false read named specs texts is = cc
     by_tests records true false c read named specs texts is = cc
     by_tests records false b c read named specs texts is = cc
 
-    by_elements : (r : Result (List GivenRecord) LineRefusal) → elements_read written ≡ r → asked_parts identifier sets r ≡ Ok parts → is_legal_change (change.Deposit parts.0 parts.1 parts.2) ≡ true
+    by_elements : (r : Result (List GivenRecord) LineRefusal) → elements_read (with_abouts written abouts) ≡ r → asked_parts identifier sets r ≡ Ok parts → is_legal_change (change.Deposit parts.0 parts.1 parts.2) ≡ true
     by_elements (Ok records) read is = by_tests records (may_be_identifier identifier) (list_all may_be_set_spec sets) (have_xml_texts (map kept records)) read refl refl refl is
     by_elements (Err cause) read is = cc
 
 asked_legal : (forms : Forms) (shape : Shape) (d : Data) (asked : Change) → IsShape forms shape d → is_text_data d ≡ true → asked_change shape ≡ Ok asked → is_legal_change asked ≡ true
 unfolding asked_change
-asked_legal forms (deposits identifier sets written) d asked shape text is = by_parts (asked_parts identifier sets (elements_read written)) refl is
+asked_legal forms (deposits identifier sets written abouts) d asked shape text is = by_parts (asked_parts identifier sets (elements_read (with_abouts written abouts))) refl is
   where
-    by_parts : (r : Result DepositParts LineRefusal) → asked_parts identifier sets (elements_read written) ≡ r → as_deposit r ≡ Ok asked → is_legal_change asked ≡ true
+    by_parts : (r : Result DepositParts LineRefusal) → asked_parts identifier sets (elements_read (with_abouts written abouts)) ≡ r → as_deposit r ≡ Ok asked → is_legal_change asked ≡ true
     by_parts (Ok parts) read is =
         let same : change.Deposit parts.0 parts.1 parts.2 ≡ asked = cc in
-        subst (λ (c : Change). is_legal_change c ≡ true) same (parts_legal d written identifier sets parts shape.records text read)
+        subst (λ (c : Change). is_legal_change c ≡ true) same (parts_legal d written abouts identifier sets parts shape.records text read)
     by_parts (Err cause) read is = cc
-asked_legal forms (puts identifier sets written) d asked shape text is = by_parts (asked_parts identifier sets (elements_read written)) refl is
+asked_legal forms (puts identifier sets written abouts) d asked shape text is = by_parts (asked_parts identifier sets (elements_read (with_abouts written abouts))) refl is
   where
-    by_parts : (r : Result DepositParts LineRefusal) → asked_parts identifier sets (elements_read written) ≡ r → as_put r ≡ Ok asked → is_legal_change asked ≡ true
+    by_parts : (r : Result DepositParts LineRefusal) → asked_parts identifier sets (elements_read (with_abouts written abouts)) ≡ r → as_put r ≡ Ok asked → is_legal_change asked ≡ true
     by_parts (Ok parts) read is =
         let same : change.Put parts.0 parts.1 parts.2 ≡ asked = cc in
-        subst (λ (c : Change). is_legal_change c ≡ true) same (parts_legal d written identifier sets parts shape.records text read)
+        subst (λ (c : Change). is_legal_change c ≡ true) same (parts_legal d written abouts identifier sets parts shape.records text read)
     by_parts (Err cause) read is = cc
 asked_legal forms (deletes identifier) d asked shape text is = by_test (may_be_identifier identifier) is
   where

@@ -7,7 +7,7 @@ use Rattle.std.specs.Str.{bytes_eq}
 use Rattle.std.proofs.lemmas.Bool.{and_parts, cases_Bool, eq-eqb, eqb-true, true≢false}
 use Rattle.std.proofs.lemmas.Bool.Decides.{nat_tests}
 use Rattle.std.proofs.lemmas.List.Folds.{list_all-append}
-use Rattle.oai_names.proofs.Cuts.{lacks}
+use Rattle.oai_names.proofs.Cuts.{all-map, lacks}
 use Rattle.oai_names.proofs.Lists.{all-weaker}
 use Rattle.oai_time.specs.TimeTexts.{datestamp_text, second_text}
 use Rattle.oai_time.specs.declared.granularity.Granularity.{Granularity}
@@ -15,8 +15,9 @@ use Rattle.oai_time.specs.declared.granularity.Granularity.TheVariants.{Day, Sec
 use Rattle.oai_lists.specs.Tokens.{token_text}
 use Rattle.oai_lists.specs.declared.tokens.Token.{Token}
 use Rattle.oai_item.specs.Formats.{dublin_core}
-use Rattle.oai_item.specs.Elements.{element_in, keeps_element_of}
-use Rattle.oai_item.specs.Known.{are_fields_of, are_listed_in}
+use Rattle.oai_item.specs.Elements.{about_in, behind_content, content_in, element_in}
+use Rattle.oai_item.specs.Known.{are_fields_of}
+use Rattle.oai_item.proofs.Contents.{content_and_behind}
 use Rattle.oai_item.proofs.GivenLemmas.{kept_element}
 use Rattle.oai_item.specs.Item.{ItemState, Metadata, fields_in, fields_of, record_named}
 use Rattle.oai_item.specs.declared.deleted_record.DeletedRecord.{DeletedRecord}
@@ -40,9 +41,9 @@ use Rattle.oai_xml.proofs.CanonicalLemmas.{element_tested, tree_again}
 use Rattle.oai_xml.proofs.Spellings.{tree_spelled}
 use Rattle.oai_xml.proofs.LegalSpellings.{Legal, both as both_legal, end_legal, is_plain, legal, nothing_legal, plain, spelled_legal, start_legal, tested}
 use Rattle.oai_answers.specs.ElementParts.{bare_leaf, bare_parent, element_attribute, in_order, leaf, parent}
-use Rattle.oai_documents.specs.DocumentTrees.{answer_tree, argument_attribute, arguments, container_tree, document_tree, error_tree, extent, format_tree, formats_tree, header_tree, headers_tree, identify_tree, metadata_parts, record_tree, records_tree, request_tree, root_attributes, set_tree, sets_tree, status, token_trees}
+use Rattle.oai_documents.specs.DocumentTrees.{answer_tree, argument_attribute, arguments, container_tree, content_trees, document_tree, error_tree, extent, format_tree, formats_tree, header_tree, headers_tree, identify_tree, record_tree, records_tree, request_tree, root_attributes, set_tree, sets_tree, status, token_trees, trees_behind_header}
 use Rattle.oai_answers.specs.MetadataTrees.{declared_attributes, declared_tree, dublin_core_attributes, dublin_core_tree, element_tree, field_tree, fields_tree, instance_namespace, metadata_tree, tree_or}
-use Rattle.oai_answers.proofs.NamedTrees.{canonical_so, kept_so}
+use Rattle.oai_answers.proofs.NamedTrees.{about_own, canonical_so, kept_so, listed_among, listed_own}
 use Rattle.oai_answers.proofs.Written.{in_order_spelled}
 use Rattle.oai_documents.specs.Texts.{have_legal_arguments, is_legal_argument, is_legal_field, is_legal_format, is_legal_item, is_legal_record}
 use Rattle.oai_documents.proofs.Names.{all_further, rule_name}
@@ -341,22 +342,38 @@ fields_fine format fields good is all = by_test (bytes_eq format.prefix (codes "
 element_fine : (fields : Tree) (text : List ℕ) (e : IsElement text) → IsText text → IsFine (tree_or fields (tree_in text))
 element_fine fields text e is = ap (λ o. is_fine (tree_or fields o)) (tree_again text e.0 e.1) ∙ ap is_legal_text (sym e.1.bytes_are) ∙ is
 
-only_listed : (b : Bool) → (b || false) ≡ true → b ≡ true
-only_listed true h = refl
-only_listed false h = h
+-- the fields that are the record itself, and the elements about it
+content_and_about : (fields : List Field) → list_all is_legal_field fields ≡ true → (list_all is_legal_field (content_in fields) ≡ true) × (list_all is_legal_text (about_in fields) ≡ true)
+content_and_about fields all =
+    let parts = and_parts (list_all is_legal_field (content_in fields)) (list_all is_legal_field (behind_content fields))
+    (sym (list_all-append is_legal_field (content_in fields) (behind_content fields)) ∙ ap (list_all is_legal_field) (content_and_behind fields) ∙ all) in
+    (parts.0, all-map (λ (field : Field). field.text) is_legal_text (behind_content fields) ∙ parts.1)
 
-metadata_fine : (format : Format) (fields : List Field) → IsGoodFormat format → is_legal_format format ≡ true → are_fields_of (Some format) fields ≡ true → list_all is_legal_field fields ≡ true
+metadata_fine : (format : Format) (fields : List Field) → IsGoodFormat format → is_legal_format format ≡ true → are_fields_of (Some format) fields ≡ true → list_all is_legal_field (content_in fields) ≡ true
     → IsFine (metadata_tree format fields)
 unfolding metadata_tree
 metadata_fine format fields good is own all = by_element (element_in fields) refl
   where
-    by_element : (o : Option (List ℕ)) → element_in fields ≡ o → IsFine (tree_or (fields_tree format fields) (option_and_then tree_in o))
+    by_element : (o : Option (List ℕ)) → element_in fields ≡ o → IsFine (tree_or (fields_tree format (content_in fields)) (option_and_then tree_in o))
     by_element None none =
-        let listed : are_listed_in format fields ≡ true = only_listed (are_listed_in format fields) (ap (λ o. are_listed_in format fields || keeps_element_of format o) (sym none) ∙ own) in
-        fields_fine format fields good is (all_and is_named_field is_legal_field fields (fields_named format fields good listed) all)
+        let named = fields_named format (content_in fields) good (listed_among format (content_in fields) (listed_own format fields none own)) in
+        fields_fine format (content_in fields) good is (all_and is_named_field is_legal_field (content_in fields) named all)
     by_element (Some text) found =
-        let legal_so : (is_legal_text text && true) ≡ true = ap (list_all is_legal_field) (sym (kept_element fields text found)) ∙ all in
-        element_fine (fields_tree format fields) text (element_tested text (canonical_so format text (kept_so format fields text good found own))) (and_parts (is_legal_text text) true legal_so).0
+        let legal_so : (is_legal_text text && true) ≡ true = ap (list_all is_legal_field) (sym (kept_element (content_in fields) text found)) ∙ all in
+        element_fine (fields_tree format (content_in fields)) text (element_tested text (canonical_so format text (kept_so format fields text found own))) (and_parts (is_legal_text text) true legal_so).0
+
+-- ---- containers of elements
+
+container_fine : (name text : List ℕ) → list_all is_plain name ≡ true → (is_canonical text && is_legal_text text) ≡ true → IsFine (container_tree name text)
+unfolding container_tree
+container_fine name text is fit =
+    let parts = and_parts (is_canonical text) (is_legal_text text) fit in
+    fine_parent name (element_tree text ∷ []) is (both (element_fine (bare_parent [] []) text (element_tested text parts.0) parts.1) refl)
+
+containers_fine : (name : List ℕ) (texts : List (List ℕ)) → list_all is_plain name ≡ true → list_all is_canonical texts ≡ true → list_all is_legal_text texts ≡ true
+    → list_all is_fine (map (container_tree name) texts) ≡ true
+containers_fine name texts is regular all =
+    each_fine (container_tree name) (λ text. is_canonical text && is_legal_text text) (λ text fit. container_fine name text is fit) texts (all_and is_canonical is_legal_text texts regular all)
 
 -- ---- headers and records
 
@@ -386,9 +403,17 @@ found_legal prefix (r ∷ records) all =
     by_test true here later = here
     by_test false here later = later
 
+content_fine : (format : Format) (fields : List Field) → IsGoodFormat format → is_legal_format format ≡ true → are_fields_of (Some format) fields ≡ true → list_all is_legal_field fields ≡ true
+    → list_all is_fine (content_trees format fields) ≡ true
+unfolding content_trees
+content_fine format fields good is own all =
+    let parts = content_and_about fields all in
+    both (fine_parent (codes "metadata") (metadata_tree format fields ∷ []) refl (both (metadata_fine format fields good is own parts.0) refl))
+    (containers_fine (codes "about") (about_in fields) refl (about_own format fields own) parts.1)
+
 part_fine : (format : Format) (item : ItemState) → IsGoodFormat format → is_legal_format format ≡ true → has_own_fields format item ≡ true → is_legal_item item ≡ true
-    → list_all is_fine (metadata_parts format item) ≡ true
-unfolding metadata_parts
+    → list_all is_fine (trees_behind_header format item) ≡ true
+unfolding trees_behind_header
 part_fine format item good is own legal_so = by_test item.live
   where
     fields : List Field
@@ -398,8 +423,8 @@ part_fine format item good is own legal_so = by_test item.live
     all =
         (found_legal format.prefix item.formats (and_parts (is_legal_text item.identifier && list_all is_legal_text item.sets) (list_all is_legal_record item.formats) legal_so).1)
 
-    by_test : (b : Bool) → list_all is_fine (cond b (bare_parent (codes "metadata") (metadata_tree format fields ∷ []) ∷ []) []) ≡ true
-    by_test true = both (fine_parent (codes "metadata") (metadata_tree format fields ∷ []) refl (both (metadata_fine format fields good is own all) refl)) refl
+    by_test : (b : Bool) → list_all is_fine (cond b (content_trees format fields) []) ≡ true
+    by_test true = content_fine format fields good is own all
     by_test false = refl
 
 abbrev is_good_item : Format → ItemState → Bool
@@ -409,7 +434,7 @@ record_fine : (granularity : Granularity) (format : Format) (item : ItemState) �
 unfolding record_tree
 record_fine granularity format item good is so =
     let parts = and_parts (has_own_fields format item) (is_legal_item item) so in
-    fine_parent (codes "record") (header_tree granularity item ∷ metadata_parts format item) refl (both (header_fine granularity item parts.1) (part_fine format item good is parts.0 parts.1))
+    fine_parent (codes "record") (header_tree granularity item ∷ trees_behind_header format item) refl (both (header_fine granularity item parts.1) (part_fine format item good is parts.0 parts.1))
 
 -- ---- lists
 
@@ -450,17 +475,6 @@ records_fine format page good is own all token =
 
 -- ---- Identify, with the elements that describe the repository
 
-container_fine : (name text : List ℕ) → list_all is_plain name ≡ true → (is_canonical text && is_legal_text text) ≡ true → IsFine (container_tree name text)
-unfolding container_tree
-container_fine name text is fit =
-    let parts = and_parts (is_canonical text) (is_legal_text text) fit in
-    fine_parent name (element_tree text ∷ []) is (both (element_fine (bare_parent [] []) text (element_tested text parts.0) parts.1) refl)
-
-descriptions_fine : (name : List ℕ) (texts : List (List ℕ)) → list_all is_plain name ≡ true → list_all is_canonical texts ≡ true → list_all is_legal_text texts ≡ true
-    → list_all is_fine (map (container_tree name) texts) ≡ true
-descriptions_fine name texts is regular all =
-    each_fine (container_tree name) (λ text. is_canonical text && is_legal_text text) (λ text fit. container_fine name text is fit) texts (all_and is_canonical is_legal_text texts regular all)
-
 identify_fine : (base : List ℕ) (d : Description) → IsText base → IsText d.name → list_all is_legal_text d.addresses ≡ true → list_all is_canonical d.descriptions ≡ true
     → list_all is_legal_text d.descriptions ≡ true → IsFine (identify_tree base d)
 unfolding identify_tree
@@ -468,7 +482,7 @@ identify_fine base d url name all regular its =
     let addresses = each_fine (bare_leaf (codes "adminEmail")) is_legal_text (λ a is. fine_leaf (codes "adminEmail") a refl is) d.addresses all in
     let last = both (fine_leaf (codes "earliestDatestamp") (datestamp_text d.granularity d.earliest) refl (datestamp_legal d.granularity d.earliest))
     (both (fine_leaf (codes "deletedRecord") (deleted_text d.deleted) refl (deleted_legal d.deleted))
-    (both (fine_leaf (codes "granularity") (granularity_text d.granularity) refl (granularity_legal d.granularity)) (descriptions_fine (codes "description") d.descriptions refl regular its))) in
+    (both (fine_leaf (codes "granularity") (granularity_text d.granularity) refl (granularity_legal d.granularity)) (containers_fine (codes "description") d.descriptions refl regular its))) in
     fine_parent (codes "Identify") _ refl
     (both (fine_leaf (codes "repositoryName") d.name refl name)
     (both (fine_leaf (codes "baseURL") base refl url)
@@ -487,7 +501,7 @@ set_fine set fit =
     let two = and_parts (is_legal_text set.spec) (is_legal_text set.name) three.0 in
     fine_parent (codes "set") _ refl
     (both (fine_leaf (codes "setSpec") set.spec refl two.0)
-    (both (fine_leaf (codes "setName") set.name refl two.1) (descriptions_fine (codes "setDescription") set.descriptions refl both_parts.0 three.1)))
+    (both (fine_leaf (codes "setName") set.name refl two.1) (containers_fine (codes "setDescription") set.descriptions refl both_parts.0 three.1)))
 
 sets_fine : (sets : List DescribedSet) → list_all has_elements sets ≡ true → list_all is_legal_described sets ≡ true → IsFine (sets_tree sets)
 unfolding sets_tree

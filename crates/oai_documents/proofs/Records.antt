@@ -1,28 +1,28 @@
 -- Records, lists, tokens and documents are the spellings of their trees.
-use Rattle.std.proofs.Common.{◌≡◌, ◌∙◌, ℕ, Bool, true, false, cond, List, [], ◌∷◌, ◌++◌, map, codes, refl, sym, ap, append_assoc, append-nil}
+use Rattle.std.proofs.Common.{◌≡◌, ◌∙◌, ℕ, Bool, true, false, cond, List, [], ◌∷◌, ◌++◌, map, codes, Some, refl, sym, ap, append_assoc, append-nil}
 use Rattle.std.specs.Fmt.{decimal}
 use Rattle.std.specs.List.{flat_map, list_all}
 use Rattle.std.proofs.lemmas.Bool.{and_parts}
 use Rattle.oai_names.specs.Escapes.{escaped, escaped_text}
 use Rattle.oai_time.specs.TimeTexts.{datestamp_text, second_text}
 use Rattle.oai_time.specs.declared.granularity.Granularity.{Granularity}
-use Rattle.oai_item.specs.Elements.{element_in}
-use Rattle.oai_item.specs.Givens.{is_none_or_canonical}
+use Rattle.oai_item.specs.Elements.{about_in}
 use Rattle.oai_item.specs.Item.{ItemState, fields_in}
+use Rattle.oai_item.specs.Known.{are_fields_of}
 use Rattle.oai_item.specs.declared.fields.Field.{Field}
 use Rattle.oai_item.specs.declared.formats.Format.{Format}
 use Rattle.oai_xml.specs.Trees.{Attribute, Tree, spelled, spelled_attribute, start_tag}
 use Rattle.oai_answers.specs.Answers.{Continuation, Document, Page, VerbAnswer, completes, fails, gives_record, identifies, lists_formats, lists_headers, lists_records, lists_sets, remains, whole}
-use Rattle.oai_answers.specs.Documents.{answer_element, document, extent_attributes, get_record_element, head, header_element, header_start, identifiers_element, metadata, metadata_part, record_element, records_element, request_element, token_element}
+use Rattle.oai_answers.specs.Documents.{answer_element, behind_header, document, extent_attributes, get_record_element, head, header_element, header_start, identifiers_element, metadata, record_content, record_element, records_element, request_element, token_element}
 use Rattle.oai_answers.specs.Markup.{element, end_tag, plain, spelled_attribute as marked_attribute, text_element}
 use Rattle.oai_answers.specs.declared.tokens.Extent.{Extent}
 use Rattle.oai_answers.specs.ElementParts.{bare_leaf, bare_parent, element_attribute, leaf}
-use Rattle.oai_documents.specs.DocumentTrees.{answer_tree, document_tree, extent, header_tree, headers_tree, line_end, metadata_parts, record_tree, records_tree, request_tree, root_attributes, status, token_trees, xml_declaration}
+use Rattle.oai_documents.specs.DocumentTrees.{answer_tree, container_tree, content_trees, document_tree, extent, header_tree, headers_tree, line_end, record_tree, records_tree, request_tree, root_attributes, status, token_trees, trees_behind_header, xml_declaration}
 use Rattle.oai_answers.specs.MetadataTrees.{instance_namespace, metadata_tree}
 use Rattle.oai_answers.specs.Seen.{IsGoodFormat, IsRegular, has_own_fields}
 use Rattle.oai_answers.proofs.ElementLemmas.{metadata_written}
-use Rattle.oai_answers.proofs.NamedTrees.{canonical_own}
-use Rattle.oai_documents.proofs.Parts.{error_written, formats_written, identify_written, request_written, sets_written}
+use Rattle.oai_answers.proofs.NamedTrees.{about_own, canonical_own}
+use Rattle.oai_documents.proofs.Parts.{containers_written, error_written, formats_written, identify_written, request_written, sets_written}
 use Rattle.oai_documents.proofs.Unescaped.{datestamp_free, decimal_free, free_text, free_value, second_free}
 use Rattle.oai_answers.proofs.Written.{attribute_as, bare_leaf_written, bare_parent_written, each_written, leaf_written, one_attribute, only, parent_written, plain_leaf_written, start_written, then_attributes, then_more, then_one}
 
@@ -49,24 +49,32 @@ header_written granularity item =
     (flat_map (text_element (codes "setSpec")) item.sets) (end_tag (codes "header"))
     ∙ parent_written (header_start item.live) _ (codes "header") (status item.live) (identifier ∷ datestamp ∷ sets) (header_begun item.live) three
 
-part_written : (format : Format) (item : ItemState) → is_none_or_canonical (element_in (fields_in format.prefix item.formats)) ≡ true → metadata_part format item ≡ flat_map spelled (metadata_parts format item)
-unfolding metadata_part metadata_parts
-part_written format item canonical = by_test item.live
+content_written : (format : Format) (fields : List Field) → IsGoodFormat format → are_fields_of (Some format) fields ≡ true → record_content format fields ≡ flat_map spelled (content_trees format fields)
+unfolding record_content content_trees
+content_written format fields good own =
+    let inside : Tree = bare_parent (codes "metadata") (metadata_tree format fields ∷ []) in
+    let about : List Tree = map (container_tree (codes "about")) (about_in fields) in
+    let one = only _ inside (bare_parent_written (codes "metadata") (metadata format fields) (metadata_tree format fields ∷ [])
+    (only _ (metadata_tree format fields) (metadata_written format fields (canonical_own format fields good own)))) in
+    then_more _ _ (inside ∷ []) about one (containers_written (codes "about") (about_in fields) (about_own format fields own))
+
+part_written : (format : Format) (item : ItemState) → IsGoodFormat format → has_own_fields format item ≡ true → behind_header format item ≡ flat_map spelled (trees_behind_header format item)
+unfolding behind_header trees_behind_header
+part_written format item good own = by_test item.live
   where
     fields : List Field
     fields = fields_in format.prefix item.formats
 
-    by_test : (b : Bool) → cond b (element (codes "metadata") (metadata format fields)) [] ≡ flat_map spelled (cond b (bare_parent (codes "metadata") (metadata_tree format fields ∷ []) ∷ []) [])
-    by_test true = only _ (bare_parent (codes "metadata") (metadata_tree format fields ∷ []))
-        (bare_parent_written (codes "metadata") (metadata format fields) (metadata_tree format fields ∷ []) (only _ (metadata_tree format fields) (metadata_written format fields canonical)))
+    by_test : (b : Bool) → cond b (record_content format fields) [] ≡ flat_map spelled (cond b (content_trees format fields) [])
+    by_test true = content_written format fields good own
     by_test false = refl
 
-record_written : (granularity : Granularity) (format : Format) (item : ItemState) → is_none_or_canonical (element_in (fields_in format.prefix item.formats)) ≡ true → record_element granularity format item ≡ spelled (record_tree granularity format item)
+record_written : (granularity : Granularity) (format : Format) (item : ItemState) → IsGoodFormat format → has_own_fields format item ≡ true → record_element granularity format item ≡ spelled (record_tree granularity format item)
 unfolding record_element record_tree
-record_written granularity format item canonical =
+record_written granularity format item good own =
     let header = only _ (header_tree granularity item) (header_written granularity item) in
-    bare_parent_written (codes "record") _ (header_tree granularity item ∷ metadata_parts format item)
-    (then_more _ _ (header_tree granularity item ∷ []) (metadata_parts format item) header (part_written format item canonical))
+    bare_parent_written (codes "record") _ (header_tree granularity item ∷ trees_behind_header format item)
+    (then_more _ _ (header_tree granularity item ∷ []) (trees_behind_header format item) header (part_written format item good own))
 
 -- ---- tokens
 
@@ -116,7 +124,7 @@ each_record : (granularity : Granularity) (format : Format) (items : List ItemSt
 each_record granularity format [] good own = refl
 each_record granularity format (item ∷ items) good own =
     let parts = and_parts (has_own_fields format item) (list_all (has_own_fields format) items) own in
-    ap (λ (w : List ℕ). w ++ flat_map (record_element granularity format) items) (record_written granularity format item (canonical_own format (fields_in format.prefix item.formats) good parts.0))
+    ap (λ (w : List ℕ). w ++ flat_map (record_element granularity format) items) (record_written granularity format item good parts.0)
     ∙ ap (λ (w : List ℕ). spelled (record_tree granularity format item) ++ w) (each_record granularity format items good parts.1)
 
 records_written : (format : Format) (page : Page) → IsGoodFormat format → list_all (has_own_fields format) page.items ≡ true → records_element format page ≡ spelled (records_tree format page)
@@ -136,7 +144,7 @@ answer_written base (identifies d) regular = identify_written base d regular
 answer_written base (lists_formats formats) regular = formats_written formats
 answer_written base (lists_sets sets) regular = sets_written sets regular
 answer_written base (gives_record d) regular =
-    bare_parent_written (codes "GetRecord") _ (record_tree d.granularity d.format d.item ∷ []) (only _ (record_tree d.granularity d.format d.item) (record_written d.granularity d.format d.item (canonical_own d.format (fields_in d.format.prefix d.item.formats) regular.0 regular.1)))
+    bare_parent_written (codes "GetRecord") _ (record_tree d.granularity d.format d.item ∷ []) (only _ (record_tree d.granularity d.format d.item) (record_written d.granularity d.format d.item regular.0 regular.1))
 answer_written base (lists_headers page) regular = headers_written page
 answer_written base (lists_records format page) regular = records_written format page regular.0 regular.1
 

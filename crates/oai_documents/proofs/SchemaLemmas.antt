@@ -10,7 +10,7 @@ use Rattle.oai_names.specs.Names.{is_among}
 use Rattle.oai_time.specs.TimeTexts.{datestamp_text, second_text}
 use Rattle.oai_time.specs.declared.granularity.Granularity.{Granularity}
 use Rattle.oai_time.specs.declared.granularity.Granularity.TheVariants.{Day, Second}
-use Rattle.oai_item.specs.Elements.{element_in, has_root_of, is_element_of, is_root_of, root_in}
+use Rattle.oai_item.specs.Elements.{about_in, content_in, element_in, has_root_of, is_element_of, is_root_of, root_in}
 use Rattle.oai_item.specs.Formats.{dublin_core}
 use Rattle.oai_item.specs.Item.{ItemState, fields_in}
 use Rattle.oai_item.specs.Known.{are_fields_of}
@@ -35,14 +35,14 @@ use Rattle.oai_answers.proofs.NamedTrees.{kept_so}
 use Rattle.oai_answers.specs.declared.errors.ErrorCode.{ErrorCode}
 use Rattle.oai_answers.specs.declared.errors.ErrorCode.TheVariants.{BadVerb, BadArgument, BadResumptionToken, CannotDisseminateFormat, IdDoesNotExist, NoRecordsMatch, NoMetadataFormats, NoSetHierarchy}
 use Rattle.oai_answers.specs.ElementParts.{bare_leaf, bare_parent}
-use Rattle.oai_documents.specs.DocumentTrees.{answer_tree, container_tree, document_tree, error_tree, extent, format_tree, formats_tree, header_tree, headers_tree, identify_tree, metadata_parts, record_tree, records_tree, request_tree, root_attributes, set_tree, sets_tree, status, token_trees}
+use Rattle.oai_documents.specs.DocumentTrees.{answer_tree, container_tree, content_trees, document_tree, error_tree, extent, format_tree, formats_tree, header_tree, headers_tree, identify_tree, record_tree, records_tree, request_tree, root_attributes, set_tree, sets_tree, status, token_trees, trees_behind_header}
 use Rattle.oai_answers.specs.MetadataTrees.{declared_attributes, declared_tree, dublin_core_attributes, dublin_core_tree, element_tree, fields_tree, instance_namespace, metadata_tree, tree_or}
 use Rattle.oai_documents.specs.Schema.{Any, AreAnswerElements, IsContainer, IsError, IsForeign, IsFormatElement, IsFormats, IsHeader, IsHeaders, IsIdentify, IsOfSchema, IsOneOf, IsRecord, IsRecords, IsRequestElement, IsSet, IsSets, IsTextElement, IsTokenElement, One, Optional, Several, ◌⨾◌, error_codes, oai_namespace}
-use Rattle.oai_documents.specs.WellFormed.{HasMembers, has_root_in, HasNamespace, IsFilled, is_foreign}
+use Rattle.oai_documents.specs.WellFormed.{HasAboutIn, HasMembers, has_about_in, has_root_in, HasNamespace, IsFilled, is_foreign}
 use Rattle.oai_documents.proofs.Arguments.{all_chosen, are_given, argument_names, names_given}
 use Rattle.oai_documents.proofs.Names.{no_prefix, rule_name}
 use Rattle.oai_documents.proofs.Scopes.{instance_scope}
-use Rattle.oai_documents.proofs.WholeTrees.{allowed_names, dublin_core_known}
+use Rattle.oai_documents.proofs.WholeTrees.{all_both, allowed_names, dublin_core_known}
 
 -- ---- particles
 
@@ -294,9 +294,9 @@ metadata_foreign : (format : Format) (fields : List Field) → IsGoodFormat form
 unfolding metadata_tree
 metadata_foreign format fields good other own = by_element (element_in fields) refl
   where
-    by_element : (o : Option (List ℕ)) → element_in fields ≡ o → IsForeign (tree_or (fields_tree format fields) (option_and_then tree_in o))
-    by_element None is = fields_foreign format fields good other
-    by_element (Some text) is = element_foreign format (fields_tree format fields) text good other (kept_so format fields text good is own)
+    by_element : (o : Option (List ℕ)) → element_in fields ≡ o → IsForeign (tree_or (fields_tree format (content_in fields)) (option_and_then tree_in o))
+    by_element None is = fields_foreign format (content_in fields) good other
+    by_element (Some text) is = element_foreign format (fields_tree format (content_in fields)) text good other (kept_so format fields text is own)
 
 -- ---- headers and records
 
@@ -317,32 +317,40 @@ header_is granularity item = record {
   );
 }
 
-part_is : (format : Format) (item : ItemState) → IsGoodFormat format → bytes_eq format.namespace oai_namespace ≡ false → has_own_fields format item ≡ true
-    → (Optional (IsContainer (codes "metadata")) ⨾ Any (IsContainer (codes "about"))) (metadata_parts format item)
-unfolding metadata_parts
-part_is format item good other own = by_test item.live
+content_is : (format : Format) (fields : List Field) → IsGoodFormat format → bytes_eq format.namespace oai_namespace ≡ false → are_fields_of (Some format) fields ≡ true
+    → list_all (has_root_in is_foreign) (about_in fields) ≡ true → (Optional (IsContainer (codes "metadata")) ⨾ Any (IsContainer (codes "about"))) (content_trees format fields)
+unfolding content_trees
+content_is format fields good other own about = (inside ∷ [], map (container_tree (codes "about")) (about_in fields), refl, inr (inside, refl, contained), containers_are (codes "about") (about_in fields) about)
   where
-    it : Tree
-    it = bare_parent (codes "metadata") (metadata_tree format (fields_in format.prefix item.formats) ∷ [])
+    inside : Tree
+    inside = bare_parent (codes "metadata") (metadata_tree format fields ∷ [])
 
-    contained : IsContainer (codes "metadata") it
+    contained : IsContainer (codes "metadata") inside
     contained = record {
       name_is = refl;
       attributes = refl;
-      children = (_, refl, (metadata_tree format (fields_in format.prefix item.formats), refl, metadata_foreign format (fields_in format.prefix item.formats) good other own));
+      children = (_, refl, (metadata_tree format fields, refl, metadata_foreign format fields good other own));
     }
 
-    by_test : (b : Bool) → (Optional (IsContainer (codes "metadata")) ⨾ Any (IsContainer (codes "about"))) (cond b (it ∷ []) [])
-    by_test true = (it ∷ [], [], refl, inr (it, refl, contained), tt)
+part_is : (format : Format) (item : ItemState) → IsGoodFormat format → bytes_eq format.namespace oai_namespace ≡ false → has_own_fields format item ≡ true → has_about_in is_foreign format item ≡ true
+    → (Optional (IsContainer (codes "metadata")) ⨾ Any (IsContainer (codes "about"))) (trees_behind_header format item)
+unfolding trees_behind_header
+part_is format item good other own about = by_test item.live
+  where
+    fields : List Field
+    fields = fields_in format.prefix item.formats
+
+    by_test : (b : Bool) → (Optional (IsContainer (codes "metadata")) ⨾ Any (IsContainer (codes "about"))) (cond b (content_trees format fields) [])
+    by_test true = content_is format fields good other own about
     by_test false = ([], [], refl, inl refl, tt)
 
 record_is : (granularity : Granularity) (format : Format) (item : ItemState) → IsGoodFormat format → bytes_eq format.namespace oai_namespace ≡ false → has_own_fields format item ≡ true
-    → IsRecord (record_tree granularity format item)
+    → has_about_in is_foreign format item ≡ true → IsRecord (record_tree granularity format item)
 unfolding record_tree
-record_is granularity format item good other own = record {
+record_is granularity format item good other own about = record {
   name_is = refl;
   attributes = refl;
-  children = (header_tree granularity item ∷ metadata_parts format item, refl, first_one _ _ _ _ (header_is granularity item) (part_is format item good other own));
+  children = (header_tree granularity item ∷ trees_behind_header format item, refl, first_one _ _ _ _ (header_is granularity item) (part_is format item good other own about));
 }
 
 -- ---- lists
@@ -367,9 +375,9 @@ headers_are page some =
     }
 
 records_are : (format : Format) (page : Page) → IsGoodFormat format → bytes_eq format.namespace oai_namespace ≡ false → HasMembers page.items → list_all (has_own_fields format) page.items ≡ true
-    → IsRecords (records_tree format page)
+    → list_all (has_about_in is_foreign format) page.items ≡ true → IsRecords (records_tree format page)
 unfolding records_tree
-records_are format page good other some own =
+records_are format page good other some own about =
     let records : List Tree = map (record_tree page.granularity format) page.items in record {
       name_is = refl;
       attributes = refl;
@@ -380,7 +388,9 @@ records_are format page good other some own =
           records,
           token_trees page.continuation,
           refl,
-          several_good IsRecord (record_tree page.granularity format) (has_own_fields format) (λ item own. record_is page.granularity format item good other own) page.items some own,
+          several_good IsRecord (record_tree page.granularity format) (λ item. has_own_fields format item && has_about_in is_foreign format item)
+              (λ item is. let parts = and_parts (has_own_fields format item) (has_about_in is_foreign format item) is in record_is page.granularity format item good other parts.0 parts.1)
+              page.items some (all_both (has_own_fields format) (has_about_in is_foreign format) page.items own about),
           token_is page.continuation,
         ),
       );
@@ -395,33 +405,33 @@ not_own namespace is = first (bytes_eq namespace oai_namespace) (bytes_eq namesp
     first true none h = sym h
     first false none h = refl
 
-answer_is : (base : List ℕ) (answer : VerbAnswer) → IsRegular answer → IsFilled answer → HasNamespace is_foreign answer → AreAnswerElements (answer_tree base answer ∷ [])
+answer_is : (base : List ℕ) (answer : VerbAnswer) → IsRegular answer → IsFilled answer → HasNamespace is_foreign answer → HasAboutIn is_foreign answer → AreAnswerElements (answer_tree base answer ∷ [])
 unfolding answer_tree
-answer_is base (fails code) regular filled other = inl (error_is code, tt)
-answer_is base (identifies d) regular filled other = inr (inl (identify_tree base d, refl, identify_is base d filled other))
-answer_is base (lists_formats formats) regular filled other = inr (inr (inl (formats_tree formats, refl, formats_are formats filled)))
-answer_is base (lists_sets sets) regular filled other = inr (inr (inr (inl (sets_tree sets, refl, sets_are sets filled other))))
-answer_is base (gives_record d) regular filled other =
+answer_is base (fails code) regular filled other about = inl (error_is code, tt)
+answer_is base (identifies d) regular filled other about = inr (inl (identify_tree base d, refl, identify_is base d filled other))
+answer_is base (lists_formats formats) regular filled other about = inr (inr (inl (formats_tree formats, refl, formats_are formats filled)))
+answer_is base (lists_sets sets) regular filled other about = inr (inr (inr (inl (sets_tree sets, refl, sets_are sets filled other))))
+answer_is base (gives_record d) regular filled other about =
     inr (inr (inr (inr (inl (
       _,
       refl,
       record {
         name_is = refl;
         attributes = refl;
-        children = (_, refl, (record_tree d.granularity d.format d.item, refl, record_is d.granularity d.format d.item regular.0 (not_own d.format.namespace other) regular.1));
+        children = (_, refl, (record_tree d.granularity d.format d.item, refl, record_is d.granularity d.format d.item regular.0 (not_own d.format.namespace other) regular.1 about));
       },
     )))))
-answer_is base (lists_headers page) regular filled other = inr (inr (inr (inr (inr (inl (headers_tree page, refl, headers_are page filled))))))
-answer_is base (lists_records format page) regular filled other = inr (inr (inr (inr (inr (inr (records_tree format page, refl, records_are format page regular.0 (not_own format.namespace other) filled regular.1))))))
+answer_is base (lists_headers page) regular filled other about = inr (inr (inr (inr (inr (inl (headers_tree page, refl, headers_are page filled))))))
+answer_is base (lists_records format page) regular filled other about = inr (inr (inr (inr (inr (inr (records_tree format page, refl, records_are format page regular.0 (not_own format.namespace other) filled regular.1 about))))))
 
-pub document_is : (d : Document) → IsRegular d.answer → IsFilled d.answer → HasNamespace is_foreign d.answer → IsOfSchema (document_tree d)
+pub document_is : (d : Document) → IsRegular d.answer → IsFilled d.answer → HasNamespace is_foreign d.answer → HasAboutIn is_foreign d.answer → IsOfSchema (document_tree d)
 unfolding document_tree root_attributes
-document_is d regular filled other = record {
+document_is d regular filled other about = record {
   name_is = refl;
   attributes = refl;
   children = (
     bare_leaf (codes "responseDate") (second_text d.date) ∷ request_tree d ∷ answer_tree d.base d.answer ∷ [],
     refl,
-    first_one _ _ _ _ (is_text (codes "responseDate") (second_text d.date)) (first_one _ _ _ _ (request_is d) (answer_is d.base d.answer regular filled other)),
+    first_one _ _ _ _ (is_text (codes "responseDate") (second_text d.date)) (first_one _ _ _ _ (request_is d) (answer_is d.base d.answer regular filled other about)),
   );
 }

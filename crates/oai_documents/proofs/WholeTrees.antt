@@ -11,9 +11,9 @@ use Rattle.oai_names.proofs.Lists.{all-weaker}
 use Rattle.oai_time.specs.TimeTexts.{datestamp_text, second_text}
 use Rattle.oai_time.specs.declared.granularity.Granularity.{Granularity}
 use Rattle.oai_item.specs.Formats.{dublin_core}
-use Rattle.oai_item.specs.Elements.{element_in, keeps_element_of}
+use Rattle.oai_item.specs.Elements.{about_in, content_in, element_in}
 use Rattle.oai_item.specs.Item.{ItemState, fields_in}
-use Rattle.oai_item.specs.Known.{are_fields_of, are_listed_in}
+use Rattle.oai_item.specs.Known.{are_fields_of}
 use Rattle.oai_item.specs.Rules.{are_names, are_uris, has_few_fields, has_repeat, is_allowed, is_name}
 use Rattle.oai_item.specs.declared.fields.Field.{Field}
 use Rattle.oai_item.specs.declared.formats.Format.{Format}
@@ -31,10 +31,10 @@ use Rattle.oai_answers.specs.Seen.{IsGoodFormat, IsRegular, has_elements, has_ow
 use Rattle.oai_answers.specs.declared.errors.ErrorCode.{ErrorCode}
 use Rattle.oai_answers.specs.declared.tokens.Extent.{Extent}
 use Rattle.oai_answers.specs.ElementParts.{bare_leaf, bare_parent, element_attribute}
-use Rattle.oai_documents.specs.DocumentTrees.{answer_tree, arguments, container_tree, document_tree, error_tree, extent, format_tree, formats_tree, header_tree, headers_tree, identify_tree, metadata_parts, record_tree, records_tree, request_tree, root_attributes, set_tree, sets_tree, status, token_trees}
+use Rattle.oai_documents.specs.DocumentTrees.{answer_tree, arguments, container_tree, content_trees, document_tree, error_tree, extent, format_tree, formats_tree, header_tree, headers_tree, identify_tree, record_tree, records_tree, request_tree, root_attributes, set_tree, sets_tree, status, token_trees, trees_behind_header}
 use Rattle.oai_answers.specs.MetadataTrees.{declared_attributes, declared_tree, dublin_core_attributes, dublin_core_tree, element_tree, field_tree, fields_tree, metadata_tree, tree_or}
-use Rattle.oai_answers.proofs.NamedTrees.{canonical_so, kept_so}
-use Rattle.oai_documents.specs.WellFormed.{HasNamespace, HasFittingElements, fits_in_document, has_fitting_element, is_fitting, may_be_default}
+use Rattle.oai_answers.proofs.NamedTrees.{about_own, canonical_so, kept_so, listed_among, listed_own}
+use Rattle.oai_documents.specs.WellFormed.{HasNamespace, HasFittingElements, fits_in_document, has_fitting_content, has_fitting_elements, is_fitting, may_be_default}
 use Rattle.oai_documents.proofs.Deeper.{element_behind, element_behind_more}
 use Rattle.oai_documents.proofs.Names.{rule_name}
 use Rattle.oai_documents.proofs.Tags.{IsPlainTag, all_whole, and_others, bare_leaf_whole, bare_parent_whole, both, each_whole, leaf_by_tag, leaf_whole, parent_by_tag, parent_whole}
@@ -157,20 +157,45 @@ element_whole fields text e room =
     ap (λ o. is_whole_in 124 oai_scope (tree_or fields o)) (tree_again text e.0 e.1)
     ∙ element_behind oai_scope e.0 refl (ap (λ o. option_map_or fits_in_document o true) (sym (tree_again text e.0 e.1)) ∙ room) e.1.whole
 
-only_listed : (b : Bool) → (b || false) ≡ true → b ≡ true
-only_listed true h = refl
-only_listed false h = h
-
 metadata_whole : (format : Format) (fields : List Field) → IsGoodFormat format → is_reserved format.namespace ≡ false → are_fields_of (Some format) fields ≡ true
     → option_map_or fits_in_document (option_and_then tree_in (element_in fields)) true ≡ true → IsFine 124 (metadata_tree format fields)
 unfolding metadata_tree
 metadata_whole format fields good none own room = by_element (element_in fields) refl room
   where
     by_element : (o : Option (List ℕ)) → element_in fields ≡ o → option_map_or fits_in_document (option_and_then tree_in o) true ≡ true
-        → IsFine 124 (tree_or (fields_tree format fields) (option_and_then tree_in o))
+        → IsFine 124 (tree_or (fields_tree format (content_in fields)) (option_and_then tree_in o))
     by_element None is room =
-        fields_whole format fields good none (fields_named format fields good (only_listed (are_listed_in format fields) (ap (λ o. are_listed_in format fields || keeps_element_of format o) (sym is) ∙ own)))
-    by_element (Some text) is room = element_whole (fields_tree format fields) text (element_tested text (canonical_so format text (kept_so format fields text good is own))) room
+        fields_whole format (content_in fields) good none (fields_named format (content_in fields) good (listed_among format (content_in fields) (listed_own format fields is own)))
+    by_element (Some text) is room = element_whole (fields_tree format (content_in fields)) text (element_tested text (canonical_so format text (kept_so format fields text is own))) room
+
+-- ---- containers of elements
+
+pub all_both : {A : Type 0} (p q : A → Bool) (xs : List A) → list_all p xs ≡ true → list_all q xs ≡ true → list_all (λ x. p x && q x) xs ≡ true
+all_both p q [] one other = refl
+all_both p q (x ∷ xs) one other =
+    let first = and_parts (p x) (list_all p xs) one in
+    let second = and_parts (q x) (list_all q xs) other in
+    both (both first.0 second.0) (all_both p q xs first.1 second.1)
+
+-- an element is whole behind the declarations of the document, in a container
+element_fits : (text : List ℕ) → (is_canonical text && is_fitting text) ≡ true → IsFine 125 (element_tree text) × IsFine 124 (element_tree text)
+element_fits text fit =
+    let parts = and_parts (is_canonical text) (is_fitting text) fit in
+    let e = element_tested text parts.0 in
+    let found = tree_again text e.0 e.1 in
+    let room = ap (λ o. option_map_or fits_in_document o true) (sym found) ∙ parts.1 in (
+      ap (λ o. is_whole_in 125 oai_scope (tree_or (bare_parent [] []) o)) found ∙ element_behind_more oai_scope e.0 refl room e.1.whole,
+      ap (λ o. is_whole_in 124 oai_scope (tree_or (bare_parent [] []) o)) found ∙ element_behind oai_scope e.0 refl room e.1.whole,
+    )
+
+container_whole : (name text : List ℕ) → is_ascii_ncname name ≡ true → (is_canonical text && is_fitting text) ≡ true → IsFine 125 (container_tree name text)
+unfolding container_tree
+container_whole name text is fit = fine_parent 125 name (element_tree text ∷ []) refl is (both (element_fits text fit).1 refl)
+
+containers_whole : (name : List ℕ) (texts : List (List ℕ)) → is_ascii_ncname name ≡ true → list_all is_canonical texts ≡ true → list_all is_fitting texts ≡ true
+    → list_all (is_whole_in 125 oai_scope) (map (container_tree name) texts) ≡ true
+containers_whole name texts is regular room =
+    each_whole 125 oai_scope (container_tree name) (λ text. is_canonical text && is_fitting text) (λ text fit. container_whole name text is fit) texts (all_both is_canonical is_fitting texts regular room)
 
 -- ---- headers and records
 
@@ -187,22 +212,28 @@ header_whole levels some more granularity item =
     (both (fine_leaf (levels - 1) (codes "datestamp") (datestamp_text granularity item.stamp) more refl)
     (all_whole (levels - 1) oai_scope (bare_leaf (codes "setSpec")) (λ spec. fine_leaf (levels - 1) (codes "setSpec") spec more refl) item.sets)))
 
-part_whole : (format : Format) (item : ItemState) → IsGoodFormat format → is_reserved format.namespace ≡ false → has_own_fields format item ≡ true → has_fitting_element format item ≡ true
-    → list_all (is_whole_in 125 oai_scope) (metadata_parts format item) ≡ true
-unfolding metadata_parts
+content_whole : (format : Format) (fields : List Field) → IsGoodFormat format → is_reserved format.namespace ≡ false → are_fields_of (Some format) fields ≡ true → has_fitting_content fields ≡ true
+    → list_all (is_whole_in 125 oai_scope) (content_trees format fields) ≡ true
+unfolding content_trees
+content_whole format fields good none own room =
+    let parts = and_parts (option_map_or fits_in_document (option_and_then tree_in (element_in fields)) true) (list_all is_fitting (about_in fields)) room in
+    both (fine_parent 125 (codes "metadata") (metadata_tree format fields ∷ []) refl refl (both (metadata_whole format fields good none own parts.0) refl))
+    (containers_whole (codes "about") (about_in fields) refl (about_own format fields own) parts.1)
+
+part_whole : (format : Format) (item : ItemState) → IsGoodFormat format → is_reserved format.namespace ≡ false → has_own_fields format item ≡ true → has_fitting_elements format item ≡ true
+    → list_all (is_whole_in 125 oai_scope) (trees_behind_header format item) ≡ true
+unfolding trees_behind_header
 part_whole format item good none own room = by_test item.live
   where
-    by_test : (b : Bool) → list_all (is_whole_in 125 oai_scope) (cond b (bare_parent (codes "metadata") (metadata_tree format (fields_in format.prefix item.formats) ∷ []) ∷ []) []) ≡ true
-    by_test true =
-        both (fine_parent 125 (codes "metadata") (metadata_tree format (fields_in format.prefix item.formats) ∷ []) refl refl
-        (both (metadata_whole format (fields_in format.prefix item.formats) good none own room) refl)) refl
+    by_test : (b : Bool) → list_all (is_whole_in 125 oai_scope) (cond b (content_trees format (fields_in format.prefix item.formats)) []) ≡ true
+    by_test true = content_whole format (fields_in format.prefix item.formats) good none own room
     by_test false = refl
 
-record_whole : (granularity : Granularity) (format : Format) (item : ItemState) → IsGoodFormat format → is_reserved format.namespace ≡ false → has_own_fields format item ≡ true → has_fitting_element format item ≡ true
+record_whole : (granularity : Granularity) (format : Format) (item : ItemState) → IsGoodFormat format → is_reserved format.namespace ≡ false → has_own_fields format item ≡ true → has_fitting_elements format item ≡ true
     → IsFine 126 (record_tree granularity format item)
 unfolding record_tree
 record_whole granularity format item good none own room =
-    fine_parent 126 (codes "record") (header_tree granularity item ∷ metadata_parts format item) refl refl (both (header_whole 125 refl refl granularity item) (part_whole format item good none own room))
+    fine_parent 126 (codes "record") (header_tree granularity item ∷ trees_behind_header format item) refl refl (both (header_whole 125 refl refl granularity item) (part_whole format item good none own room))
 
 -- ---- lists
 
@@ -227,53 +258,26 @@ headers_whole page =
     fine_parent 127 (codes "ListIdentifiers") _ refl refl
     (and_others 126 oai_scope (map (header_tree page.granularity) page.items) (token_trees page.continuation) headers (token_whole page.continuation))
 
-all_both : {A : Type 0} (p q : A → Bool) (xs : List A) → list_all p xs ≡ true → list_all q xs ≡ true → list_all (λ x. p x && q x) xs ≡ true
-all_both p q [] one other = refl
-all_both p q (x ∷ xs) one other =
-    let first = and_parts (p x) (list_all p xs) one in
-    let second = and_parts (q x) (list_all q xs) other in
-    both (both first.0 second.0) (all_both p q xs first.1 second.1)
-
 records_whole : (format : Format) (page : Page) → IsGoodFormat format → is_reserved format.namespace ≡ false → list_all (has_own_fields format) page.items ≡ true
-    → list_all (has_fitting_element format) page.items ≡ true → IsFine 127 (records_tree format page)
+    → list_all (has_fitting_elements format) page.items ≡ true → IsFine 127 (records_tree format page)
 unfolding records_tree
 records_whole format page good none own room =
-    let records = each_whole 126 oai_scope (record_tree page.granularity format) (λ item. has_own_fields format item && has_fitting_element format item)
-    (λ item fit. let parts = and_parts (has_own_fields format item) (has_fitting_element format item) fit in record_whole page.granularity format item good none parts.0 parts.1)
-    page.items (all_both (has_own_fields format) (has_fitting_element format) page.items own room) in
+    let records = each_whole 126 oai_scope (record_tree page.granularity format) (λ item. has_own_fields format item && has_fitting_elements format item)
+    (λ item fit. let parts = and_parts (has_own_fields format item) (has_fitting_elements format item) fit in record_whole page.granularity format item good none parts.0 parts.1)
+    page.items (all_both (has_own_fields format) (has_fitting_elements format) page.items own room) in
     fine_parent 127 (codes "ListRecords") _ refl refl
     (and_others 126 oai_scope (map (record_tree page.granularity format) page.items) (token_trees page.continuation) records (token_whole page.continuation))
 
 -- ---- Identify, with the elements that describe the repository
 
--- an element is whole behind the declarations of the document, in a container
-element_fits : (text : List ℕ) → (is_canonical text && is_fitting text) ≡ true → IsFine 125 (element_tree text) × IsFine 124 (element_tree text)
-element_fits text fit =
-    let parts = and_parts (is_canonical text) (is_fitting text) fit in
-    let e = element_tested text parts.0 in
-    let found = tree_again text e.0 e.1 in
-    let room = ap (λ o. option_map_or fits_in_document o true) (sym found) ∙ parts.1 in (
-      ap (λ o. is_whole_in 125 oai_scope (tree_or (bare_parent [] []) o)) found ∙ element_behind_more oai_scope e.0 refl room e.1.whole,
-      ap (λ o. is_whole_in 124 oai_scope (tree_or (bare_parent [] []) o)) found ∙ element_behind oai_scope e.0 refl room e.1.whole,
-    )
-
 description_whole : (text : List ℕ) → (is_canonical text && is_fitting text) ≡ true → IsFine 126 (container_tree (codes "description") text)
 unfolding container_tree
 description_whole text fit = fine_parent 126 (codes "description") (element_tree text ∷ []) refl refl (both (element_fits text fit).0 refl)
-
-set_description_whole : (text : List ℕ) → (is_canonical text && is_fitting text) ≡ true → IsFine 125 (container_tree (codes "setDescription") text)
-unfolding container_tree
-set_description_whole text fit = fine_parent 125 (codes "setDescription") (element_tree text ∷ []) refl refl (both (element_fits text fit).1 refl)
 
 descriptions_whole : (texts : List (List ℕ)) → list_all is_canonical texts ≡ true → list_all is_fitting texts ≡ true
     → list_all (is_whole_in 126 oai_scope) (map (container_tree (codes "description")) texts) ≡ true
 descriptions_whole texts regular room =
     each_whole 126 oai_scope (container_tree (codes "description")) (λ text. is_canonical text && is_fitting text) description_whole texts (all_both is_canonical is_fitting texts regular room)
-
-set_descriptions_whole : (texts : List (List ℕ)) → list_all is_canonical texts ≡ true → list_all is_fitting texts ≡ true
-    → list_all (is_whole_in 125 oai_scope) (map (container_tree (codes "setDescription")) texts) ≡ true
-set_descriptions_whole texts regular room =
-    each_whole 125 oai_scope (container_tree (codes "setDescription")) (λ text. is_canonical text && is_fitting text) set_description_whole texts (all_both is_canonical is_fitting texts regular room)
 
 have_room : DescribedSet → Bool
 have_room set = list_all is_fitting set.descriptions
@@ -283,7 +287,7 @@ unfolding set_tree have_room
 set_whole set fit =
     let parts = and_parts (has_elements set) (list_all is_fitting set.descriptions) fit in
     fine_parent 126 (codes "set") _ refl refl
-    (both (fine_leaf 125 (codes "setSpec") set.spec refl refl) (both (fine_leaf 125 (codes "setName") set.name refl refl) (set_descriptions_whole set.descriptions parts.0 parts.1)))
+    (both (fine_leaf 125 (codes "setSpec") set.spec refl refl) (both (fine_leaf 125 (codes "setName") set.name refl refl) (containers_whole (codes "setDescription") set.descriptions refl parts.0 parts.1)))
 
 sets_whole : (sets : List DescribedSet) → list_all has_elements sets ≡ true → list_all (λ (set : DescribedSet). list_all is_fitting set.descriptions) sets ≡ true → IsFine 127 (sets_tree sets)
 unfolding sets_tree have_room

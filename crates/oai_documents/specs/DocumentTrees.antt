@@ -4,7 +4,9 @@ use Rattle.std.specs.Prelude.{ℕ, Bool, true, false, if◌then◌else◌, List,
 use Rattle.std.specs.Fmt.{decimal}
 use Rattle.oai_time.specs.TimeTexts.{datestamp_text, second_text}
 use Rattle.oai_time.specs.declared.granularity.Granularity.{Granularity}
+use Rattle.oai_item.specs.Elements.{about_in}
 use Rattle.oai_item.specs.Item.{ItemState, fields_in}
+use Rattle.oai_item.specs.declared.fields.Field.{Field}
 use Rattle.oai_item.specs.declared.formats.Format.{Format}
 use Rattle.oai_xml.specs.Trees.{Attribute, Tree}
 use Rattle.oai_answers.specs.Answers.{Attributes, Continuation, DescribedSet, Description, Document, Page, VerbAnswer, arguments_told, completes, fails, gives_record, identifies, lists_formats, lists_headers, lists_records, lists_sets, remains, whole}
@@ -93,17 +95,20 @@ header_tree granularity item = parent (codes "header") (status item.live)
     ∷ bare_leaf (codes "datestamp") (datestamp_text granularity item.stamp)
     ∷ map (bare_leaf (codes "setSpec")) item.sets)
 
--- what stands in a record behind its header: the metadata of a live record
-unfoldable pub metadata_parts : Format → ItemState → List Tree
-metadata_parts format item =
-    if item.live
-    then bare_parent (codes "metadata")
-    (metadata_tree format (fields_in format.prefix item.formats) ∷ []) ∷ []
-    else []
+-- a record behind its header: its metadata, and then each element about it
+unfoldable pub content_trees : Format → List Field → List Tree
+content_trees format fields =
+    bare_parent (codes "metadata") (metadata_tree format fields ∷ [])
+    ∷ map (container_tree (codes "about")) (about_in fields)
+
+-- what stands in a record behind its header, of the item's record in the format: a deleted record has its header alone
+unfoldable pub trees_behind_header : Format → ItemState → List Tree
+trees_behind_header format item =
+    if item.live then content_trees format (fields_in format.prefix item.formats) else []
 
 unfoldable pub record_tree : Granularity → Format → ItemState → Tree
 record_tree granularity format item =
-    bare_parent (codes "record") (header_tree granularity item ∷ metadata_parts format item)
+    bare_parent (codes "record") (header_tree granularity item ∷ trees_behind_header format item)
 
 -- ---- lists of headers and of records. Sections 3.5, 4.3 and 4.5
 

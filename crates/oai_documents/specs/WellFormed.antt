@@ -3,8 +3,9 @@ use Rattle.std.specs.Prelude.{◌≡◌, ℕ, suc, Bool, true, ◌||◌, ◌&&�
 use Rattle.std.specs.List.{list_all}
 use Rattle.std.specs.Option.{option_map_or}
 use Rattle.std.specs.Str.{bytes_eq}
-use Rattle.oai_item.specs.Elements.{element_in}
+use Rattle.oai_item.specs.Elements.{about_in, element_in}
 use Rattle.oai_item.specs.Item.{ItemState, fields_in}
+use Rattle.oai_item.specs.declared.fields.Field.{Field}
 use Rattle.oai_item.specs.declared.formats.Format.{Format}
 use Rattle.oai_answers.specs.Answers.{DescribedSet, VerbAnswer, fails, gives_record, identifies, lists_formats, lists_headers, lists_records, lists_sets}
 use Rattle.oai_answers.specs.MetadataTrees.{element_tree}
@@ -40,6 +41,20 @@ HasNamespace passes (gives_record d) = passes d.format.namespace ≡ true
 HasNamespace passes (lists_headers page) = Unit {0}
 HasNamespace passes (lists_records format page) = passes format.namespace ≡ true
 
+-- what is about records was deposited with them: the root of each element about the item's record in the format has a namespace that passes the test
+abbrev pub has_about_in : (List ℕ → Bool) → Format → ItemState → Bool
+has_about_in passes format item = list_all (has_root_in passes) (about_in (fields_in format.prefix item.formats))
+
+-- for each record in an answer
+abbrev pub HasAboutIn : (List ℕ → Bool) → VerbAnswer → Type 0
+HasAboutIn passes (fails code) = Unit {0}
+HasAboutIn passes (identifies d) = Unit {0}
+HasAboutIn passes (lists_formats formats) = Unit {0}
+HasAboutIn passes (lists_sets sets) = Unit {0}
+HasAboutIn passes (gives_record d) = has_about_in passes d.format d.item ≡ true
+HasAboutIn passes (lists_headers page) = Unit {0}
+HasAboutIn passes (lists_records format page) = list_all (has_about_in passes format) page.items ≡ true
+
 -- ---- elements that are records
 
 abbrev pub larger : ℕ → ℕ → ℕ
@@ -62,22 +77,26 @@ declarations_of (element name attributes inside rest) = larger (length (declared
 abbrev pub fits_in_document : Tree → Bool
 fits_in_document t = nat_le (levels_of t.content) 123 && nat_le (length (declared t.attributes) + declarations_of t.content) 126
 
-abbrev pub has_fitting_element : Format → ItemState → Bool
-has_fitting_element format item = option_map_or fits_in_document (option_and_then tree_in (element_in (fields_in format.prefix item.formats))) true
-
--- an element in a container, which has one element less around it
+-- an element in a container; around one that describes a repository stands one element less
 abbrev pub is_fitting : List ℕ → Bool
 is_fitting text = option_map_or fits_in_document (tree_in text) true
 
--- for each element that the answer shows as a record, or in a container
+-- the element that is a record, and those about it
+abbrev pub has_fitting_content : List Field → Bool
+has_fitting_content fields = option_map_or fits_in_document (option_and_then tree_in (element_in fields)) true && list_all is_fitting (about_in fields)
+
+abbrev pub has_fitting_elements : Format → ItemState → Bool
+has_fitting_elements format item = has_fitting_content (fields_in format.prefix item.formats)
+
+-- for each element that the answer shows as a record, about one, or as a description
 abbrev pub HasFittingElements : VerbAnswer → Type 0
 HasFittingElements (fails code) = Unit {0}
 HasFittingElements (identifies d) = list_all is_fitting d.descriptions ≡ true
 HasFittingElements (lists_formats formats) = Unit {0}
 HasFittingElements (lists_sets sets) = list_all (λ (set : DescribedSet). list_all is_fitting set.descriptions) sets ≡ true
-HasFittingElements (gives_record d) = has_fitting_element d.format d.item ≡ true
+HasFittingElements (gives_record d) = has_fitting_elements d.format d.item ≡ true
 HasFittingElements (lists_headers page) = Unit {0}
-HasFittingElements (lists_records format page) = list_all (has_fitting_element format) page.items ≡ true
+HasFittingElements (lists_records format page) = list_all (has_fitting_elements format) page.items ≡ true
 
 -- ---- lists
 

@@ -17,8 +17,8 @@ use Rattle.jiff_core.proofs.MarchLemmas.{day_count-early}
 use Rattle.jiff_core.proofs.SignedLemmas.{signed_arith}
 use Rattle.oai_time.specs.declared.bound.Bound.{Bound}
 use Rattle.oai_time.specs.declared.granularity.Granularity.TheVariants.{Second}
-use Rattle.oai_json.specs.Json.{elements_at, elements_of, has_members, json_in, text_at, texts_at}
-use Rattle.oai_deposit.specs.Lines.{asked_change, deletion_shape, deposit_shape, elements_read, field_list_of, given_read, have_xml_texts, line_of, record_of, records_at, records_of, shape_of}
+use Rattle.oai_json.specs.Json.{elements_at, elements_of, has_members, has_members_and, json_in, text_at, texts_at}
+use Rattle.oai_deposit.specs.Lines.{about_read, abouts_at, asked_change, deletion_shape, deposit_shape, elements_read, field_list_of, given_read, have_xml_texts, line_of, record_of, records_at, records_of, shape_of}
 use Rattle.oai_args.specs.Arguments.{arguments_in, given}
 use Rattle.oai_args.specs.Bounds.{are_bounds, are_not_turned, is_some_bound}
 use Rattle.oai_args.specs.Pairs.{decoded_pairs, has_only_keys, has_xml_values, values_of}
@@ -54,7 +54,7 @@ abbrev pub own_a : List Call
 own_a = own_calls (codes "a") worked_calls
 
 pub carried_a : commands_in worked_config own_a ≡ worked_commands
-unfolding line_of json_in shape_of has_members deposit_shape deletion_shape text_at texts_at elements_at elements_of records_at records_of record_of given_read field_list_of elements_read asked_change have_xml_texts is_identifier is_scheme serde_json_on_literals str.is_utf8 str.chars decoded_pairs form_urlencoded_on_literals lossy.utf8_lossy lossy.utf8_valid_len request_of request_in arguments_in given values_of has_only_keys has_xml_values asked_verb form_of suit first_of first_list_of next_of are_bounds is_prefix is_xml_text lib.Utf8.encode
+unfolding line_of json_in shape_of has_members has_members_and abouts_at about_read deposit_shape deletion_shape text_at texts_at elements_at elements_of records_at records_of record_of given_read field_list_of elements_read asked_change have_xml_texts is_identifier is_scheme serde_json_on_literals str.is_utf8 str.chars decoded_pairs form_urlencoded_on_literals lossy.utf8_lossy lossy.utf8_valid_len request_of request_in arguments_in given values_of has_only_keys has_xml_values asked_verb form_of suit first_of first_list_of next_of are_bounds is_prefix is_xml_text lib.Utf8.encode
 carried_a = refl
 
 -- ---- the second repository
@@ -107,7 +107,7 @@ carried_with passes_5 since_5 passes_7 since_7 =
     ∷ []
 
 read_b : commands_in beside.archive_b own_b ≡ carried_with (is_from text_5) text_5 (is_from text_7) text_7
-unfolding line_of json_in shape_of has_members deposit_shape deletion_shape text_at texts_at elements_at elements_of records_at records_of record_of given_read field_list_of elements_read asked_change have_xml_texts is_identifier is_scheme serde_json_on_literals str.is_utf8 str.chars decoded_pairs form_urlencoded_on_literals lossy.utf8_lossy lossy.utf8_valid_len request_of request_in arguments_in given values_of has_only_keys has_xml_values asked_verb form_of suit first_of first_list_of next_of are_bounds is_prefix is_xml_text lib.Utf8.encode
+unfolding line_of json_in shape_of has_members has_members_and abouts_at about_read deposit_shape deletion_shape text_at texts_at elements_at elements_of records_at records_of record_of given_read field_list_of elements_read asked_change have_xml_texts is_identifier is_scheme serde_json_on_literals str.is_utf8 str.chars decoded_pairs form_urlencoded_on_literals lossy.utf8_lossy lossy.utf8_valid_len request_of request_in arguments_in given values_of has_only_keys has_xml_values asked_verb form_of suit first_of first_list_of next_of are_bounds is_prefix is_xml_text lib.Utf8.encode
 read_b = refl
 
 pub carried_b : commands_in beside.archive_b own_b ≡ beside.harvest_commands
@@ -125,7 +125,7 @@ abbrev pub last_calls : List Call
 last_calls = post 124 (codes "/deposit/a") (deposit_line (codes "oai:a:6") ++ deposit_line (codes "oai:a:7")) ∷ []
 
 pub carried_last : commands_in worked_config last_calls ≡ last_commands
-unfolding line_of json_in shape_of has_members deposit_shape deletion_shape text_at texts_at elements_at elements_of records_at records_of record_of given_read field_list_of elements_read asked_change have_xml_texts is_identifier is_scheme serde_json_on_literals str.is_utf8 str.chars decoded_pairs form_urlencoded_on_literals lossy.utf8_lossy lossy.utf8_valid_len request_of request_in arguments_in given values_of has_only_keys has_xml_values asked_verb form_of suit first_of first_list_of next_of are_bounds is_prefix is_xml_text lib.Utf8.encode
+unfolding line_of json_in shape_of has_members has_members_and abouts_at about_read deposit_shape deletion_shape text_at texts_at elements_at elements_of records_at records_of record_of given_read field_list_of elements_read asked_change have_xml_texts is_identifier is_scheme serde_json_on_literals str.is_utf8 str.chars decoded_pairs form_urlencoded_on_literals lossy.utf8_lossy lossy.utf8_valid_len request_of request_in arguments_in given values_of has_only_keys has_xml_values asked_verb form_of suit first_of first_list_of next_of are_bounds is_prefix is_xml_text lib.Utf8.encode
 carried_last = refl
 
 -- the second repository behind a checkpoint: a token comes again, an item is deposited, and what was deposited since is harvested
@@ -155,7 +155,7 @@ later_with passes since =
     ∷ []
 
 read_later : commands_in beside.archive_b later_calls ≡ later_with (is_from text_8) text_8
-unfolding line_of json_in shape_of has_members deposit_shape deletion_shape text_at texts_at elements_at elements_of records_at records_of record_of given_read field_list_of elements_read asked_change have_xml_texts is_identifier is_scheme serde_json_on_literals str.is_utf8 str.chars decoded_pairs form_urlencoded_on_literals lossy.utf8_lossy lossy.utf8_valid_len request_of request_in arguments_in given values_of has_only_keys has_xml_values asked_verb form_of suit first_of first_list_of next_of are_bounds is_prefix is_xml_text lib.Utf8.encode
+unfolding line_of json_in shape_of has_members has_members_and abouts_at about_read deposit_shape deletion_shape text_at texts_at elements_at elements_of records_at records_of record_of given_read field_list_of elements_read asked_change have_xml_texts is_identifier is_scheme serde_json_on_literals str.is_utf8 str.chars decoded_pairs form_urlencoded_on_literals lossy.utf8_lossy lossy.utf8_valid_len request_of request_in arguments_in given values_of has_only_keys has_xml_values asked_verb form_of suit first_of first_list_of next_of are_bounds is_prefix is_xml_text lib.Utf8.encode
 read_later = refl
 
 pub carried_later : commands_in beside.archive_b later_calls ≡ later_commands

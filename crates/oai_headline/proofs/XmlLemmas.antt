@@ -104,7 +104,7 @@ holds_ended config raise state few held =
 in_xml : (config : RepositoryConfig) (d : Document) → IsGivenDocument may_be_default d → (have_namespaces is_foreign config ≡ true → IsGivenDocument is_foreign d) → IsLegalDocument d → IsXmlDocument config (document d)
 in_xml config d given other texts =
     let its = is_read d given texts in
-    record { document = d; tree = document_tree d; shows = refl; written = document_written d given.regular; whole = given_whole d given; text = its.0; read = its.1; schema = λ none. given_of_schema d (other none) }
+    record { document = d; tree = document_tree d; shows = refl; written = document_written d given.regular; whole = given_whole d given; text = its.0; read = its.1; schema = λ none about. given_of_schema d (other none) about }
 
 not_unavailable : status.ServiceUnavailable ≢ status.Ok
 not_unavailable same = cc

@@ -16,7 +16,7 @@ use Rattle.oai_documents.specs.Answering.{have_namespaces}
 use Rattle.oai_documents.specs.DocumentTrees.{document_tree, line_end, xml_declaration}
 use Rattle.oai_documents.specs.Schema.{IsOfSchema}
 use Rattle.oai_documents.specs.Texts.{is_legal_config}
-use Rattle.oai_documents.specs.WellFormed.{HasFittingElements, is_foreign}
+use Rattle.oai_documents.specs.WellFormed.{HasAboutIn, HasFittingElements, is_foreign}
 use Rattle.oai_config.specs.Configs.{HostConfig, NamedConfig}
 use Rattle.oai_http.specs.declared.statuses.Status.TheVariants as status
 use Rattle.oai_host.specs.Tasks.{asking, task_of}
@@ -47,7 +47,7 @@ pub record HasUtf8Texts (format : Format) : Type 0 where
 
 -- the bytes are an XML document: the XML declaration and one element, whose tree is whole, in UTF-8, of XML's
 -- characters; and an XML parser reads that tree. It has the elements that the schema of OAI-PMH asks for, if no format
--- of the repository has OAI-PMH's own namespace. Of records that are elements, whole is what has room in a document
+-- of the repository has OAI-PMH's own namespace, and no element about a record. Whole is what has room in a document
 pub record IsXmlDocument (config : RepositoryConfig) (body : List ℕ) : Type 0 where
   pub document : Document
   pub tree : Tree
@@ -56,7 +56,7 @@ pub record IsXmlDocument (config : RepositoryConfig) (body : List ℕ) : Type 0 
   pub whole : HasFittingElements document.answer → is_whole tree ≡ true
   pub text : is_legal_text body ≡ true
   pub read : HasFittingElements document.answer → tree_in body ≡ Some tree
-  pub schema : have_namespaces is_foreign config ≡ true → IsOfSchema tree
+  pub schema : have_namespaces is_foreign config ≡ true → HasAboutIn is_foreign document.answer → IsOfSchema tree
 
 -- if the visit is a request of OAI-PMH, by GET or by POST, and is answered with status 200, the body is such a document
 abbrev pub IsAnsweredInXml : RepositoryConfig → Visit → Type 0

@@ -22,8 +22,9 @@ ghost use Rattle.oai_headline.specs.XmlAnswers.{AreAnsweredInXml, HasLegalTexts,
 /// The texts of the configuration are UTF-8 of such characters, as those of each accepted one are
 /// ([`texts_law`](crate::texts_law)). None of the repository's formats, nor of the elements that describe it or its sets,
 /// has one of the two namespaces that Namespaces in XML reserves; and for the schema, each has a namespace, and none has
-/// that of OAI-PMH. Of records that are elements, and of descriptions: each has at most 124 levels, with at most 126
-/// declarations in force (`HasFittingElements`). The function is empty.
+/// that of OAI-PMH; the elements about a record that was deposited neither (`HasAboutIn`). Of records that are elements,
+/// of those about records, and of descriptions: each has at most 124 levels, with at most 126 declarations in force
+/// (`HasFittingElements`). The function is empty.
 pub fn documents_law()
     ensures answered { (calls : List Call) (answers : List Answer) (entry : NamedConfig) (left : RepoState)
         → HasRules entry → HasLegalTexts entry → have_namespaces may_be_default entry.config ≡ true
