@@ -4,3 +4,7 @@ pub mod RedoneLemmas
 pub mod LifeLemmas
 pub mod ServedLemmas
 pub mod CheckpointLemmas
+pub mod StandLemmas
+pub mod MoveLemmas
+pub mod StoodLemmas
+pub mod SwitchLemmas

@@ -78,7 +78,7 @@ goes_all h j begun before durable (s ∷ served) old new held honest serves =
 
 -- ---- rounds, and the end
 
-long_append : {A : Type 0} (xs ys : List A) → length xs ≤ length (xs ++ ys)
+pub long_append : {A : Type 0} (xs ys : List A) → length xs ≤ length (xs ++ ys)
 long_append xs ys = let many : length (xs ++ ys) ≡ length xs + length ys = length-append xs ys in grind (arith)
 
 few_of : {A : Type 0} (n : ℕ) (xs ys : List A) → n ≡ length xs → n ≤ length (xs ++ ys)

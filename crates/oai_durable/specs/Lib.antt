@@ -2,5 +2,8 @@ pub mod Records
 pub mod Journaled
 pub mod Recovered
 pub mod Lives
+pub mod Moves
+pub mod Stood
+pub mod Switches
 pub mod Served
 pub mod Checkpoints

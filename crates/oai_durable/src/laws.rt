@@ -1,8 +1,12 @@
 //! What holds of every list of lives; a life is one run of a server. Theorems, each an empty function.
 ghost use Rattle.oai_durable.specs.Checkpoints.{AreStages, IsHistory, JournalStage};
 ghost use Rattle.oai_durable.specs.Lives.{AreAmong, AreLives, Life, answered_in};
-ghost use Rattle.oai_durable.specs.Journaled.{IsExchange, IsHeld, IsSettled, Parts};
+ghost use Rattle.oai_durable.specs.Moves.{AreLikeLives, AreMovedLives, Move};
+ghost use Rattle.oai_durable.specs.Journaled.{IsExchange, IsHeld, IsSettled, Parts, Replaying};
+ghost use Rattle.oai_durable.specs.Records.{redone_all};
 ghost use Rattle.oai_durable.specs.Recovered.{TellsDamage};
+ghost use Rattle.oai_durable.specs.Stood.{IsHeldBy, IsKeptBy, IsLeftLike, StandInFor};
+ghost use Rattle.oai_durable.specs.Switches.{FolderLeaves, StandsForAll, SwitchPhase};
 ghost use Rattle.oai_durable.specs.Served.{IsLived, IsRemembered, LivesAs};
 ghost use Rattle.oai_durable.specs.declared.recovery.RecoverFault.{RecoverFault};
 ghost use Rattle.oai_durable.specs.declared.recovery.RecoverFault.TheVariants as cause;
@@ -15,7 +19,10 @@ ghost use Rattle.oai_journal.specs.declared.recovery.RecoveryFault.TheVariants.{
 ghost use Rattle.oai_serving.specs.Accepted.{Known};
 ghost use Rattle.oai_serving.specs.Rounds.{IsService, World, served_in};
 ghost use Rattle.oai_serving.specs.declared.faults.ServeFault.{ServeFault as Fault};
-ghost use Rattle.std.specs.Prelude.{◌≡◌, [], ℕ, IsTrue, List, Result, length};
+ghost use Rattle.oai_http.specs.Exchanges.{Asked};
+ghost use Rattle.oai_http.specs.declared.exchanges.Answer.{Answer};
+ghost use Rattle.oai_http.specs.declared.handlers.SettleFault.{SettleFault};
+ghost use Rattle.std.specs.Prelude.{◌≡◌, [], ℕ, ℤ, IsTrue, List, Result, Ok, Err, length};
 
 use oai_journal::Journal;
 use oai_replay::Replayed;
@@ -98,6 +105,85 @@ pub fn stages_law<H: Replayed>()
           ended = H.ended;
           emptied = H.emptied;
         }) begun stages left }
+{}
+
+/// Lives in which any number of checkpoints took the place of the journal are lives: each is a list of moves, an
+/// exchange, a commit, at which the answers leave that wait, or a switch to a file whose records leave the same state.
+/// There is one list of log records, as of lives without a switch, in which every answer that was sent has its place,
+/// in order over all lives; and the last file leaves the state that this list leaves. So at a switch no list ends, and
+/// no number is raised.
+pub fn moved_law<H: Replayed>()
+    ensures { (begun : H.Kept) (lives : List (List Move)) (left : List Entry)
+        → AreMovedLives (record { redone = H.redone; restored = H.restored }) H.reply begun [] lives left
+        → AreLikeLives (record { redone = H.redone; restored = H.restored }) H.reply begun lives left }
+{}
+
+/// A handler whose journal has a checkpoint in place of the first records goes on as if it had them all: an exchange,
+/// as [`Journaled`](crate::Journaled) promises it of the records of its file, is one over all records for which the
+/// file stands; settling makes all of them durable, or fails and leaves them. What a crash leaves of the file stands
+/// for what a crash would have left of them: all durable ones, and the first of the others.
+pub fn stood_law<H: Replayed, J: Journal>()
+    ensures exchange { (let h : Replaying H = record {
+      step = H.step;
+      Kept = H.Kept;
+      kept = H.kept;
+      is_honest = H.is_honest;
+      leaving = record { redone = H.redone; restored = H.restored };
+      reply = H.reply;
+    } in (begun : H.Kept) (entries : List Entry) (durable : ℕ) (before after : Parts H J) (moment : ℤ) (asked : Asked)
+        (answer : Answer)
+        → IsHeldBy h J.Journal begun before entries durable
+        → IsExchange h J.Journal before moment asked answer after
+        → IsKeptBy h J.Journal begun entries durable before moment asked answer after) }
+    ensures settled { (let h : Replaying H = record {
+      step = H.step;
+      Kept = H.Kept;
+      kept = H.kept;
+      is_honest = H.is_honest;
+      leaving = record { redone = H.redone; restored = H.restored };
+      reply = H.reply;
+    } in (begun : H.Kept) (entries : List Entry) (durable : ℕ) (before after : Parts H J)
+        → IsHeldBy h J.Journal begun before entries durable
+        → IsSettled J.Journal before (Ok tt) after
+        → IsHeldBy h J.Journal begun after entries (length entries)) }
+    ensures unsettled { (let h : Replaying H = record {
+      step = H.step;
+      Kept = H.Kept;
+      kept = H.kept;
+      is_honest = H.is_honest;
+      leaving = record { redone = H.redone; restored = H.restored };
+      reply = H.reply;
+    } in (begun : H.Kept) (entries : List Entry) (durable : ℕ) (before after : Parts H J) (fault : SettleFault)
+        → IsHeldBy h J.Journal begun before entries durable
+        → IsSettled J.Journal before (Err fault) after
+        → IsHeldBy h J.Journal begun after entries durable) }
+    ensures crash { (let h : Replaying H = record {
+      step = H.step;
+      Kept = H.Kept;
+      kept = H.kept;
+      is_honest = H.is_honest;
+      leaving = record { redone = H.redone; restored = H.restored };
+      reply = H.reply;
+    } in (begun : H.Kept) (entries : List Entry) (durable : ℕ) (parts : Parts H J) (left : List Entry)
+        → IsHeldBy h J.Journal begun parts entries durable
+        → J.may_leave parts.journal left
+        → IsLeftLike h.leaving begun entries durable left) }
+{}
+
+/// At each moment of a switch, from one journal to another that leaves the same state, all records of both being
+/// durable, what a crash leaves under the name of the journal is one journal, of one reading, that stands for all
+/// records that were committed. Until the rename it is the old one, once the folder is synced the new one, and between
+/// them either.
+pub fn switch_law<H: Replayed, D: Disk, E: Disk>()
+    ensures { (begun : H.Kept) (entries held saved : List Entry) (old : FileJournal D) (new : FileJournal E)
+        (phase : SwitchPhase) (file : List ℕ)
+        → HoldsRecords D.Disk.seen D.Disk.may_leave old held (length held)
+        → StandInFor (record { redone = H.redone; restored = H.restored }) begun entries (length entries) held (length held)
+        → HoldsRecords E.Disk.seen E.Disk.may_leave new saved (length saved)
+        → redone_all (record { redone = H.redone; restored = H.restored }) begun saved
+        ≡ redone_all (record { redone = H.redone; restored = H.restored }) begun held
+        → FolderLeaves D.Disk.may_leave E.Disk.may_leave old.disk new.disk phase file
+        → StandsForAll (record { redone = H.redone; restored = H.restored }) begun entries file }
 {}
 
 /// Recovery of what a crash left of a journal, at any moment, does not end by damage, but for a cause that is named: out

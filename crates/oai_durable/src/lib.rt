@@ -10,5 +10,7 @@ mod recovery;
 
 pub use checkpoints::{CheckpointFault, checkpoint};
 pub use journaled::Journaled;
-pub use laws::{life_law, recovery_law, restart_law, service_law, stages_law};
+pub use laws::{
+    life_law, moved_law, recovery_law, restart_law, service_law, stages_law, stood_law, switch_law,
+};
 pub use recovery::{Progress, RecoverFault, note_last, recover, resume};
