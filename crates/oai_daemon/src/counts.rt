@@ -112,7 +112,8 @@ impl Counts {
     /// Counts an answer to a message with that target.
     pub(crate) fn count(&mut self, target: &[u8], status: Status) {
         self.answers.count(status);
-        if target.starts_with(b"/deposit/") {
+        // `/oai/`, `/deposit/`: one byte tells most targets, and the others are looked at whole.
+        if target.get(1) == Some(&b'd') {
             self.count_deposit(target, status);
         }
     }

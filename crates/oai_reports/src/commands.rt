@@ -1,4 +1,5 @@
 //! Why a line of JSON is no command, or one with an identifier, a setSpec or a text that may not be.
+use crate::abouts::report_abouts;
 use crate::causes::Diagnostic;
 use crate::records::{report_bad_texts, report_records};
 use crate::values::{elements_at, is_among, kind_of, text_at, text_of};
@@ -16,10 +17,10 @@ pub(crate) fn report_command(cause: &mut Diagnostic<'_>, value: &Value) {
     } else if value.get("put").is_some() {
         report_deposit(cause, value, "put");
     } else if value.get("delete").is_some() {
-        report_names(cause, value, &["delete"]);
+        report_names(cause, value, &["delete"], &[]);
         report_kind(cause, value, "delete", "a text");
     } else if value.get("purge").is_some() {
-        report_names(cause, value, &["purge"]);
+        report_names(cause, value, &["purge"], &[]);
         report_kind(cause, value, "purge", "a text");
     } else {
         report_new_set(cause, value);
@@ -35,14 +36,14 @@ fn report_new_set(cause: &mut Diagnostic<'_>, value: &Value) {
             &["it has no member \"deposit\", \"put\", \"delete\", \"purge\" or \"set\""],
         );
     }
-    report_names(cause, value, &["set", "name"]);
+    report_names(cause, value, &["set", "name"], &[]);
     report_kind(cause, value, "set", "a text");
     report_kind(cause, value, "name", "a text");
 }
 
 /// Reports what is wrong with the members of a deposit or a put, whose identifier has that name.
 fn report_deposit(cause: &mut Diagnostic<'_>, value: &Value, name: &str) {
-    report_names(cause, value, &[name, "sets", "records"]);
+    report_names(cause, value, &[name, "sets", "records"], &["about"]);
     report_kind(cause, value, name, "a text");
     report_kind(cause, value, "sets", "a list");
     for (number, set) in elements_at(value, "sets").iter().enumerate() {
@@ -56,10 +57,12 @@ fn report_deposit(cause: &mut Diagnostic<'_>, value: &Value, name: &str) {
     }
     report_kind(cause, value, "records", "an object");
     report_records(cause, value);
+    report_kind(cause, value, "about", "an object");
+    report_abouts(cause, value);
 }
 
-/// Reports a member that is missing, or another one.
-fn report_names(cause: &mut Diagnostic<'_>, value: &Value, names: &[&str]) {
+/// Reports a member that is missing, or one of another name than these and those that may be missing.
+fn report_names(cause: &mut Diagnostic<'_>, value: &Value, names: &[&str], others: &[&str]) {
     for name in names {
         if value.get(*name).is_none() {
             let start = cause.start();
@@ -68,7 +71,7 @@ fn report_names(cause: &mut Diagnostic<'_>, value: &Value, names: &[&str]) {
     }
     if let Value::Object(members) = value {
         for (name, _member) in members.iter() {
-            if !is_among(name.as_str(), names) {
+            if !is_among(name.as_str(), names) && !is_among(name.as_str(), others) {
                 let place = cause.member(cause.start(), name.as_str());
                 cause.add(
                     place,

@@ -2,6 +2,7 @@
 //! tested: that a text has a fault, and which, is what `oai_config`, `oai_deposit`, `oai_repo` and `oai_xml` prove.
 #![tactic(auto)]
 
+mod abouts;
 mod causes;
 mod commands;
 mod dates;

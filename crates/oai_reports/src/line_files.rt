@@ -137,8 +137,12 @@ impl<'a> LineFile<'a> {
         true
     }
 
-    /// Whether the record is an element of its format, or its format has fields, if it is a list.
+    /// Whether the record is an element of its format, or its format has fields, if it is a list, and nothing is about it
+    /// if the list is empty.
     fn is_of_format(&self, record: &GivenRecord<'_>) -> bool {
+        if record.fields.is_empty() && !record.about.is_empty() {
+            return false;
+        }
         match (self.config.formats().find_named(record.prefix), record.root) {
             (Some(format), Some(root)) => is_root_of(format, root),
             (Some(format), None) => !format.fields.is_empty(),

@@ -1,4 +1,5 @@
 //! What is wrong with the records of a deposit.
+use crate::abouts::{report_about_nothing, report_elements_about};
 use crate::causes::Diagnostic;
 use crate::values::{elements_of, kind_of, text_of};
 use oai_item::{Format, Formats, is_root_of};
@@ -42,37 +43,47 @@ fn report_fields(cause: &mut Diagnostic<'_>, prefix: &str, fields: &Value) {
     }
 }
 
-/// Reports the first record whose text is no element, and where and why it is none: refusal 20.
+/// Reports the first text that is no element, of a record or about one, and where and why it is none: refusal 20.
 pub(crate) fn report_elements(cause: &mut Diagnostic<'_>, value: &Value) {
     if let Some(Value::Object(records)) = value.get("records") {
         for (prefix, text) in records.iter() {
+            let prefix = prefix.as_str();
             if let Some(text) = text.as_str() {
-                report_element(cause, prefix.as_str(), text);
+                let place = record_place(cause, prefix);
+                report_element(cause, place, "of ", prefix, text);
             }
+            report_elements_about(cause, value, prefix);
         }
     }
 }
 
-/// Reports where and why the record's text is no element, if it is none.
-fn report_element(cause: &mut Diagnostic<'_>, prefix: &str, text: &str) {
+/// Reports where and why the text at that place, which is that of a record or about it, is no element, if it is none.
+pub(crate) fn report_element(
+    cause: &mut Diagnostic<'_>,
+    place: Option<usize>,
+    relation: &str,
+    prefix: &str,
+    text: &str,
+) {
     let alloc = cause.alloc();
     let Err(XmlFault::Refused { offset, cause: why }) = ElementText::read(alloc, text) else {
         return;
     };
-    let Ok(told) = format!(in alloc; "at byte {offset} of \"{prefix}\": {why}") else {
+    let Ok(told) = format!(in alloc; "at byte {offset} {relation}\"{prefix}\": {why}") else {
         return;
     };
-    let place = record_place(cause, prefix);
     cause.add(place, &[told.as_str()]);
 }
 
-/// Reports the first record that is not one of its format: refusal 21.
+/// Reports the first record that is not one of its format, or that something is about and that is not there: refusal 21.
 pub(crate) fn report_other_records(cause: &mut Diagnostic<'_>, value: &Value, formats: &Formats) {
     if let Some(Value::Object(records)) = value.get("records") {
         for (prefix, record) in records.iter() {
-            if let Some(format) = formats.find_named(prefix.as_str()) {
-                report_other_record(cause, prefix.as_str(), record, format);
+            let prefix = prefix.as_str();
+            if let Some(format) = formats.find_named(prefix) {
+                report_other_record(cause, prefix, record, format);
             }
+            report_about_nothing(cause, value, prefix, record);
         }
     }
 }
