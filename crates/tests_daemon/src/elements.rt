@@ -65,6 +65,32 @@ fn elements_are_dumped_and_loaded_again(rt: HostRuntime) {
     assert_dump_of(&rt, alloc, element_body(), element_dump(), element_dump());
 }
 
+/// Elements about a record of fields and about an element; of a deleted item nothing is left.
+fn about_lines() -> &'static str {
+    r#"{"deposit":"oai:a:1","sets":[],"records":{"oai_dc":[["title","T"]],"marc21":"<record xmlns='http://www.loc.gov/MARC21/slim'/>"},"about":{"oai_dc":["<r:a xmlns:r='u'/>","<b xmlns='v'>\u00e9</b>"],"marc21":[]}}
+{"about":{"oai_dc":["<a xmlns='u'/>"]},"records":{"oai_dc":"<d:dc xmlns:d='http://www.openarchives.org/OAI/2.0/oai_dc/'/>"},"sets":[],"deposit":"oai:a:2"}
+{"deposit":"oai:a:3","sets":[],"records":{"oai_dc":[["title","T"]]},"about":{"oai_dc":["<a xmlns='u'/>"]}}
+{"delete":"oai:a:3"}
+"#
+}
+
+/// What they leave: `about` where there is something about a record.
+fn about_dump() -> &'static str {
+    r#"{"about":{"oai_dc":["<r:a xmlns:r=\"u\" xmlns=\"\"></r:a>","<b xmlns=\"v\">é</b>"]},"deposit":"oai:a:1","records":{"marc21":"<record xmlns=\"http://www.loc.gov/MARC21/slim\"></record>","oai_dc":[["title","T"]]},"sets":[]}
+{"about":{"oai_dc":["<a xmlns=\"u\"></a>"]},"deposit":"oai:a:2","records":{"oai_dc":"<d:dc xmlns:d=\"http://www.openarchives.org/OAI/2.0/oai_dc/\" xmlns=\"\"></d:dc>"},"sets":[]}
+{"deposit":"oai:a:3","records":{"oai_dc":[]},"sets":[]}
+{"delete":"oai:a:3"}
+"#
+}
+
+/// What is dumped about records is dumped again as it is.
+#[test]
+fn what_is_about_records_is_dumped_and_loaded_again(rt: HostRuntime) {
+    let alloc = rt.alloc();
+    assert_dump_of(&rt, alloc, element_body(), about_lines(), about_dump());
+    assert_dump_of(&rt, alloc, element_body(), about_dump(), about_dump());
+}
+
 /// A put that is sent again leaves one deposit, and a deposit of the item as it is leaves it.
 #[test]
 fn puts_are_recorded(rt: HostRuntime) {

@@ -125,7 +125,7 @@ fn puts_are_made_once(rt: HostRuntime) {
 }
 
 /// Records of articles that are none of their format: no canonical text, another root, another namespace, no XML, a list of fields,
-/// and two elements.
+/// and an element with a text about it that is none.
 fn damaged_records() -> [&'static [u8]; 6] {
     [
         b"\0\0\0\x01\0\0\0\0\0\0\0\x2B<article xmlns=\"http://host.example/jnl/\"/>",
@@ -133,7 +133,7 @@ fn damaged_records() -> [&'static [u8]; 6] {
         b"\0\0\0\x01\0\0\0\0\0\0\0\x1D<article xmlns=\"u\"></article>",
         b"\0\0\0\x01\0\0\0\0\0\0\0\x01x",
         b"\0\0\0\x01\0\0\0\x06volume\0\0\0\x017",
-        b"\0\0\0\x02\0\0\0\0\0\0\0\x34<article xmlns=\"http://host.example/jnl/\"></article>\0\0\0\0\0\0\0\x34<article xmlns=\"http://host.example/jnl/\"></article>",
+        b"\0\0\0\x02\0\0\0\0\0\0\0\x34<article xmlns=\"http://host.example/jnl/\"></article>\0\0\0\0\0\0\0\x01x",
     ]
 }
 

@@ -44,7 +44,8 @@ fn show_refusal(alloc: Global, refusal: LineRefusal, answer: &mut Answer) {
     }
 }
 
-/// Of each record its prefix and, of an element, the namespace and the local part of its root; and its fields.
+/// Of each record its prefix and, of an element, the namespace and the local part of its root; its fields; and what is
+/// about it.
 fn show_records(mut records: GivenRecords<'_>, answer: &mut Answer) {
     for _ in 0..64u32 {
         let Some(record) = records.next() else {
@@ -58,6 +59,15 @@ fn show_records(mut records: GivenRecords<'_>, answer: &mut Answer) {
             answer.bytes(root.local());
         }
         show_fields(record.fields, answer);
+        show_about(record.about, answer);
+    }
+}
+
+/// The text of each element about a record.
+fn show_about(about: &[Field], answer: &mut Answer) {
+    for field in about {
+        answer.word("about");
+        answer.text(field.text.as_str());
     }
 }
 

@@ -9,16 +9,6 @@ pub(crate) fn assert_same<T: PartialEq + Debug + Drop>(rt: &impl Abort, found: T
     assert_eq!(rt; found, wanted);
 }
 
-/// Fails the test, and shows both values and the place, where the values are not equal.
-pub(crate) fn assert_same_at<T: PartialEq + Debug + Drop, P: Display + Drop>(
-    rt: &impl Abort,
-    found: T,
-    wanted: T,
-    place: P,
-) {
-    assert_eq!(rt; found, wanted, "at {place}");
-}
-
 /// Fails the test where the text of the value is not the one that is wanted, and shows both; or where memory runs out.
 pub(crate) fn assert_shown<T: Display + Drop>(
     rt: &impl Abort,

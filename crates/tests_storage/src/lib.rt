@@ -1,6 +1,5 @@
-//! Tests of what keeps items: page devices and the pool of pages (`oai_device`, `oai_pool`), journals (`oai_journal`), stores of
-//! versions and lists that are open (`oai_catalogue`, `oai_lists`), and the paged store (`oai_paged`, `oai_places`). It holds
-//! nothing else.
+//! Tests of what keeps items: page devices and the pool of pages (`oai_device`, `oai_pool`), journals (`oai_journal`), and stores
+//! of versions and lists that are open (`oai_catalogue`, `oai_lists`). It holds nothing else.
 #![tactic(auto)]
 
 #[cfg(test)]
@@ -11,5 +10,3 @@ mod catalogue;
 mod devices;
 #[cfg(test)]
 mod journal;
-#[cfg(test)]
-mod paged;

@@ -1,8 +1,8 @@
 //! A thousand random calls at a plain store and at a paged one, which answer them alike whatever the cache of the pool.
 ghost use Rattle.std.specs.Prelude.{◌<◌};
 
-use crate::paged::both::{Both, UsesPages, paged};
-use crate::paged::random::Random;
+use crate::both::{Both, UsesPages, paged};
+use crate::random::Random;
 use oai_catalogue::Versions;
 use oai_device::MemoryDevice;
 use std::alloc::Global;

@@ -1,7 +1,7 @@
 //! Items as large as a page has room for, put first, last and between others.
-use crate::paged::both::{Both, UsesPages, paged};
-use crate::paged::calls::Call;
-use crate::paged::samples::{sized, tiny};
+use crate::both::{Both, UsesPages, paged};
+use crate::calls::Call;
+use crate::samples::{sized, tiny};
 use oai_catalogue::Versions;
 use oai_device::MemoryDevice;
 use std::process::Abort;

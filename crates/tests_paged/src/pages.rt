@@ -1,8 +1,8 @@
 //! How many pages two lists use.
 use crate::assertions::assert_same;
-use crate::paged::both::{Both, UsesPages, paged};
-use crate::paged::calls::Call;
-use crate::paged::samples::{Sample, sized, tiny};
+use crate::both::{Both, UsesPages, paged};
+use crate::calls::Call;
+use crate::samples::{Sample, sized, tiny};
 use oai_catalogue::Versions;
 use oai_device::MemoryDevice;
 use std::process::Abort;

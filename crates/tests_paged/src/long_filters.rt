@@ -1,8 +1,8 @@
 //! Filters over a list in which sets and records of some items stand on their overflow pages.
-use crate::paged::both::{Both, UsesPages, paged};
-use crate::paged::calls::{Asked, Call, dated};
-use crate::paged::five_pages::each_asked;
-use crate::paged::samples::{Sample, sized, tiny};
+use crate::both::{Both, UsesPages, paged};
+use crate::calls::{Asked, Call, dated};
+use crate::five_pages::each_asked;
+use crate::samples::{Sample, sized, tiny};
 use oai_catalogue::Versions;
 use oai_device::MemoryDevice;
 use std::process::Abort;

@@ -1,9 +1,9 @@
 //! Filters over a list of so many pages that groups of them are passed over.
 use crate::assertions::assert_same;
-use crate::paged::both::{Both, UsesPages, paged};
-use crate::paged::calls::{Asked, Call, dated};
-use crate::paged::five_pages::each_asked;
-use crate::paged::samples::{Sample, sized, tiny};
+use crate::both::{Both, UsesPages, paged};
+use crate::calls::{Asked, Call, dated};
+use crate::five_pages::each_asked;
+use crate::samples::{Sample, sized, tiny};
 use oai_catalogue::Versions;
 use oai_device::MemoryDevice;
 use std::process::Abort;

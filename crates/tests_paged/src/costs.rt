@@ -2,9 +2,9 @@
 ghost use Rattle.std.specs.Prelude.{◌<◌};
 
 use crate::assertions::assert_same;
-use crate::paged::both::{Both, paged};
-use crate::paged::calls::{Asked, Call, all, dated};
-use crate::paged::samples::{Sample, sized};
+use crate::both::{Both, paged};
+use crate::calls::{Asked, Call, all, dated};
+use crate::samples::{Sample, sized};
 use oai_device::MemoryDevice;
 use oai_paged::PagedVersions;
 use std::alloc::Global;

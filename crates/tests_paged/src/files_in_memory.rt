@@ -1,7 +1,7 @@
 //! A paged store over a device that is honest by its contract: one over a file in memory that gives back what was written to it.
-use crate::paged::both::{Both, paged};
-use crate::paged::calls::Call;
-use crate::paged::samples::sized;
+use crate::both::{Both, paged};
+use crate::calls::Call;
+use crate::samples::sized;
 use tests_devices::device_in_memory;
 
 /// Small items, and one with overflow pages, put in, frozen, deposited anew and taken out.

@@ -1,10 +1,10 @@
 //! A device that inverts the first byte of one read: the call that meets it is answered `Damaged`, and the next one rightly, since no page that
 //! failed its test is kept in memory.
 use crate::assertions::assert_same;
-use crate::paged::both::paged;
-use crate::paged::calls::{Call, answer};
-use crate::paged::samples::{Sample, sized, spelling_of};
-use crate::paged::two_lists::TwoLists;
+use crate::both::paged;
+use crate::calls::{Call, answer};
+use crate::samples::{Sample, sized, spelling_of};
+use crate::two_lists::TwoLists;
 use oai_device::{FlippingDevice, MemoryDevice};
 use oai_item::Fault;
 use oai_paged::PagedVersions;

@@ -1,9 +1,9 @@
 //! One row of calls, at a plain store and at a paged one.
 use crate::assertions::assert_same;
-use crate::paged::both::paged;
-use crate::paged::calls::{Call, all, answer};
-use crate::paged::samples::{Sample, spelling_of, tiny};
-use crate::paged::two_lists::TwoLists;
+use crate::both::paged;
+use crate::calls::{Call, all, answer};
+use crate::samples::{Sample, spelling_of, tiny};
+use crate::two_lists::TwoLists;
 use oai_catalogue::{PlainVersions, Versions};
 use oai_device::MemoryDevice;
 use oai_pool::PagePool;

@@ -1,9 +1,9 @@
 //! How many pages are used while each of many items is changed once, in random order.
-use crate::paged::both::paged;
-use crate::paged::calls::{Call, answer};
-use crate::paged::random::Random;
-use crate::paged::samples::sized;
-use crate::paged::two_lists::TwoLists;
+use crate::both::paged;
+use crate::calls::{Call, answer};
+use crate::random::Random;
+use crate::samples::sized;
+use crate::two_lists::TwoLists;
 use oai_device::{MemoryDevice, PAGE_BYTES};
 use oai_paged::PagedVersions;
 use oai_pool::PagePool;

@@ -1,7 +1,7 @@
 //! Filters over a list of five pages.
-use crate::paged::both::{Both, UsesPages};
-use crate::paged::calls::{Asked, Call, dated};
-use crate::paged::five_pages::{COUNT, each_asked, five_pages};
+use crate::both::{Both, UsesPages};
+use crate::calls::{Asked, Call, dated};
+use crate::five_pages::{COUNT, each_asked, five_pages};
 use oai_catalogue::Versions;
 use std::process::Abort;
 

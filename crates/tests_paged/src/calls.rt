@@ -1,6 +1,6 @@
 //! Calls of a store, and what they answer, in bytes.
-use crate::paged::samples::{STAMP, Sample, item_of, spelled, spellings};
-use crate::paged::two_lists::TwoLists;
+use crate::samples::{STAMP, Sample, item_of, spelled, spellings};
+use crate::two_lists::TwoLists;
 use oai_catalogue::{Filter, Versions};
 use oai_item::{Fault, Item};
 use oai_names::{Prefix, Sequence, SetSpec};

@@ -1,8 +1,8 @@
 //! A list of five pages, of which tests ask for parts.
 use crate::assertions::assert_same;
-use crate::paged::both::{Both, UsesPages, paged};
-use crate::paged::calls::{Asked, Call, all};
-use crate::paged::samples::{Sample, sized};
+use crate::both::{Both, UsesPages, paged};
+use crate::calls::{Asked, Call, all};
+use crate::samples::{Sample, sized};
 use oai_catalogue::Versions;
 use oai_device::MemoryDevice;
 use oai_paged::PagedVersions;

@@ -1,6 +1,6 @@
 //! Calls that a seed determines.
-use crate::paged::calls::{Asked, Call, all, dated};
-use crate::paged::samples::Sample;
+use crate::calls::{Asked, Call, all, dated};
+use crate::samples::Sample;
 
 /// A generator of numbers: those of a linear congruential one of 64 bits, by their upper halves.
 #[derive(Clone, Copy, Debug, PartialEq, Eq)]

@@ -1,8 +1,8 @@
 //! Many small items, put in and taken out in any order.
 use crate::assertions::assert_same;
-use crate::paged::both::{Both, UsesPages, paged};
-use crate::paged::calls::{Call, all, dated};
-use crate::paged::samples::{Sample, tiny};
+use crate::both::{Both, UsesPages, paged};
+use crate::calls::{Call, all, dated};
+use crate::samples::{Sample, tiny};
 use oai_catalogue::Versions;
 use oai_device::MemoryDevice;
 use std::process::Abort;

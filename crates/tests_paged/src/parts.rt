@@ -1,8 +1,8 @@
 //! Parts of a list of five pages.
-use crate::paged::both::{Both, UsesPages};
-use crate::paged::calls::{Asked, Call};
-use crate::paged::five_pages::{COUNT, each_asked, five_pages, later};
-use crate::paged::samples::tiny;
+use crate::both::{Both, UsesPages};
+use crate::calls::{Asked, Call};
+use crate::five_pages::{COUNT, each_asked, five_pages, later};
+use crate::samples::tiny;
 use oai_catalogue::Versions;
 use std::process::Abort;
 

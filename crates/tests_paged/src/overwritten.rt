@@ -1,9 +1,9 @@
 //! A page of three items that another program has overwritten: each that is looked for there is damaged, and never missing.
 use crate::assertions::assert_same;
-use crate::paged::both::paged;
-use crate::paged::calls::{Call, all, answer};
-use crate::paged::samples::{Sample, push_count, push_text, sized, spelling_of, tiny};
-use crate::paged::two_lists::TwoLists;
+use crate::both::paged;
+use crate::calls::{Call, all, answer};
+use crate::samples::{Sample, push_count, push_text, sized, spelling_of, tiny};
+use crate::two_lists::TwoLists;
 use oai_device::{MemoryDevice, PAGE_BYTES, Page};
 use oai_item::Fault;
 use oai_paged::PagedVersions;

@@ -1,9 +1,9 @@
 //! Pages that become one with their neighbours where items are taken out, and such as stay.
 use crate::assertions::assert_same;
-use crate::paged::both::{Both, paged};
-use crate::paged::calls::{Call, answer};
-use crate::paged::samples::{Sample, sized, spelling_of};
-use crate::paged::two_lists::TwoLists;
+use crate::both::{Both, paged};
+use crate::calls::{Call, answer};
+use crate::samples::{Sample, sized, spelling_of};
+use crate::two_lists::TwoLists;
 use oai_device::MemoryDevice;
 use oai_item::Fault;
 use oai_paged::PagedVersions;

@@ -1,8 +1,8 @@
 //! Items that have overflow pages: 600 bytes of one stand on the page of its entry, and 16,384 on each overflow page.
-use crate::paged::both::{Both, UsesPages, paged};
-use crate::paged::calls::{Call, all};
-use crate::paged::pages::assert_used;
-use crate::paged::samples::{Sample, sized, tiny};
+use crate::both::{Both, UsesPages, paged};
+use crate::calls::{Call, all};
+use crate::pages::assert_used;
+use crate::samples::{Sample, sized, tiny};
 use oai_catalogue::Versions;
 use oai_device::MemoryDevice;
 use std::process::Abort;

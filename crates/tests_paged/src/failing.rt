@@ -1,8 +1,8 @@
 //! A paged store over a device each of whose calls fails in turn.
 use crate::assertions::assert_same;
-use crate::paged::both::{Both, UsesPages, paged};
-use crate::paged::calls::{Call, all, dated};
-use crate::paged::samples::{Sample, sized};
+use crate::both::{Both, UsesPages, paged};
+use crate::calls::{Call, all, dated};
+use crate::samples::{Sample, sized};
 use oai_catalogue::Versions;
 use oai_device::{FaultyDevice, MemoryDevice, PageDevice};
 use std::alloc::Global;

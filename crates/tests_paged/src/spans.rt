@@ -1,9 +1,9 @@
 //! Parts of a set of which pages have few items: of each page the bytes are read from the first item of the set to the last, past
 //! the cache.
-use crate::paged::both::{Both, paged};
-use crate::paged::calls::{Asked, Call, all, dated};
-use crate::paged::costs::{CountedVersions, assert_reads};
-use crate::paged::samples::{Sample, sized};
+use crate::both::{Both, paged};
+use crate::calls::{Asked, Call, all, dated};
+use crate::costs::{CountedVersions, assert_reads};
+use crate::samples::{Sample, sized};
 use oai_device::MemoryDevice;
 use std::alloc::Global;
 use std::process::Abort;

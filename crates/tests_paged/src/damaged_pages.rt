@@ -1,10 +1,10 @@
 //! Items with overflow pages over a device that gives one byte inverted. An inverted letter is no UTF-8, so that a byte of a text
 //! is found out as one of the filling is.
 use crate::assertions::assert_same;
-use crate::paged::both::paged;
-use crate::paged::calls::{Call, all, answer};
-use crate::paged::samples::{Sample, sized, spelling_of, tiny};
-use crate::paged::two_lists::TwoLists;
+use crate::both::paged;
+use crate::calls::{Call, all, answer};
+use crate::samples::{Sample, sized, spelling_of, tiny};
+use crate::two_lists::TwoLists;
 use oai_device::MemoryDevice;
 use oai_item::Fault;
 use oai_paged::PagedVersions;

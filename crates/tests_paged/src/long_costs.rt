@@ -1,8 +1,8 @@
 //! How many pages a call reads from the device and writes to it where items have overflow pages.
 use crate::assertions::assert_same;
-use crate::paged::both::{Both, paged};
-use crate::paged::calls::{Call, all};
-use crate::paged::samples::{Sample, sized, tiny};
+use crate::both::{Both, paged};
+use crate::calls::{Call, all};
+use crate::samples::{Sample, sized, tiny};
 use oai_device::MemoryDevice;
 use oai_paged::PagedVersions;
 use std::alloc::Global;

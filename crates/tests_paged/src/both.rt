@@ -2,8 +2,8 @@
 ghost use Rattle.std.specs.Prelude.{◌<◌};
 
 use crate::assertions::assert_same;
-use crate::paged::calls::{Call, all, answer, item_count};
-use crate::paged::two_lists::TwoLists;
+use crate::calls::{Call, all, answer, item_count};
+use crate::two_lists::TwoLists;
 use oai_catalogue::{PlainVersions, Versions};
 use oai_device::PageDevice;
 use oai_item::Fault;

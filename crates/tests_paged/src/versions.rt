@@ -1,8 +1,8 @@
 //! Two lists with pages in common, changed by turns: neither sees what is done to the other.
-use crate::paged::both::{Both, UsesPages};
-use crate::paged::calls::Call;
-use crate::paged::five_pages::{COUNT, five_pages, nth};
-use crate::paged::samples::{Sample, sized};
+use crate::both::{Both, UsesPages};
+use crate::calls::Call;
+use crate::five_pages::{COUNT, five_pages, nth};
+use crate::samples::{Sample, sized};
 use oai_catalogue::Versions;
 use std::process::Abort;
 
