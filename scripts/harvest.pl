@@ -1,12 +1,14 @@
 #!/usr/bin/perl
 # Harvests a repository with the library HTTP::OAI, and prints what it read: a JSON object a line, for each record, header, set or format,
-# or for the error that was answered. It follows the tokens of a list. Each document that came is written to the folder, as it came. With
-# --pause it says {"paused":1} before it asks for the second document, and waits for a line.
+# or for the error that was answered; with the elements about a record, and those that describe a repository or a set, where there are some. It
+# follows the tokens of a list. Each document that came is written to the folder, as it came. With --pause it says {"paused":1} before it asks for the
+# second document, and waits for a line.
 # Usage: harvest.pl [--pause] BASE FOLDER VERB [NAME=VALUE..]
 use strict;
 use warnings;
 use HTTP::OAI;
 use JSON::PP;
+use XML::LibXML;
 
 my $pause = @ARGV && $ARGV[0] eq '--pause' && shift @ARGV;
 my ($base, $folder, $verb, @arguments) = @ARGV;
@@ -17,7 +19,7 @@ $| = 1;
 
 sub told { print $json->encode($_[0]), "\n" }
 
-sub name_of { my ($node) = @_; return '{' . $node->namespaceURI . '}' . $node->localname }
+sub name_of { my ($node) = @_; return '{' . ($node->namespaceURI // '') . '}' . $node->localname }
 
 sub header_of {
     my ($it) = @_;
@@ -25,19 +27,33 @@ sub header_of {
     return (identifier => $it->identifier, datestamp => $it->datestamp, status => $status, sets => [$it->setSpec]);
 }
 
+# An element: its name, its attributes but declarations, by their names as they are written, and its elements and texts in order.
+sub tree_of {
+    my ($node) = @_;
+    my %attributes = map { $_->nodeName => $_->value } grep { $_->nodeName !~ /^xmlns/ } $node->attributes;
+    my @inside = map { $_->nodeType == XML_ELEMENT_NODE ? tree_of($_) : $_->nodeValue } $node->childNodes;
+    return [name_of($node), \%attributes, \@inside];
+}
+
+# The elements in containers of one name, under that name; nothing where there are none.
+sub contained {
+    my ($name, @containers) = @_;
+    return @containers ? ($name => [map { tree_of($_) } map { $_->dom->findnodes('*/*') } @containers]) : ();
+}
+
 sub record_of {
     my ($it) = @_;
     return header_of($it->header) unless defined $it->metadata;
     my ($root) = $it->metadata->dom->findnodes('*/*');
     my @fields = map { [name_of($_), $_->textContent] } $root->findnodes('*');
-    return (header_of($it->header), root => name_of($root), fields => \@fields);
+    return (header_of($it->header), root => name_of($root), fields => \@fields, contained(about => $it->about));
 }
 
 sub entry_of {
     my ($it) = @_;
     return {record_of($it)} if $it->isa('HTTP::OAI::Record');
     return {header_of($it)} if $it->isa('HTTP::OAI::Header');
-    return {setSpec => $it->setSpec, setName => $it->setName} if $it->isa('HTTP::OAI::Set');
+    return {setSpec => $it->setSpec, setName => $it->setName, contained(setDescription => $it->setDescription)} if $it->isa('HTTP::OAI::Set');
     return {prefix => $it->metadataPrefix, schema => $it->schema, namespace => $it->metadataNamespace};
 }
 
@@ -46,7 +62,7 @@ sub identity_of {
     return {
         repositoryName => $it->repositoryName, baseURL => $it->baseURL, protocolVersion => $it->protocolVersion,
         adminEmail => [$it->adminEmail], earliestDatestamp => $it->earliestDatestamp,
-        deletedRecord => $it->deletedRecord, granularity => $it->granularity,
+        deletedRecord => $it->deletedRecord, granularity => $it->granularity, contained(description => $it->description),
     };
 }
 

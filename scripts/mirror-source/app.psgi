@@ -1,8 +1,11 @@
 # The data provider that mirror-trial moves from: Dancer::Plugin::Catmandu::OAI over the items of the file that ITEMS names, one JSON object a
 # line. The protocol is all the plugin's; only what it searches is here. Lists come in parts of LIMIT records. Each format is a template in the
-# folder TEMPLATES; marc21 and datacite are there only if it has them. If PREFIX is not empty, the protocol's elements have it. It is run by
-# starman, and needs these packages of Debian:
+# folder TEMPLATES; marc21 and datacite are there only if it has them. If ABOUT is 1, records have what their items say about them, which the plugin
+# cannot write. If PREFIX is not empty, the protocol's elements have it. It is run by starman, and needs these packages of Debian:
 #     apt-get install libdancer-plugin-catmandu-oai-perl starman
+
+# What is about each item, by its `_id`: XML texts.
+my %about;
 
 # Items by their `_id`. It knows the queries that the plugin makes: of dates, and of one identifier.
 package Catmandu::Store::Lines::Bag;
@@ -22,6 +25,7 @@ sub renew {
     return if $age eq $self->age;
     open my $file, '<', $ENV{ITEMS} or die "$ENV{ITEMS}: $!";
     $self->items([map { decode_json($_) } <$file>]);
+    %about = map { $_->{_id} => $_->{about} } @{$self->items};
     $self->age($age);
 }
 
@@ -56,6 +60,7 @@ package main;
 use Dancer;
 use Catmandu;
 use Cpanel::JSON::XS ();
+use Encode ();
 use Plack::Util;
 use XML::LibXML;
 
@@ -89,14 +94,30 @@ Dancer::Plugin::Catmandu::OAI->import;
 oai_provider('/oai', deleted => sub { $_[0]{deleted} }, set_specs_for => sub { $_[0]{sets} });
 my $app = dance;
 
-# A document whose elements of the protocol have the prefix.
-sub prefixed {
+# Puts behind the metadata of each record of a document numbers in the place of what its item says about it; these texts.
+sub put_about {
+    my @texts;
+    for my $record ($_[0]->findnodes('/*/*/*[local-name() = "record"]')) {
+        my ($header, $metadata) = $record->findnodes('*') or next;
+        my ($id) = $header->findvalue('*[local-name() = "identifier"]') =~ /^\s*oai:source\.example:(.*?)\s*$/;
+        for my $text ($metadata ? @{$about{$id}} : ()) {
+            $record->addNewChild($record->namespaceURI, 'about')->appendText(scalar @texts);
+            push @texts, $text;
+        }
+    }
+    return @texts;
+}
+
+# A document with what is about its records, whose elements of the protocol have the prefix.
+sub rewritten {
     my ($answer) = @_;
     my $document = XML::LibXML->load_xml(string => join '', @{$answer->[2]});
-    $document->documentElement->setNamespaceDeclPrefix('', $ENV{PREFIX});
-    $answer->[2] = [$document->toString];
+    my @texts = $ENV{ABOUT} ? put_about($document) : ();
+    $document->documentElement->setNamespaceDeclPrefix('', $ENV{PREFIX}) if length $ENV{PREFIX};
+    # (in place of the numbers: the texts as they are, with their own declarations of namespaces)
+    $answer->[2] = [$document->toString =~ s{(about>)(\d+)(</)}{$1 . Encode::encode('UTF-8', $texts[$2]) . $3}ger];
     Plack::Util::header_set($answer->[1], 'Content-Length', length $answer->[2][0]);
     return $answer;
 }
 
-length $ENV{PREFIX} ? sub { prefixed($app->(@_)) } : $app;
+$ENV{ABOUT} || length $ENV{PREFIX} ? sub { rewritten($app->(@_)) } : $app;

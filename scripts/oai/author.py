@@ -8,7 +8,7 @@ from typing import NamedTuple
 from urllib.parse import urlencode
 
 from oai.items import DUBLIN_CORE, JOURNAL, any_fields, any_text, configuration, deposit, plain_text
-from oai.model import DAY, ITEM_BYTES, Host, encoded_length, second_text
+from oai.model import DAY, ITEM_BYTES, Host, encoded_length, read_elements, second_text
 
 START = 1_704_067_200  # 2024-01-01T00:00:00Z
 
@@ -30,11 +30,17 @@ BAD_LINES = [
     '{"deposit":"ID","sets":["none"],"records":{"oai_dc":[]}}',
 ]  # fmt: skip
 
-# The same of puts, and of records that are texts, which `oaihost` takes for no commands, and `oaihostd` for elements.
+# The same of puts, of records that are texts, and of texts about records, which `oaihost` takes for no commands, and `oaihostd` for elements.
 TEXT_LINES = [
     '{"put":"ID","sets":[],"records":{"oai_dc":[]}}', '{"put":"ID","deposit":"ID","sets":[],"records":{"oai_dc":[]}}', '{"put":1,"sets":[],"records":{}}',
     '{"put":"ID"}', '{"put":"ID","sets":[],"records":{"oai_dc":[]},"about":{}}',
     '{"deposit":"ID","sets":[],"records":{"oai_dc":"<dc/>"}}', '{"deposit":"ID","sets":[],"records":{"oai_dc":"<"}}', '{"deposit":"x","sets":[],"records":{"zz":""}}',
+    '{"deposit":"ID","sets":[],"records":{"oai_dc":[["title","T"]]},"about":{"oai_dc":["<a/>"]}}', '{"put":"ID","sets":[],"records":{"oai_dc":[]},"about":[]}',
+    '{"deposit":"ID","sets":[],"records":{"oai_dc":[]},"about":{"oai_dc":["<a/>"]}}', '{"deposit":"ID","sets":[],"records":{"oai_dc":[]},"about":{"oai_dc":[]}}',
+    '{"deposit":"ID","sets":[],"records":{"oai_dc":[]},"about":{"zz":[]}}', '{"deposit":"ID","sets":[],"records":{"oai_dc":[],"zz":[]},"about":{"zz":["x"]}}',
+    '{"deposit":"ID","sets":[],"records":{"oai_dc":"<"},"about":{"oai_dc":["","<b>"]}}', '{"delete":"ID","about":{}}', '{"set":"x","name":"X","about":{}}',
+    '{"deposit":"ID","sets":[],"records":{"oai_dc":[]},"about":{"oai_dc":"<a/>"}}', '{"put":"ID","sets":[],"records":{"oai_dc":[]},"about":{"oai_dc":[["a","b"]]}}',
+    '{"put":"x","sets":[],"records":{"oai_dc":[["title","T"]]},"about":{"oai_dc":["<a/>","<b></a>"]}}', '{"put":"ID","sets":[],"records":{},"about":null}',
     '{"deposit":"ID","sets":[],"records":{"oai_dc":[["","<dc/>"]]}}', '{"deposit":"ID","sets":["x:"],"records":{"oai_dc":[],"jnl":"<a>&x;</a>"}}',
 ]  # fmt: skip
 
@@ -170,7 +176,7 @@ class Author:
         """Adds a field with which the item has just so many bytes as it is stored."""
         field = ["title", ""]
         line["records"]["oai_dc"].append(field)
-        field[1] = "t" * (most - encoded_length(repository.item_of(line)))
+        field[1] = "t" * (most - encoded_length(repository.item_of(line | {"records": read_elements(line["records"], {})})))
 
     def delete(self, repository):
         known = list(repository.items)

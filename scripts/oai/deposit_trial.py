@@ -15,7 +15,7 @@ import typing
 
 from oai import trials
 from oai.clients import exchange, token_of
-from oai.exports import ELEMENT, LIMIT, SETS, Export, dumped
+from oai.exports import ABOUT, ELEMENT, LIMIT, SETS, Export, dumped
 from oai.items import NAME, configuration, deposit, identifier_of
 from oai.programs import TOP, needs, oaihostd
 from oai.relay import FIELDS_END, LATER, REFUSED_TOKEN, Relay, answer_of, cut_answer, cut_request, drop_answer, read_message
@@ -383,21 +383,24 @@ def change_lines(lines):
     names = set()
     for number, at in enumerate(random.Random(SEED).sample(range(len(SETS), len(lines) - RESTORED), CHANGES - RESTORED)):
         line = json.loads(lines[at])
-        change_of(number % 5)(line)
+        change_of(number)(line)
         lines[at] = json.dumps(line).encode()
         names.add(line["deposit"])
     return names
 
 
 def change_of(number):
-    """A way in which a line changes: a field, the sets, the order of fields, a record that is new or has a field more, one that is an element."""
-    return [
+    """A way in which a line changes: a field, the sets, the order of fields, a record that is new or has a field more, one that is an element, what is about
+    a record."""
+    ways = [
         lambda line: line["records"]["oai_dc"].append(["rights", "None"]),
         lambda line: line.update(sets=[] if line["sets"] else ["letters"]),
         lambda line: line["records"]["oai_dc"].reverse(),
         lambda line: line["records"].update(jnl=[["pages", "changed"]]),
         lambda line: line["records"].update(jnl=ELEMENT.replace("7", "8")),
-    ][number]
+        lambda line: line.update(about={"oai_dc": [ABOUT.replace("Free", "Closed")]}),
+    ]
+    return ways[number % len(ways)]
 
 
 def check_left_out(trial, archive, relay, lines, before):

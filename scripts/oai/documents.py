@@ -2,6 +2,7 @@
 
 import collections
 import glob
+import json
 import re
 import subprocess
 import tempfile
@@ -10,8 +11,8 @@ import xml.etree.ElementTree as ElementTree
 from oai import interop
 from oai.author import START, Author, asked_script
 from oai.clients import get, post
-from oai.items import body_of, configuration, deposit
-from oai.programs import needs, oaihost, oaihostd
+from oai.items import PROVENANCE, RIGHTS, body_of, configuration, deposit
+from oai.programs import TOP, needs, oaihost, oaihostd
 from oai.servers import PATIENCE, Server, write_configuration
 
 SCHEMA = "scripts/valid/OAI-PMH.xsd"
@@ -205,19 +206,31 @@ ELEMENTS = [
     ("jnl", f'<j:article xmlns:j="http://host.example/jnl/" {LOCATION}><j:volume>7</j:volume><j:pages><![CDATA[1-2]]></j:pages></j:article>'),
     ("jnl", '<?xml version="1.0"?><article xmlns="http://host.example/jnl/"><pages>&lt;3&gt;</pages></article>'),
 ]
+# What is about each of them, written in several ways and as in an example, and what describes the repository and a set.
+EXAMPLES = [text for line in (TOP / "examples/about.jsonl").read_text().splitlines() for text in json.loads(line)["about"]["oai_dc"]]
+DEFINED = '<!-- c --><r:rights xmlns:r="http://www.openarchives.org/OAI/2.0/rights/"><r:rightsDefinition><b xmlns=""/></r:rightsDefinition></r:rights>'
+ABOUT = [*EXAMPLES, RIGHTS, PROVENANCE, DEFINED]
+DESCRIBED = TOP / "examples/described.json"
 INVALID = [
     ("oai_dc", '<dc xmlns="http://www.openarchives.org/OAI/2.0/oai_dc/"><title>in no namespace of Dublin Core</title></dc>'),
     ("jnl", '<article xmlns="http://host.example/jnl/"><volume n="1">7</volume></article>'),
 ]
 
 
-def documents_of(elements, folder):
-    """The files of the documents, in a folder, that a server of `oaihostd` answers for these records."""
-    lines = [deposit(f"oai:archive:{number}", [], {"oai_dc": []} | {prefix: text}) for number, (prefix, text) in enumerate(elements)]
+# The same of what is about a record: it is of the protocol's namespace, of one that has no schema here, or not of its schema.
+INVALID_ABOUT = ['<record xmlns="http://www.openarchives.org/OAI/2.0/"/>', "<note/>", PROVENANCE.replace("2002-01-01", "2002")]
+
+
+def documents_of(elements, folder, about=ABOUT):
+    """The files of the documents, in a folder, that a server of `oaihostd` answers for these records, about each of which are these elements."""
+    lines = [{"set": "letters", "name": "Letters"}]
+    lines += [deposit(f"oai:archive:{number}", [], {"oai_dc": []} | {prefix: text}) | {"about": {prefix: about}} for number, (prefix, text) in enumerate(elements)]
     queries = [f"verb=GetRecord&metadataPrefix={prefix}&identifier=oai:archive:{number}" for number, (prefix, _) in enumerate(elements)]
-    queries += [f"verb=ListRecords&metadataPrefix={prefix}" for prefix in ("oai_dc", "jnl")]
-    paths = []
-    with Server(configuration(100, 60, 10, 100), durable=True) as server:
+    queries += [f"verb=ListRecords&metadataPrefix={prefix}" for prefix in ("oai_dc", "jnl")] + ["verb=Identify", "verb=ListSets"]
+    paths, made = [], configuration(100, 60, 10, 100)
+    described = json.loads(DESCRIBED.read_text())["repositories"][0]
+    made["repositories"][0] |= {it: described[it] for it in ("description", "sets")}
+    with Server(made, durable=True) as server:
         said = post(server.connect(), lines)
         if any(not it.startswith("ok ") for it in said):
             raise SystemExit(f"a deposit of elements was answered {said}")
@@ -229,11 +242,14 @@ def documents_of(elements, folder):
 
 
 def check_elements(count):
-    """Records that are elements, where their schemas are here; and that what no schema has is refused: how often it is not."""
+    """Records that are elements, with elements about them, where their schemas are here, and what describes the repository and its set; and that what no
+    schema has is refused: how often it is not."""
     with tempfile.TemporaryDirectory(prefix="valid-") as folder:
         count.add("elements", documents_of(ELEMENTS, folder))
-        paths = documents_of(INVALID, folder)[: len(INVALID)]
-        return len(paths) - len(refused(paths))
+        taken = len(INVALID) - len(refused(documents_of(INVALID, folder)[: len(INVALID)]))
+        for it in INVALID_ABOUT:
+            taken += not refused(documents_of(ELEMENTS[:1], folder, [it])[:1])
+        return taken
 
 
 def valid(scripts: int = 100, lines: int = 200, seed: int = 57):
@@ -242,7 +258,8 @@ def valid(scripts: int = 100, lines: int = 200, seed: int = 57):
     That is scripts/valid/OAI-PMH.xsd, which is written from the text of the protocol. The documents are
       all that the harvests of `interop` are answered;
       all that `ask` answers to SCRIPTS scripts of `fuzz`, of the seed SEED and the ones after it, of LINES lines each;
-      those of `oaihostd` for records that are elements of oai_dc and of the format of `interop`;
+      those of `oaihostd` for records that are elements of oai_dc and of the format of `interop`, with rights and provenance about them, and those of
+      the descriptions of the repository and of a set;
       those of a script that asks for each of four classes, which the specification of this repository allows and the schema refuses:
         a year 0000          a `from` or `until` of the year 0000, which XML Schema lacks, is repeated in `request`
         a bare %             an identifier has a `%` without two hexadecimal digits

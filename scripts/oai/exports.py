@@ -16,6 +16,9 @@ EMPTY = {"oai_dc": []}
 # A record that is an element, in canonical text, as a dump has it.
 ELEMENT = '<article xmlns="http://host.example/jnl/"><volume n="1">&lt;7&gt; 手紙</volume></article>'
 
+# An element about a record, in canonical text.
+ABOUT = '<rights xmlns="http://host.example/rights/" xml:lang="en">Free &amp; open: 手紙</rights>'
+
 
 def dumped(command):
     """A line as it is compared: members and sets in their order, nothing between them."""
@@ -26,7 +29,10 @@ def dumped(command):
 # What is wrong in itself, by the words of its refusal: lines, or commands that are written as JSON.
 WRONG = {
     "1 bad-json": [b'{"deposit":', b'{"delete":"oai:host.example:\xff"}', b"delete oai:host.example:1", b'\xef\xbb\xbf{"delete":"oai:host.example:1"}'],
-    "2 bad-command": [{"remove": "oai:x:1"}, {"delete": "oai:x:1", "sets": []}, deposit("oai:x:1", [], {"oai_dc": [["title"]]})],
+    "2 bad-command": [
+        {"remove": "oai:x:1"}, {"delete": "oai:x:1", "sets": []}, deposit("oai:x:1", [], {"oai_dc": [["title"]]}),
+        deposit("oai:x:1", [], EMPTY) | {"about": {"jnl": []}}, deposit("oai:x:1", [], EMPTY) | {"about": {"oai_dc": ABOUT}},
+    ],
     "3 bad-identifier": [deposit("x", [], EMPTY), {"delete": "oai:a b"}],
     "4 bad-set-spec": [deposit("oai:x:1", ["theses:"], EMPTY), {"set": "a b", "name": "A"}],
     "5 bad-text": [deposit("oai:x:1", [], {"oai_dc": [["title", "\u0001"]]}), {"set": "unnamed", "name": ""}],
@@ -34,8 +40,13 @@ WRONG = {
     "7 unknown-format": [deposit("oai:x:1", [], EMPTY | {"marc": []})],
     "8 no-dc": [deposit("oai:x:1", [], {"jnl": []}), deposit("oai:x:1", [], {})],
     "9 unknown-field": [deposit("oai:x:1", [], {"oai_dc": [["headline", "x"]]})],
-    "20 bad-xml 3": [deposit("oai:x:1", [], EMPTY | {"jnl": "<a>"}), deposit("oai:x:1", [], {"oai_dc": " <a"})],
-    "21 not-of-format": [deposit("oai:x:1", [], EMPTY | {"jnl": "<article/>"}), deposit("oai:x:1", [], {"oai_dc": "<dc/>"})],
+    "20 bad-xml 3": [
+        deposit("oai:x:1", [], EMPTY | {"jnl": "<a>"}), deposit("oai:x:1", [], {"oai_dc": " <a"}),
+        deposit("oai:x:1", [], {"oai_dc": [["title", "x"]], "jnl": ELEMENT}) | {"about": {"oai_dc": ["<"], "jnl": [ABOUT, "<a>"]}},
+    ],
+    "21 not-of-format": [
+        deposit("oai:x:1", [], EMPTY | {"jnl": "<article/>"}), deposit("oai:x:1", [], {"oai_dc": "<dc/>"}), deposit("oai:x:1", [], EMPTY) | {"about": {"oai_dc": [ABOUT]}},
+    ],
     "11 too-large": [deposit("oai:x:1", [], {"oai_dc": [["title", "x" * 1_048_576]]})],
     "13 no-such-item": [{"delete": "oai:x:1"}],
     "15 not-transient": [{"purge": "2024-12-31"}],
@@ -82,6 +93,8 @@ class Export:
             records["jnl"] = ELEMENT
         if number % 11 == 0:
             records["oai_dc"] += any_fields(self.chance, DUBLIN_CORE)
+        if number % 17 == 0:
+            line["about"] = {prefix: [ABOUT] * self.chance.randrange(1, 3) for prefix, fields in records.items() if fields}
         self.write(line)
         self.items[line["deposit"]] = dumped(line | {"sets": shown_sets(line["sets"])})
         self.deleted.discard(line["deposit"])
@@ -153,7 +166,7 @@ class Export:
         for identifier, line in self.items.items():
             if identifier in self.deleted:
                 line = json.loads(line)
-                yield dumped(line | {"records": dict.fromkeys(line["records"], [])})
+                yield dumped(deposit(identifier, line["sets"], dict.fromkeys(line["records"], [])))
                 yield dumped({"delete": identifier})
             else:
                 yield line

@@ -1,4 +1,4 @@
-"""Random scripts for a server of `oaihostd`, in which records are elements too, compared with the model."""
+"""Random scripts for a server of `oaihostd`, in which records are elements too and have elements about them, compared with the model."""
 
 import json
 import pathlib
@@ -10,7 +10,7 @@ from oai.author import KINDS, Author
 from oai.elements import FIFTH_EDITION, Author as Texts
 from oai.exports import LIMIT, dumped
 from oai.items import deposit
-from oai.model import OAI, Host, read_bound
+from oai.model import OAI, Host, parts_of, read_bound
 from oai.programs import oaihostd
 from oai.servers import serve_durably, write_configuration
 from oai.trials import Trial
@@ -40,7 +40,7 @@ class ElementAuthor(Author):
     def next_exchange(self):
         """The method, the target and the body of what is asked next."""
         repository = self.host.repositories[self.chooser.choices("abc", [6, 2, 2])[0]]
-        kinds = KINDS | {ElementAuthor.deposit_elements: 30, ElementAuthor.change_forms: 5, ElementAuthor.put: 25}
+        kinds = KINDS | {ElementAuthor.deposit_elements: 30, ElementAuthor.change_forms: 5, ElementAuthor.change_about: 5, ElementAuthor.put: 25}
         return self.chooser.choices(list(kinds), list(kinds.values()))[0](self, repository)
 
     def element(self, prefix):
@@ -53,12 +53,24 @@ class ElementAuthor(Author):
         return (self.texts.mutilated(text) if self.chance(0.3) else text).translate(FIFTH_EDITION)
 
     def deposit_elements(self, repository):
-        """A deposit of which some records are elements, and others lists."""
-        line = json.loads(self.deposit(repository)[2])
+        """A deposit of which some records are elements, and others lists; some have elements about them."""
+        line, has_about = json.loads(self.deposit(repository)[2]), self.chance(0.5)
         for prefix in repository.formats:
-            if self.chance(0.6):
+            if self.chance(0.3 if has_about else 0.6):
                 line["records"][prefix] = self.element(prefix)
+        if has_about:
+            about = {prefix: self.texts_about() for prefix, given in line["records"].items() if self.chance(0.7 if given else 0.1)}
+            # (its prefixes stand in any order)
+            line["about"] = dict(self.chooser.sample(list(about.items()), len(about)))
         return self.posted(repository, line)
+
+    def texts_about(self):
+        """Up to three texts about a record, which are mostly elements, of any root."""
+        return [self.text_about() for _ in range(self.choice([0, 1, 1, 2, 3]))]
+
+    def text_about(self):
+        text = self.texts.text()
+        return (self.texts.mutilated(text) if self.chance(0.05) else text).translate(FIFTH_EDITION)
 
     def put(self, repository):
         """Puts of an item: mostly as it is held, written otherwise or changed; or of one that is unknown, or that is refused. Now and then the line comes
@@ -70,18 +82,25 @@ class ElementAuthor(Author):
             kinds = {Author.deposit: 4, ElementAuthor.deposit_elements: 4, ElementAuthor.change_forms: 1}
             line = json.loads(self.chooser.choices(list(kinds), list(kinds.values()))[0](self, repository)[2])
         names = self.chooser.choices([["put"], ["put", "put"], ["deposit", "put"], ["put", "deposit", "put"]], [6, 2, 1, 1])[0]
-        bodies = [self.posted(repository, {name: line["deposit"]} | {it: line[it] for it in ("sets", "records")})[2] for name in names]
+        members = {it: line[it] for it in ("sets", "records", "about") if it in line}
+        bodies = [self.posted(repository, {name: line["deposit"]} | members)[2] for name in names]
         body = "\n".join(bodies)
         return "POST", f"/deposit/{repository.name}", body if len(body.encode()) <= LIMIT else bodies[0]
 
     def held_line(self, item):
-        """The deposit of an item as it is held: of a deleted one without fields. It is written otherwise, or has another text, set, field or record."""
-        line = deposit(item.identifier, list(item.sets), {prefix: as_given(fields) for prefix, fields in item.records.items()})
+        """The deposit of an item as it is held: of a deleted one without fields. It is written otherwise, or has another text, set, field or record, or
+        something else about one."""
+        line = line_of(item)
         records, prefix = line["records"], self.choice(list(item.records))
-        change = self.chooser.choices(["none", "written", "sets", "order", "fields", "text", "form"], [6, 6, 1, 1, 1, 1, 1])[0]
+        change = self.chooser.choices(["none", "written", "sets", "order", "fields", "text", "form", "about"], [6, 6, 1, 1, 1, 1, 1, 2])[0]
         if change == "written":
             line["sets"] += [it.rpartition(":")[0] or it for it in item.sets]
             line["records"] = {it: self.written(records[it]) for it in self.chooser.sample(list(records), len(records))}
+            # (an empty list of texts is nothing)
+            line["about"] = {prefix: []} | {it: [self.written(text) for text in texts] for it, texts in line.get("about", {}).items()}
+        elif change == "about":
+            texts = line.setdefault("about", {}).setdefault(prefix, [])
+            line["about"][prefix] = self.choice([texts[1:], texts[::-1], texts * 2, [*texts, self.text_about()], [it.replace(">", "> ", 1) for it in texts]])
         elif change == "sets":
             line["sets"] = line["sets"][1:]
         elif change == "order":
@@ -109,6 +128,14 @@ class ElementAuthor(Author):
         records = {"oai_dc": [], prefix: self.choice([[["", self.element(prefix)]], [], [["record", "x"]], 1, None, {"": "<a/>"}])}
         return self.posted(repository, deposit(self.identifier(repository), [], records))
 
+    def change_about(self, repository):
+        """A deposit with what no record may have about it: of another format or kind, about an empty list, or no element in the second place."""
+        prefix, text = self.choice(list(repository.formats)), self.element("oai_dc")
+        records = {"oai_dc": [["title", "x"]], prefix: self.choice([[], [["record", "x"]], text, text])}
+        wrong = [{"none": []}, {"none": [text]}, {prefix: text}, {prefix: [[text]]}, {prefix: [1]}, {prefix: None}, [], None, text, {prefix: [text, "<"]}]
+        about = self.choice([*wrong, {}, {prefix: []}, {prefix: [text], "oai_dc": [text, "", "<"]}, {prefix: [text]}])
+        return self.posted(repository, deposit(self.identifier(repository), [], records) | {"about": about})
+
 
 class Run:
     """A server and the model, which are asked the same."""
@@ -117,7 +144,7 @@ class Run:
         self.author, self.seed, self.trial = ElementAuthor(seed), seed, trial
         self.folder, self.config = str(folder / "archive"), folder / "config.json"
         write_configuration(self.config, {"cache": 64} | self.author.configuration)
-        self.server, self.refused = None, {}
+        self.server, self.refused, self.about = None, {}, 0
         self.start()
 
     def start(self):
@@ -140,6 +167,7 @@ class Run:
         wanted = self.author.host.exchange(self.moment(target, text), method, target, body)
         what = f"seed {self.seed}: {method} {target} {body[:300]!r}"
         self.trial.check(what, (status, text), (wanted.status, wanted.body))
+        self.about += text.count("<about>")
         for words in re.findall("^(ok|refused [0-9]+)", text, re.MULTILINE):
             self.refused[words] = self.refused.get(words, 0) + 1
 
@@ -170,13 +198,20 @@ def lines_of(repository):
     for spec, name in repository.sets.items():
         yield {"set": spec, "name": name}
     for it in sorted(repository.items.values(), key=lambda it: (it.stamp, it.identifier)):
-        yield deposit(it.identifier, it.sets, {prefix: as_given(fields) for prefix, fields in it.records.items()})
+        yield line_of(it)
         if not it.is_live:
             yield {"delete": it.identifier}
 
 
+def line_of(item):
+    """The deposit of an item, with what is about its records, if there is something."""
+    parts = {prefix: parts_of(fields) for prefix, fields in item.records.items()}
+    about = {prefix: texts for prefix, (_, texts) in parts.items() if texts}
+    return deposit(item.identifier, list(item.sets), {prefix: as_given(it) for prefix, (it, _) in parts.items()}) | ({"about": about} if about else {})
+
+
 def as_given(fields):
-    """What is given for a record that is kept as these fields: an element as a text."""
+    """What is given for a record that is itself kept as these fields: an element as a text."""
     return fields[0][1] if [name for name, _ in fields] == [""] else [list(it) for it in fields]
 
 
@@ -185,14 +220,15 @@ def fuzz_elements(scripts: int = 20, lines: int = 500, seed: int = 96):
 
     A script is a number of exchanges with a server of three repositories: those of `fuzz`, and deposits of elements, of
     lists and of both; elements of the format, with prefixes, comments, CDATA and references, some of them mutilated, or
-    of another format; fields without names; puts of items as they are held, changed, deleted or unknown. Each answer is
-    that of the model, which reads elements by expat, at the moment that the answer tells. After a half the server is
-    killed, after three quarters a checkpoint is made; at the end dumps are compared. It says how often each refusal was
-    answered, and how many puts left an item as it is. The last line is `N checked, M differ`; the status is 0 where M
-    is 0. A script has a seed of its own, SEED and the ones after it.
+    of another format; elements about records, and what is none; fields without names; puts of items as they are held,
+    changed, deleted or unknown. Each answer is that of the model, which reads elements by expat, at the moment that the
+    answer tells. After a half the server is killed, after three quarters a checkpoint is made; at the end dumps are
+    compared. It says how often each refusal was answered, how many puts left an item as it is, and how many elements
+    about records were answered. The last line is `N checked, M differ`; the status is 0 where M is 0. A script has a
+    seed of its own, SEED and the ones after it.
     """
     oaihostd()
-    trial, refused, left = Trial(), {}, 0
+    trial, refused, left, about = Trial(), {}, 0, 0
     for number in range(seed, seed + scripts):
         with tempfile.TemporaryDirectory(prefix="fuzz-elements-") as folder:
             run = Run(pathlib.Path(folder), number, trial)
@@ -209,6 +245,7 @@ def fuzz_elements(scripts: int = 20, lines: int = 500, seed: int = 96):
                 run.kill()
             refused = {it: refused.get(it, 0) + run.refused.get(it, 0) for it in refused.keys() | run.refused.keys()}
             left += sum(it.left for it in run.author.host.repositories.values())
+            about += run.about
     numbered = sorted(refused, key=lambda it: int((it.split() + ["0"])[1]) if " " in it else 0)
-    print(", ".join([*(f"{it}: {refused[it]}" for it in numbered), f"put and left: {left}"]))
+    print(", ".join([*(f"{it}: {refused[it]}" for it in numbered), f"put and left: {left}", f"about records: {about}"]))
     return trial.ended()

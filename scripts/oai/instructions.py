@@ -274,7 +274,7 @@ def both_forms(settings, count):
     for number in range(count):
         line = item(number)
         line["records"]["oai_dc"].append(("description", plain_text(random.Random(number), LETTERS)[:LETTERS]))
-        text = repository.metadata(repository.item_of(line), "oai_dc")
+        text = repository.metadata(line["records"]["oai_dc"], "oai_dc")
         lists.append(line)
         elements.append(line | {"records": {"oai_dc": text}})
     return lists, elements

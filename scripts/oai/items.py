@@ -20,6 +20,18 @@ JOURNAL = {
     "fields": ["volume", "pages"],
 }
 
+# What may stand about a record: a right, and where it comes from, by the guidelines of the OAI, with a comment, and a prefix or none.
+RIGHTS = (
+    '<rights xmlns="http://www.openarchives.org/OAI/2.0/rights/" xmlns:xsi="http://www.w3.org/2001/XMLSchema-instance" xsi:schemaLocation='
+    '"http://www.openarchives.org/OAI/2.0/rights/ http://www.openarchives.org/OAI/2.0/rights.xsd"><!-- free -->\n'
+    '<rightsReference ref="http://creativecommons.org/licenses/by/4.0/"/></rights>'
+)
+PROVENANCE = (
+    '<p:provenance xmlns:p="http://www.openarchives.org/OAI/2.0/provenance">\n<p:originDescription harvestDate="2002-02-02T14:10:02Z" altered="true">'
+    "<p:baseURL>http://origin.example/oai</p:baseURL><p:identifier>oai:origin.example:1</p:identifier><p:datestamp>2002-01-01</p:datestamp>"
+    "<p:metadataNamespace>http://www.openarchives.org/OAI/2.0/oai_dc/</p:metadataNamespace></p:originDescription></p:provenance>"
+)
+
 DUBLIN_CORE = (
     "title creator subject description publisher contributor date type format identifier source language relation coverage rights"
 ).split()

@@ -53,6 +53,9 @@ ELEMENT = (
     "<dc:title>{}</dc:title><dc:date xml:lang='en'/></o:dc>"
 )
 
+# Two elements about it.
+ABOUT = {"oai_dc": ["<rights xmlns='http://host.example/rights/'>free</rights>", "<?xml version='1.0'?><p:note xmlns:p='urn:x' p:a='&#xe9;'/>"]}
+
 
 def start(config, folder):
     """A server on that folder, which may not start."""
@@ -148,7 +151,8 @@ class Client(threading.Thread):
         if command == "put" and item in stands and self.random.random() < 0.5:
             title = self.known.items[item][1]
         record = self.random.choice([[["title", title]], ELEMENT.format(title)])
-        return {command: item[1], "sets": [], "records": {"oai_dc": record}}, item, title
+        about = {"about": ABOUT} if self.random.random() < 0.3 else {}
+        return {command: item[1], "sets": [], "records": {"oai_dc": record}} | about, item, title
 
     def deposit(self, connection, name):
         """Deposits some lines, each about another item."""
@@ -395,16 +399,16 @@ def rounds(config, folder, count, chance, known):
 def kill(count: int, seed: int = None):
     """Kills a server with -9 at COUNT random moments, restarts it each time, and shows that acknowledged writes are durable.
 
-    That is every deposit, of fields or of an element, and every deletion, with its datestamp; every token that it handed out; and no number of a
-    list is given twice. A round: six clients deposit, delete, list and ask for parts of lists at two repositories,
-    until the server is killed somewhere in between; it is started again on its folder; and then are compared: what its
-    journal holds with what was acknowledged, each item that the round touched with what was acknowledged of it and with
-    a model that replayed the journal's records, and each part of a list that a token was handed out for with the part
-    that was given before, and with the model's. The journal has to be found good beside the server, and all of its
-    records behind it. Every third round it is started on a copy of its folder first, in which the bytes after the
-    commit byte that ends the journal are cut or overwritten: it has to find the same records there. Before every second start
-    `checkpoint` is called, and half of the times killed somewhere in between: the journal is then as it was, or a
-    checkpoint, at which all lists have ended.
+    That is every deposit, of fields or of an element, with elements about it or none, and every deletion, with its
+    datestamp; every token that it handed out; and no number of a list is given twice. A round: six clients deposit,
+    delete, list and ask for parts of lists at two repositories, until the server is killed somewhere in between; it is
+    started again on its folder; and then are compared: what its journal holds with what was acknowledged, each item
+    that the round touched with what was acknowledged of it and with a model that replayed the journal's records, and
+    each part of a list that a token was handed out for with the part that was given before, and with the model's. The
+    journal has to be found good beside the server, and all of its records behind it. Every third round it is started on
+    a copy of its folder first, in which the bytes after the commit byte that ends the journal are cut or overwritten:
+    it has to find the same records there. Before every second start `checkpoint` is called, and half of the times
+    killed somewhere in between: the journal is then as it was, or a checkpoint, at which all lists have ended.
 
     It writes its seed to standard error, and names each difference; its last line is `N kills, 0 differences`, and its
     status is 0 where there are none.

@@ -142,9 +142,9 @@ class Move:
     def __init__(self, trial, source, target, folder):
         self.trial, self.source, self.target, self.state = trial, f"http://127.0.0.1:{source.port}/oai.xml", target, folder / "state"
 
-    def run(self, what):
+    def run(self, what, *arguments):
         """Runs it; how many records were new, changed, deleted, unchanged and refused."""
-        command = ["scripts/mirror", self.source, f"http://127.0.0.1:{self.target.port}/deposit/archive", self.state, "--elements"]
+        command = ["scripts/mirror", self.source, f"http://127.0.0.1:{self.target.port}/deposit/archive", self.state, "--elements", *arguments]
         ran = subprocess.run(command, capture_output=True, text=True, check=False)
         print(f"{what}: {ran.stdout.strip()} {ran.stderr.strip()}", flush=True)
         found = COUNTS.match(ran.stdout)
@@ -175,10 +175,12 @@ def running(process, port):
 def mirror_dachs(records: int = 200):
     """Shows that scripts/mirror moves the records of DaCHS, the data provider of the Virtual Observatory, which nobody here has written.
 
-    DaCHS publishes RECORDS records, in oai_dc and as VOResource; its documents give the protocol's elements a prefix, and declare all namespaces of records on
-    their root. They are moved with --elements to a server of `oaihostd`; again, without a state; and once a third has changed and a tenth was taken
-    away. Each record is then compared, as a tree. It is for a machine that uses DaCHS for nothing else: what it published stays there, as deleted. Packages
-    of Debian, which want PostgreSQL to run (`pg_ctlcluster 15 main start`):
+    DaCHS publishes RECORDS records, in oai_dc and as VOResource; its documents give the protocol's elements a prefix,
+    and declare all namespaces of records on their root. They are moved with --elements to a server of `oaihostd`;
+    again, without a state; and once a third has changed and a tenth was taken away; and with --provenance, by which
+    each changes once. Each record is then compared, as a tree. It is for a machine that uses DaCHS for nothing else:
+    what it published stays there, as deleted. Packages of Debian, which want PostgreSQL to run (`pg_ctlcluster 15 main
+    start`):
         apt-get install gavodachs2-server libhttp-oai-perl
     Its last line is `N checked, M differ`; the status is 0 where M is 0.
     """
@@ -203,7 +205,7 @@ def mirror_dachs(records: int = 200):
 
 
 def compare_moves(trial, source, move):
-    """A whole move, one where nothing changed, and one of what has changed."""
+    """A whole move, one where nothing changed, one of what has changed, and two that say where records were harvested."""
     move.run("a whole move")
     live = move.compare("a whole move")
     trial.check("how many were published", sum("/mirror_dachs/" in it for it in live), len(source.titles))
@@ -215,3 +217,8 @@ def compare_moves(trial, source, move):
     left = move.compare("what has changed")
     trial.check("what has changed: deletions and refusals", (deleted, refused), (len(live) - len(left), 0))
     trial.check("how many are left", sum("/mirror_dachs/" in it for it in left), len(source.titles))
+    for what, changes in {"with provenance": len(left), "with provenance, again": 0}.items():
+        move.state.unlink()
+        new, changed, deleted, _, refused = move.run(what, "--provenance")
+        trial.check(what, (new, changed, deleted, refused), (0, changes, 0, 0))
+    move.compare("with provenance")

@@ -20,7 +20,7 @@ from xml.etree import ElementTree
 from xml.parsers import expat
 
 from oai.interop import moved, stamp_now
-from oai.items import DUBLIN_CORE, JOURNAL, any_fields, configuration, plain_text
+from oai.items import DUBLIN_CORE, JOURNAL, PROVENANCE, RIGHTS, any_fields, configuration, plain_text
 from oai.journal import Journal
 from oai.model import shown_sets
 from oai.programs import needs, oaihostd
@@ -41,6 +41,13 @@ DATACITE = {
     "prefix": "datacite", "schema": "http://schema.datacite.org/meta/kernel-4.4/metadata.xsd", "namespace": "http://datacite.org/schema/kernel-4",
     "root": "resource",
 }  # fmt: skip
+
+# The namespaces of the four formats.
+NAMESPACES = {"oai_dc": f"{OAI[1:-1]}oai_dc/"} | {it["prefix"]: it["namespace"] for it in (JOURNAL, MARC, DATACITE)}
+
+# The namespace of what says where a record was harvested; and what stands about records of the source beside that and rights.
+ORIGIN = "{http://www.openarchives.org/OAI/2.0/provenance}"
+NOTE = "<note xmlns='' xmlns:t='urn:example:types' type='t:note'>Łódź &amp; others<![CDATA[ <more>]]><?an instruction?></note>"
 
 # What the requests have that are cut.
 POST, TOKEN = b"POST ", b"resumptionToken="
@@ -77,7 +84,7 @@ class Source:
 
     def __init__(self, folder):
         self.folder, self.random, self.items = folder, random.Random(SEED), {}
-        self.port, self.process, self.templates, self.prefix = free_port(), None, "scripts/mirror-source", ""
+        self.port, self.process, self.templates, self.prefix, self.has_about = free_port(), None, "scripts/mirror-source", "", False
         for number in range(ITEMS):
             front = self.random.choice(["", "x/", "%C3%A9-", "(a);", "A+B="])
             self.set_item(f"{front}{number}", moved(stamp_now(), -self.random.randrange(10, 1_000_000)), deleted=number % 50 == 0)
@@ -91,7 +98,16 @@ class Source:
         texts = any_fields(self.random, DUBLIN_CORE) + [["description", plain_text(self.random, 100)]]
         sets = self.random.choices(list(SETS), k=self.random.randrange(4)) if sets is None else sets
         item = {"_id": identifier, "datestamp": stamp, "sets": list(dict.fromkeys(sets)), "deleted": int(deleted)}
-        self.items[identifier] = item | {"oai_dc": texts, "jnl": any_fields(self.random, JOURNAL["fields"])}
+        item |= {"oai_dc": texts, "jnl": any_fields(self.random, JOURNAL["fields"])}
+        self.items[identifier] = item | {"about": self.random.choice([[], [RIGHTS], [PROVENANCE], [NOTE, PROVENANCE, RIGHTS]])}
+
+    def change_about(self, count):
+        """Gives so many items something else about them, each once, and nothing else new. Gives their identifiers."""
+        changed = self.random.sample(self.live(), count)
+        for it in changed:
+            self.items[it] |= {"about": [NOTE, *self.items[it]["about"]], "datestamp": stamp_now()}
+        self.write()
+        return changed
 
     def live(self):
         return [name for name, it in self.items.items() if not it["deleted"] and name not in NO_URIS]
@@ -118,7 +134,7 @@ class Source:
         self.write()
         environment = os.environ | {
             "ITEMS": f"{self.folder}/items.jsonl", "SETS": f"{self.folder}/sets.json",
-            "LIMIT": str(LIMIT), "TEMPLATES": os.path.abspath(self.templates), "PREFIX": self.prefix,
+            "LIMIT": str(LIMIT), "TEMPLATES": os.path.abspath(self.templates), "PREFIX": self.prefix, "ABOUT": str(int(self.has_about)),
         }  # fmt: skip
         command = ["starman", "--host", "127.0.0.1", "--port", str(self.port), "--workers", "2", "scripts/mirror-source/app.psgi"]
         with open(f"{self.folder}/log", "ab") as log:
@@ -129,10 +145,10 @@ class Source:
         os.killpg(self.process.pid, signal.SIGKILL)
         self.process.wait()
 
-    def write_as(self, templates, prefix):
-        """From now on records are written by these templates, and the protocol's elements with a prefix, or without one."""
+    def write_as(self, templates, prefix, has_about=False):
+        """From now on records are written by these templates, and the protocol's elements with a prefix, or without one; with what is about records, or not."""
         self.kill()
-        self.templates, self.prefix = templates, prefix
+        self.templates, self.prefix, self.has_about = templates, prefix, has_about
         self.start()
 
 
@@ -397,40 +413,54 @@ def check_target(trial):
             )
 
 
+class Found(typing.NamedTuple):
+    """What a record is, as `elements_at` finds it."""
+
+    sets: list
+    tree: tuple
+    text: str
+    about: list
+    stamp: str
+
+
 def elements_at(base, prefix):
-    """Each record there, by its identifier: its sets, the tree of its element, and its canonical form, which are None where it is deleted."""
+    """Each record there, by its identifier: its sets, the tree and the canonical form of its element, which are None where it is deleted, the same of each
+    element about it, and its datestamp."""
     found, query = {}, f"metadataPrefix={prefix}"
     while query:
         with urllib.request.urlopen(f"{base}?verb=ListRecords&{query}", timeout=600) as answer:
             data = answer.read()
         document = ElementTree.fromstring(data)
         records = document.findall(f"*/{OAI}record")
-        for record, text in zip(records, texts_of(data), strict=True):
-            sets = [it.text for it in record.iter(f"{OAI}setSpec")]
+        for record, (text, about) in zip(records, texts_of(data), strict=True):
+            sets = sorted(shown_sets([it.text for it in record.iter(f"{OAI}setSpec")]))
             metadata = record.find(f"{OAI}metadata")
             element = (None, None) if metadata is None else (tree(metadata[0]), canonical(text))
-            found[record.findtext(f"{OAI}header/{OAI}identifier")] = sorted(shown_sets(sets)), *element
+            others = [(tree(it[0]), canonical(text)) for it, text in zip(record.findall(f"{OAI}about"), about, strict=True)]
+            name, stamp = (record.findtext(f"{OAI}header/{OAI}{it}") for it in ("identifier", "datestamp"))
+            found[name] = Found(sets, *element, others, stamp)
         token = document.findtext(f".//{OAI}resumptionToken")
         query = token and "resumptionToken=" + urllib.parse.quote(token)
     return found
 
 
 def texts_of(data):
-    """Of each record of a document the text of its element, byte by byte, or None."""
+    """Of each record of a document the text of its element, byte by byte, or None, and those of the elements about it."""
     found, path, begun = [], [], []
     parser = expat.ParserCreate(namespace_separator="}")
 
     def start(name, _):
         path.append(name)
         if len(path) == 3 and name == f"{OAI[1:]}record":
-            found.append(None)
-        if len(path) == 5 and path[3] == f"{OAI[1:]}metadata":
+            found.append((None, []))
+        if len(path) == 5 and path[3] in (f"{OAI[1:]}metadata", f"{OAI[1:]}about"):
             begun[:] = [parser.CurrentByteIndex]
 
-    def end(_):
+    def end(name):
         path.pop()
         if len(path) == 3 and begun:
-            found[-1] = data[begun.pop() : parser.CurrentByteIndex]
+            text, (own, about) = data[begun.pop() : parser.CurrentByteIndex], found[-1]
+            found[-1] = (text, about) if name == f"{OAI[1:]}metadata" else (own, [*about, text])
 
     parser.StartElementHandler, parser.EndElementHandler = start, end
     parser.Parse(data, True)
@@ -443,24 +473,42 @@ def canonical(text):
     return INSTRUCTION.sub("", ElementTree.canonicalize(text.decode()))
 
 
-def compare_elements(trial, what):
-    """Each record of the target is the element of the source."""
+def compare_elements(trial, what, harvested=None):
+    """Each record of the target is the element of the source, and has the elements about it; where there is a first second in which it may have been
+    harvested, it says so behind them."""
     count = 0
-    for prefix in [*PREFIXES, MARC["prefix"], DATACITE["prefix"]]:
+    for prefix, namespace in NAMESPACES.items():
         theirs = elements_at(f"http://127.0.0.1:{trial.source.port}/oai", prefix)
         ours = elements_at(f"http://127.0.0.1:{trial.target.port}/oai/archive", prefix)
         for it in NO_URIS:
             theirs.pop(uri(it), None)
         trial.equal(f"{what}: the identifiers in {prefix}", sorted(theirs), sorted(ours))
         for name in theirs.keys() & ours.keys():
-            trial.equal(f"{what}: {name} in {prefix}", theirs[name], ours[name])
+            wanted, found = theirs[name], ours[name]
+            if harvested and found.tree:
+                wanted = wanted._replace(about=with_origin(wanted, name, namespace, found, harvested))
+            trial.equal(f"{what}: {name} in {prefix}", wanted._replace(stamp=""), found._replace(stamp=""))
         count += len(ours)
     print(f"    {count} records are compared", flush=True)
 
 
+def with_origin(wanted, name, namespace, found, harvested):
+    """What has to be about a record that tells where it was harvested: what the source has, but for what that tells of it, and then the element that is
+    found, if it tells this of the record, around that."""
+    others = [it for it in wanted.about if it[0][0] != f"{ORIGIN}provenance"]
+    told = [child for element, _ in wanted.about if element[0] == f"{ORIGIN}provenance" for child, _ in element[3]]
+    parts = {"baseURL": "http://source.example/oai", "identifier": name, "datestamp": wanted.stamp, "metadataNamespace": namespace}
+    inside = [((f"{ORIGIN}{part}", {}, text, []), "") for part, text in parts.items()] + [(it, "") for it in told]
+    last, _ = found.about[-1] if found.about else (None, None)
+    date = last[3][0][0][1].get("harvestDate", "") if last and last[3] else ""
+    origin = (f"{ORIGIN}originDescription", {"altered": "false", "harvestDate": date}, "", inside)
+    is_told = last and (last[0], last[3]) == (f"{ORIGIN}provenance", [(origin, "")]) and harvested <= date <= stamp_now()
+    return [*others, found.about[-1] if is_told else origin]
+
+
 def check_elements(trial):
     """Moves of records with attributes and nested elements, to formats without fields, while source and target are killed."""
-    trial.source.write_as("scripts/mirror-source/elements", "")
+    trial.source.write_as("scripts/mirror-source/elements", "", has_about=True)
     trial.new_target({name: it for name, it in JOURNAL.items() if name != "fields"}, MARC, DATACITE)
     trial.to_source.cuts += [(MARC["prefix"].encode(), lambda request, relay: relay.answer(request)), (TOKEN, cut_answer(trial.source, True))]
     trial.to_target.cuts += [(POST, lambda request, relay: relay.answer(request)), (POST, cut_request(trial.target, True)), (POST, drop_answer(trial.target, True))]
@@ -475,7 +523,7 @@ def check_elements(trial):
     os.remove(trial.state)
     trial.mirror("elements again, without a state", "--elements")
     trial.performed("elements again", [], [])
-    trial.source.write_as("scripts/mirror-source/elements", "oai")
+    trial.source.write_as("scripts/mirror-source/elements", "oai", has_about=True)
     changed, deleted = trial.source.change(500, 50)
     trial.to_target.cuts += [(POST, drop_answer(trial.target, False))]
     trial.mirror("elements that have changed, and the target is killed", "--elements", status=1)
@@ -486,13 +534,44 @@ def check_elements(trial):
     trial.mirror("elements that have changed", "--elements")
     compare_elements(trial, "elements that have changed")
     trial.performed("elements that have changed", changed, deleted)
+    changed = trial.source.change_about(100)
+    trial.mirror("what is about elements has changed", "--elements")
+    compare_elements(trial, "what is about elements has changed")
+    trial.performed("what is about elements has changed", changed, [])
     trial.source.write_as("scripts/mirror-source", "")
 
 
-PARTS = {"moves": check_moves, "source": check_source, "target": check_target, "elements": check_elements}
+def check_provenance(trial):
+    """Moves of records with elements about them, each of which then says where it was harvested; that alone changes none."""
+    arguments, begun = ["--elements", "--provenance"], stamp_now()
+    trial.source.write_as("scripts/mirror-source/elements", "", has_about=True)
+    trial.new_target({name: it for name, it in JOURNAL.items() if name != "fields"}, MARC, DATACITE)
+    trial.to_target.cuts += [(POST, lambda request, relay: relay.answer(request)), (POST, drop_answer(trial.target, True))]
+    trial.mirror("provenance", *arguments)
+    compare_elements(trial, "provenance", begun)
+    trial.performed("provenance", *items_of(trial.source))
+    os.remove(trial.state)
+    trial.mirror("provenance again, without a state", *arguments)
+    trial.performed("provenance again", [], [])
+    changed, deleted = trial.source.change(50, 20)
+    trial.mirror("provenance of what has changed", *arguments)
+    compare_elements(trial, "provenance of what has changed", begun)
+    trial.performed("provenance of what has changed", changed, deleted)
+    changed = trial.source.change_about(50)
+    trial.mirror("what is about records has changed", *arguments)
+    compare_elements(trial, "what is about records has changed", begun)
+    trial.performed("what is about records has changed", changed, [])
+    os.remove(trial.state)
+    trial.mirror("without provenance", "--elements")
+    compare_elements(trial, "without provenance")
+    trial.performed("without provenance", [it for it in trial.source.live()], [])
+    trial.source.write_as("scripts/mirror-source", "")
 
 
-def mirror_trial(*parts: typing.Literal["moves", "source", "target", "elements"]):
+PARTS = {"moves": check_moves, "source": check_source, "target": check_target, "elements": check_elements, "provenance": check_provenance}
+
+
+def mirror_trial(*parts: typing.Literal["moves", "source", "target", "elements", "provenance"]):
     """Shows that scripts/mirror moves an archive from a data provider that is not this repository's own.
 
     That is Dancer::Plugin::Catmandu::OAI under starman (mirror-source/app.psgi); the target is a server of `oaihostd`.
@@ -506,8 +585,10 @@ def mirror_trial(*parts: typing.Literal["moves", "source", "target", "elements"]
       target   a whole archive each time, where the target is killed when half of a message has come, or when its answer is on the way, and started
                again; is killed so, and started for the next run
       elements a whole archive with --elements, in four formats, whose records have attributes, nested elements and prefixes in values, while source and
-               target are killed; again; 500 changes and 50 deletions, with kills, where the protocol's elements have a prefix. Each record is then the
-               source's, as a tree and in the canonical form
+               target are killed; again; 500 changes and 50 deletions, with kills, where the protocol's elements have a prefix; 100 changes of what is about
+               records alone. Each record is then the source's, as a tree and in the canonical form, and so is each element about it
+      provenance  the same with --provenance, with a kill; again, which changes nothing; changes, deletions and changes of what is about records alone.
+               Each record then says where it was harvested, around what the source says of that; and without the option no more
     Between the two and the program stand relays, which cut. It ends with `N runs, M differences`; the status is 0 where
     M is 0. ITEMS is the number of items, 5000 if it is not set: at least 1000. Packages of Debian:
         apt-get install libhttp-oai-perl libdancer-plugin-catmandu-oai-perl starman

@@ -161,13 +161,15 @@ def is_record(given, has_elements):
 
 
 def is_command(line, has_elements):
-    """Whether a line has just the members of one of the commands, each of its kind. If records may be elements, one of them is a put."""
+    """Whether a line has just the members of one of the commands, each of its kind. If records may be elements, one of them is a put, and elements about
+    records may be given beside them."""
     if not isinstance(line, dict):
         return False
-    if set(line) in [{it, "sets", "records"} for it in ["deposit", "put"][: 1 + has_elements]]:
-        records = line["records"]
-        is_dict = isinstance(identifier_in(line), str) and are_texts(line["sets"]) and isinstance(records, dict)
-        return is_dict and all(is_record(it, has_elements) for it in records.values())
+    members = set(line) - ({"about"} if has_elements else set())
+    if members in [{it, "sets", "records"} for it in ["deposit", "put"][: 1 + has_elements]]:
+        records, about = line["records"], line.get("about", {})
+        is_dict = isinstance(identifier_in(line), str) and are_texts(line["sets"]) and isinstance(records, dict) and isinstance(about, dict)
+        return is_dict and set(about) <= set(records) and all(is_record(it, has_elements) for it in records.values()) and all(map(are_texts, about.values()))
     return set(line) in ({"delete"}, {"purge"}, {"set", "name"}) and are_texts(list(line.values()))
 
 
@@ -176,15 +178,32 @@ def identifier_in(line):
     return line["put" if "put" in line else "deposit"]
 
 
-def read_elements(records):
-    """The records with each text read as an element, in the order of the bytes of their prefixes."""
+class Given(NamedTuple):
+    """What a deposit gives for a format: a list of fields, or an element, and the elements about it."""
+
+    content: object
+    about: list
+
+    def kept(self):
+        """The fields as which an item keeps it: each element as one without a name, those about it behind the others."""
+        fields = [["", self.content.text]] if isinstance(self.content, Element) else self.content
+        return fields + [["", it.text] for it in self.about]
+
+
+def read_elements(records, about):
+    """What is given for each format, with each text read as an element: in the order of the bytes of the prefixes, the record itself first."""
     prefixes = sorted(records, key=str.encode)
-    return {it: read_element(records[it]) if isinstance(records[it], str) else records[it] for it in prefixes}
+    return {it: Given(read_content(records[it]), [read_element(text) for text in about.get(it, [])]) for it in prefixes}
 
 
-def kept(given):
-    """The fields as which an item keeps what is given: an element as one without a name."""
-    return [["", given.text]] if isinstance(given, Element) else given
+def read_content(given):
+    return read_element(given) if isinstance(given, str) else given
+
+
+def parts_of(fields):
+    """The fields of a record itself, and the elements about it: those from the first one without a name on that is not the first field."""
+    end = next((at for at, (name, _) in enumerate(fields) if at and not name), len(fields))
+    return fields[:end], [text for _, text in fields[end:]]
 
 
 def are_bounds(arguments, granularity):
@@ -264,7 +283,7 @@ class Repository:
         if not is_command(line, self.has_elements):
             return "refused 2 bad-command\n"
         try:
-            line |= {"records": read_elements(line["records"])} if "records" in line else {}
+            line |= {"records": read_elements(line["records"], line.get("about", {}))} if "records" in line else {}
         except NoElement as fault:
             return f"refused 20 bad-xml {fault.at}\n"
         number = next((number for number, applies in self.refusals(line) if applies), None)
@@ -282,7 +301,7 @@ class Repository:
 
     def deposit_refusals(self, line):
         records = line["records"]
-        lists = {prefix: it for prefix, it in records.items() if not isinstance(it, Element)}
+        lists = {prefix: it.content for prefix, it in records.items() if not isinstance(it.content, Element)}
         old = self.items.get(identifier_in(line))
         yield 3, not is_short(IDENTIFIER, IDENTIFIER_BYTES, identifier_in(line))
         yield 4, not all(is_short(SET_SPEC, SET_SPEC_BYTES, it) for it in line["sets"])
@@ -317,14 +336,16 @@ class Repository:
         return DUBLIN_CORE if prefix == "oai_dc" else self.formats[prefix].get("fields", [])
 
     def is_of_format(self, prefix, given):
-        """Whether the root of an element is the format's; a list is of any format that has fields."""
-        if not isinstance(given, Element):
-            return bool(self.field_names(prefix))
+        """Whether the root of an element is the format's; a list is of any format that has fields, and nothing is about an empty one."""
+        content = given.content
+        if not isinstance(content, Element):
+            return bool(self.field_names(prefix)) and bool(content or not given.about)
         declared = self.formats[prefix] or {"namespace": f"{OAI}oai_dc/", "root": "dc"}
-        return (given.namespace, given.local) == (declared["namespace"], declared["root"].rpartition(":")[2])
+        return (content.namespace, content.local) == (declared["namespace"], declared["root"].rpartition(":")[2])
 
     def item_of(self, line):
-        records = {prefix: kept(it) for prefix, it in line["records"].items()}
+        """The item of a line whose elements are read."""
+        records = {prefix: it.kept() for prefix, it in line["records"].items()}
         return Item(identifier_in(line), self.stamp(), True, shown_sets(line["sets"]), records)
 
     def perform(self, line):
@@ -483,10 +504,12 @@ class Repository:
         return f"<header{status}>{''.join(inside)}</header>"
 
     def record(self, item, prefix):
-        return element("record", self.header(item), element("metadata", self.metadata(item, prefix)) if item.is_live else "")
+        if not item.is_live:
+            return element("record", self.header(item))
+        fields, about = parts_of(item.records[prefix])
+        return element("record", self.header(item), element("metadata", self.metadata(fields, prefix)), *(element("about", it) for it in about))
 
-    def metadata(self, item, prefix):
-        fields = item.records[prefix]
+    def metadata(self, fields, prefix):
         if [name for name, _ in fields] == [""]:
             return fields[0][1]
         if prefix == "oai_dc":

@@ -249,6 +249,12 @@ ITEMS = [
     ('[["volume","7"]]', '"<a>&nbsp;</a>"', '89: 20 bad-xml: at byte 4 of "jnl": this is no reference that can be resolved without a document type'),
     ('[["volume","7"]]', '"<article/>"', '89: 21 not-of-format: the root is not "article" of "http://host.example/jnl/"'),
     ('[["title","On Sets"]]', '"<title/>"', '61: 21 not-of-format: the root is not "dc" of "http://www.openarchives.org/OAI/2.0/oai_dc/"'),
+    ('"7"]]}}', '"7"]]},"about":[]}', '115: 2 bad-command: "about" is a list, and not an object'),
+    ('"7"]]}}', '"7"]]},"about":{"marc":[]}}', '123: 2 bad-command: "marc" is none of the prefixes in "records"'),
+    ('"7"]]}}', '"7"]]},"about":{"jnl":"<a/>"}}', '122: 2 bad-command: "jnl" is a text, and not a list of elements\' texts'),
+    ('"7"]]}}', '"7"]]},"about":{"jnl":["<a/>",7]}}', "130: 2 bad-command: it is a number, and not an element's text"),
+    ('"7"]]}}', '"7"]]},"about":{"jnl":["<a/>","<a>"]}}', '130: 20 bad-xml: at byte 3 of an element about "jnl": the text ends within an element, or before one'),
+    ('[["volume","7"]]}}', '[]},"about":{"jnl":["<a/>"]}}', '108: 21 not-of-format: nothing may be about "jnl", which is an empty list in "records"'),
     ('"oai:a:1"', '"a"', '12: 3 bad-identifier: "a" is not a scheme, a colon and characters of a URI, of at most 512 bytes'),
     ('["letters"]', '["letters","a b"]', "40: 4 bad-set-spec: \"a b\" is not parts of letters, digits and -_.!~*'() joined by colons, of at most 256 bytes"),
     ('"On Sets"', '"On\\u0001Sets"', '71: 5 bad-text: the text of "title" has a character that XML forbids'),
@@ -293,8 +299,9 @@ def as_put_cause(cause):
 def try_lines(trial):
     """Each refusal that a line has by itself, by the configuration, or by the sets of the lines before it."""
     config = trial.written("config.json", CONFIG)
-    good = trial.written("good.jsonl", f"{SETS}\n\n{ITEM}\r\n{as_put(ITEM)}\n" + '{"delete":"oai:a:1"}\n')
-    trial.check("good lines", trial.call("check", config, good), (0, "ok 2\nrepository a: 4 lines, 0 refused\n", []))
+    about = ITEM.replace('"7"]]}}', '"7"]]},"about":{"oai_dc":[],"jnl":["<a/>","<b/>"]}}')
+    good = trial.written("good.jsonl", f"{SETS}\n\n{ITEM}\r\n{as_put(ITEM)}\n{about}\n" + '{"delete":"oai:a:1"}\n')
+    trial.check("good lines", trial.call("check", config, good), (0, "ok 2\nrepository a: 5 lines, 0 refused\n", []))
     changed = []
     for old, new, _ in ITEMS:
         trial.expect(old in ITEM, f"{old} is not in the item")

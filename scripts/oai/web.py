@@ -295,6 +295,21 @@ def read_element(reader):
     reader.check("nothing was stolen", reader.browser.run("return typeof window.stolen"), "undefined")
 
 
+def read_about(reader):
+    """What is about a record is seen below its fields, as trees; nothing of it is markup."""
+    reader.go("#/theses?verb=GetRecord&identifier=oai:theses:3&metadataPrefix=oai_dc")
+    seen = reader.expect("a record with something about it", "A record in oai_dc", "")
+    reader.check("its fields", seen["records"][0]["fields"], [title_field("On Rights")])
+    reader.check("its titles", reader.browser.run("return [...document.querySelectorAll('.record h4')].map((it) => it.textContent)"), ["About"])
+    reader.check("what is about it", reader.browser.run(TREES), [
+        [f"r:rights namespace none prefix r is http://{HOST}/rights", [f"r:reference ref = https://{HOST}/good"], [HEBREW]],
+        ["script namespace http://www.w3.org/1999/xhtml window.stolen = 1"]])
+    places = "return [...document.querySelectorAll('.record dl, .record section')].flatMap((it) => [it.getBoundingClientRect().top, it.getBoundingClientRect().bottom])"
+    reader.check("it stands below the fields", sorted(reader.browser.run(places)), reader.browser.run(places))
+    reader.orderly("a record with something about it")
+    reader.check("nothing was stolen", reader.browser.run("return typeof window.stolen"), "undefined")
+
+
 # What the Content-Security-Policy has to refuse: each ends with an error, or does nothing.
 REFUSED = [
     ("document.body.insertAdjacentHTML('beforeend', '<img src=x onerror=\"window.stolen = 1\">')", "TypeError"),
@@ -416,7 +431,7 @@ def go_through(reader, archive, stamp):
     """All of it; `stamp` is the datestamp of the journal's items. Where one step finds no way the next ones go on."""
     steps = [
         (choose_repository,), (look_around,), (read_one, stamp), (read_headers, stamp), (read_errors,), (read_parts, stamp), (read_busy, archive),
-        (read_while_down, archive), (read_hostile,), (read_element,), (read_many,), (read_narrow,), (network,), (read_console,), (try_policy,),
+        (read_while_down, archive), (read_hostile,), (read_element,), (read_about,), (read_many,), (read_narrow,), (network,), (read_console,), (try_policy,),
     ]
     for step, *arguments in steps:
         try:

@@ -91,6 +91,13 @@ ELEMENT = (
 )
 DEPOSITS["theses"].append({"deposit": "oai:theses:2", "sets": [], "records": {"oai_dc": ELEMENT}})
 
+# The same about a record that is a list of fields.
+ABOUT = [
+    f'<r:rights xmlns:r="http://{HOST}/rights"><r:reference ref="https://{HOST}/good"/>{HEBREW}</r:rights>',
+    '<script xmlns="http://www.w3.org/1999/xhtml">window.stolen = 1</script>',
+]
+DEPOSITS["theses"].append(item("oai:theses:3", [["title", "On Rights"]]) | {"about": {"oai_dc": ABOUT}})
+
 
 class Archive(Proxy):
     """The server on a folder, and nginx before it."""
