@@ -68,6 +68,11 @@ export function containerOf(record) {
     return metadata && metadata.firstElementChild;
 }
 
+/** The elements about a record (section 2.5). */
+export function aboutOf(record) {
+    return childrenOf(record, "about").flatMap((about) => [...about.children]);
+}
+
 /** Whether an element is a list of fields, whose names and texts are all that there is to show. */
 export function isList(container) {
     const isPlain = (attribute) => attribute.namespaceURI === DECLARATIONS || attribute.namespaceURI === SCHEMA_INSTANCE;

@@ -1,6 +1,6 @@
 // What is shown of each answer. A view has a title and the nodes below it; `place` is the repository and the arguments of the request.
 
-import { childOf, childrenOf, containerOf, fragmentOf, isList, readFields, readHeader, readSets, readToken, readTree, textOf } from "./oai.js";
+import { aboutOf, childOf, childrenOf, containerOf, fragmentOf, isList, readFields, readHeader, readSets, readToken, readTree, textOf } from "./oai.js";
 import { button, code, element, fill, folded, foreign, line, linked, terms } from "./nodes.js";
 import { DELETED_RECORDS, GRANULARITIES, counted, wordsOfError, wordsOfStatus } from "./words.js";
 
@@ -119,6 +119,13 @@ function metadataView(record) {
     return fields.length > 0 ? [terms(fields)] : [];
 }
 
+/** What is about a record: the trees of its elements, below a title; nothing where there are none. */
+function aboutView(record) {
+    const elements = aboutOf(record);
+    const trees = () => fill(element("ul", { class: "tree" }), elements, (it) => treeItem(it, false));
+    return elements.length > 0 ? [element("section", {}, element("h4", {}, "About"), trees())] : [];
+}
+
 /** A record or a header of a list, or the record of GetRecord. */
 function recordView(place, record, header, prefix) {
     const { identifier, datestamp, sets, isDeleted } = readHeader(header);
@@ -129,7 +136,7 @@ function recordView(place, record, header, prefix) {
         ...(isDeleted ? [] : [requestLink(place, { verb: "ListMetadataFormats", identifier }, "formats")]),
     );
     const title = element("h3", {}, requestLink(place, { verb: "GetRecord", identifier, metadataPrefix: prefix }, code(identifier)));
-    return element("article", { class: isDeleted ? "record deleted" : "record" }, title, about, ...metadataView(record));
+    return element("article", { class: isDeleted ? "record deleted" : "record" }, title, about, ...metadataView(record), ...aboutView(record));
 }
 
 /** GetRecord (section 4.1). */
