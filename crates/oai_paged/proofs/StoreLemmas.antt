@@ -14,7 +14,7 @@ use Rattle.oai_paged.specs.Changes.{Changes}
 use Rattle.oai_places.specs.Directory.{StandsIn}
 use Rattle.oai_places.specs.Places.{Pages, PlaceState, items_on, named_in}
 use Rattle.oai_paged.specs.Shelves.{AreShelved, directory_at, lists_on}
-use Rattle.oai_paged.specs.Versions.{AreShared, DirectoryNumbers, DirectoryState, Shelves, directories_named, directory_number_at, places_in, places_of, references_to, shelf_at, told_at}
+use Rattle.oai_paged.specs.Versions.{AreShared, DirectoryNumbers, DirectoryState, Shelves, directories_named, directory_number_at, places_in, places_of, references_to, shelf_at, shelf_count}
 use Rattle.oai_places.proofs.PlaceLemmas.{items_on-nil}
 use Rattle.oai_places.proofs.RecountLemmas.{recounts_none, renames_none}
 use Rattle.oai_paged.proofs.ShelfLemmas.{AreBut, AreTurned, Turns, change_shelved, change_turned, copied_lists, directory_of_none, list_of, removed_lists, shelved_stands, turn_copied, turn_kept, turn_put_in, turn_taken_out, turned_lists, turned_shelved, unchanged_lists}
@@ -123,7 +123,7 @@ module _ {P : Type 0} (g : Ghosts P) where
         let last = lists_on pages (places_of after) in
         let made_list : last ≡ with_list d [] first = turned_lists g d (places_of before) (places_of after) p p h turn [] (places-some after d made stands ∙ ap Some empty)
         ∙ ap (λ (items : List ItemState). with_list d items first) (items_on-nil pages) in
-        let none : told_at (shelf_at before d) ≡ 0 = ap told_at vacant in
+        let none : shelf_count (shelf_at before d) ≡ 0 = ap shelf_count vacant in
         record {
           shelved = turned_shelved g d (places_of before) (places_of after) p p h turn;
           shared = shared_more k old new before after s others d stand made unused named stands (omega (arith, one, none));
@@ -139,7 +139,7 @@ module _ {P : Type 0} (g : Ghosts P) where
           → AreStored new after p (with_list k (list_at (lists_by (g.pages p) old before) v) (lists_by (g.pages p) old before))
       stored_more v more own unused named =
           let pages = g.pages p in
-          let told : told_at (shelf_at before d) ≡ was.versions = ap told_at stood in
+          let told : shelf_count (shelf_at before d) ≡ was.versions = ap shelf_count stood in
           record {
             shelved = same_shelved before after d was is p p h stand stood stands same (no_names p);
             shared = shared_more k old new before after s others d stand is unused named stands (omega (arith, more, told));
@@ -154,7 +154,7 @@ module _ {P : Type 0} (g : Ghosts P) where
           → AreStored new after p (without_list k (lists_by (g.pages p) old before))
       stored_less less some own gone =
           let pages = g.pages p in
-          let told : told_at (shelf_at before d) ≡ was.versions = ap told_at stood in
+          let told : shelf_count (shelf_at before d) ≡ was.versions = ap shelf_count stood in
           record {
             shelved = same_shelved before after d was is p p h stand stood stands same (no_names p);
             shared = shared_less k old new before after s others d stand is own gone stands (omega (arith, less, told)) some;
@@ -171,7 +171,7 @@ module _ {P : Type 0} (g : Ghosts P) where
     stored_none d was q stand stood one left own gone names =
         let turn : Turns g d (places_of before) (places_of after) p q = turn_taken_out g (places_of before) (places_of after) d was.places p q
         (places_but d before after stand) (places-some before d was stood) (places_none after d left) names in
-        let told : told_at (shelf_at before d) ≡ 1 = ap told_at stood ∙ one in
+        let told : shelf_count (shelf_at before d) ≡ 1 = ap shelf_count stood ∙ one in
         record {
           shelved = turned_shelved g d (places_of before) (places_of after) p q h turn;
           shared = shared_none k old new before after s others d stand own gone left told;
@@ -192,7 +192,7 @@ module _ {P : Type 0} (g : Ghosts P) where
         let apart : d ≢ e = λ equal. none-some left (sym vacant ∙ ap (shelf_at mid) (sym equal) ∙ stays) in
         let free : shelf_at before e ≡ None = sym (first e (λ equal. apart (sym equal))) ∙ vacant in
         let still : shelf_at after d ≡ Some left = second d apart ∙ stays in
-        let told : told_at (shelf_at before d) ≡ was.versions = ap told_at stood in
+        let told : shelf_count (shelf_at before d) ≡ was.versions = ap shelf_count stood in
         let between = same_shelved before mid d was left p p h first stood stays same (no_names p) in
         let shelf : directory_at (places_of mid) d ≡ Some was.places = places-some mid d left stays ∙ ap Some same in
         let copy : directory_at (places_of after) e ≡ Some was.places = places-some after e made stands ∙ ap Some copied in

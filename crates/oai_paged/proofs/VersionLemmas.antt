@@ -12,7 +12,7 @@ use Rattle.oai_item.specs.Item.{ItemState}
 use Rattle.oai_item.specs.declared.faults.Fault.{Fault}
 use Rattle.oai_places.specs.Places.{Pages, PlaceState, items_on}
 use Rattle.oai_paged.specs.Shelves.{directory_at, lists_on}
-use Rattle.oai_paged.specs.Versions.{AreShared, DirectoryNumbers, DirectoryState, Shelves, directories_named, directory_named, directory_number_at, names_at, places_in, places_of, references_to, shelf_at, told_at}
+use Rattle.oai_paged.specs.Versions.{AreShared, DirectoryNumbers, DirectoryState, Shelves, directories_named, directory_named, directory_number_at, names_at, places_in, places_of, references_to, shelf_at, shelf_count}
 use Rattle.oai_paged.proofs.ShelfLemmas.{AreTurned}
 use Rattle.oai_paged.proofs.SlotLemmas.{sum-changed, sum-part, sum-two}
 
@@ -145,17 +145,17 @@ few_names d (x ∷ xs) = few-cons d x xs (few_names d xs)
 
 pub told_of : (versions : DirectoryNumbers) (shelves : Shelves) (d : ℕ) (directory : DirectoryState) → AreShared versions shelves
     → shelf_at shelves d ≡ Some directory → references_to d versions ≡ directory.versions
-told_of versions shelves d directory h is = h.counted d ∙ ap told_at is
+told_of versions shelves d directory h is = h.counted d ∙ ap shelf_count is
 
 pub vacant_unnamed : (versions : DirectoryNumbers) (shelves : Shelves) (d : ℕ) → AreShared versions shelves → shelf_at shelves d ≡ None
     → references_to d versions ≡ 0
-vacant_unnamed versions shelves d h is = h.counted d ∙ ap told_at is
+vacant_unnamed versions shelves d h is = h.counted d ∙ ap shelf_count is
 
 -- ---- what one call does to versions and directories
 
 module _ (k : ℕ) (old new : DirectoryNumbers) (before after : Shelves) (h : AreShared old before) (others : NameBut k old new) where
   -- the counts follow the names
-  shared_step : ((d : ℕ) → told_at (shelf_at after d) + names_at d (directory_number_at old k) ≡ told_at (shelf_at before d) + names_at d (directory_number_at new k))
+  shared_step : ((d : ℕ) → shelf_count (shelf_at after d) + names_at d (directory_number_at old k) ≡ shelf_count (shelf_at before d) + names_at d (directory_number_at new k))
       → ((d : ℕ) (directory : DirectoryState) → shelf_at after d ≡ Some directory → 0 < directory.versions) → AreShared new after
   shared_step traded named = record {
     counted = λ d. let changed = references_to-changed d k old new others in omega (arith, changed, h.counted d, traded d);
@@ -172,52 +172,52 @@ module _ (k : ℕ) (old new : DirectoryNumbers) (before after : Shelves) (h : Ar
         ]
 
     -- one directory alone is another
-    shared_one : told_at (shelf_at after d) + names_at d (directory_number_at old k) ≡ told_at (shelf_at before d) + names_at d (directory_number_at new k)
+    shared_one : shelf_count (shelf_at after d) + names_at d (directory_number_at old k) ≡ shelf_count (shelf_at before d) + names_at d (directory_number_at new k)
         → ((e : ℕ) → e ≢ d → names_at e (directory_number_at old k) ≡ names_at e (directory_number_at new k))
         → ((directory : DirectoryState) → shelf_at after d ≡ Some directory → 0 < directory.versions) → AreShared new after
     shared_one here there own =
         shared_step
         (λ e. elim (cases_eq e d) [
-          | inl same ↦ subst (λ x. told_at (shelf_at after x) + names_at x (directory_number_at old k) ≡ told_at (shelf_at before x) + names_at x (directory_number_at new k)) (sym same) here
+          | inl same ↦ subst (λ x. shelf_count (shelf_at after x) + names_at x (directory_number_at old k) ≡ shelf_count (shelf_at before x) + names_at x (directory_number_at new k)) (sym same) here
           | inr apart ↦
-              let told : told_at (shelf_at after e) ≡ told_at (shelf_at before e) = ap told_at (stand e apart) in
+              let told : shelf_count (shelf_at after e) ≡ shelf_count (shelf_at before e) = ap shelf_count (stand e apart) in
               omega (arith, told, there e apart)
         ])
         (named_still own)
 
     -- a version names it that was not in use
     pub shared_more : (directory : DirectoryState) → directory_number_at old k ≡ None → directory_number_at new k ≡ Some d → shelf_at after d ≡ Some directory
-        → directory.versions ≡ told_at (shelf_at before d) + 1 → AreShared new after
+        → directory.versions ≡ shelf_count (shelf_at before d) + 1 → AreShared new after
     shared_more directory was is stands more =
-        let told : told_at (shelf_at after d) ≡ directory.versions = ap told_at stands in
+        let told : shelf_count (shelf_at after d) ≡ directory.versions = ap shelf_count stands in
         shared_one
         (let none : names_at d (directory_number_at old k) ≡ 0 = ap (names_at d) was in
         let one : names_at d (directory_number_at new k) ≡ 1 = ap (names_at d) is ∙ names_at-same d in
         omega (arith, told, none, one, more))
         (λ e apart. ap (names_at e) was ∙ sym (ap (names_at e) is ∙ names_at-other e d apart))
         (λ other still.
-        let same : other.versions ≡ directory.versions = ap told_at (sym still ∙ stands) in
+        let same : other.versions ≡ directory.versions = ap shelf_count (sym still ∙ stands) in
         omega (arith, same, more))
 
     -- a version that named it is in use no more
     pub shared_less : (directory : DirectoryState) → directory_number_at old k ≡ Some d → directory_number_at new k ≡ None → shelf_at after d ≡ Some directory
-        → directory.versions + 1 ≡ told_at (shelf_at before d) → 0 < directory.versions → AreShared new after
+        → directory.versions + 1 ≡ shelf_count (shelf_at before d) → 0 < directory.versions → AreShared new after
     shared_less directory was is stands less some =
-        let told : told_at (shelf_at after d) ≡ directory.versions = ap told_at stands in
+        let told : shelf_count (shelf_at after d) ≡ directory.versions = ap shelf_count stands in
         shared_one
         (let one : names_at d (directory_number_at old k) ≡ 1 = ap (names_at d) was ∙ names_at-same d in
         let none : names_at d (directory_number_at new k) ≡ 0 = ap (names_at d) is in
         omega (arith, told, none, one, less))
         (λ e apart. ap (names_at e) was ∙ names_at-other e d apart ∙ sym (ap (names_at e) is))
         (λ other still.
-        let same : other.versions ≡ directory.versions = ap told_at (sym still ∙ stands) in
+        let same : other.versions ≡ directory.versions = ap shelf_count (sym still ∙ stands) in
         omega (arith, same, some))
 
     -- the one version that named it is in use no more, and neither is it
-    pub shared_none : directory_number_at old k ≡ Some d → directory_number_at new k ≡ None → shelf_at after d ≡ None → told_at (shelf_at before d) ≡ 1 → AreShared new after
+    pub shared_none : directory_number_at old k ≡ Some d → directory_number_at new k ≡ None → shelf_at after d ≡ None → shelf_count (shelf_at before d) ≡ 1 → AreShared new after
     shared_none was is gone one =
         shared_one
-        (let told : told_at (shelf_at after d) ≡ 0 = ap told_at gone in
+        (let told : shelf_count (shelf_at after d) ≡ 0 = ap shelf_count gone in
         let own : names_at d (directory_number_at old k) ≡ 1 = ap (names_at d) was ∙ names_at-same d in
         let none : names_at d (directory_number_at new k) ≡ 0 = ap (names_at d) is in
         omega (arith, told, none, own, one))
@@ -226,31 +226,31 @@ module _ (k : ℕ) (old new : DirectoryNumbers) (before after : Shelves) (h : Ar
 
   -- a version that named the one directory names another, under a number that was not in use
   pub shared_moved : (d e : ℕ) (left made : DirectoryState) → directory_number_at old k ≡ Some d → directory_number_at new k ≡ Some e
-      → shelf_at before e ≡ None → shelf_at after d ≡ Some left → left.versions + 1 ≡ told_at (shelf_at before d) → 0 < left.versions
+      → shelf_at before e ≡ None → shelf_at after d ≡ Some left → left.versions + 1 ≡ shelf_count (shelf_at before d) → 0 < left.versions
       → shelf_at after e ≡ Some made → made.versions ≡ 1
       → ((x : ℕ) → x ≢ d → x ≢ e → shelf_at after x ≡ shelf_at before x) → AreShared new after
   shared_moved d e left made was is vacant less told some stands one stand =
       let apart : d ≢ e = λ same.
-      (let none : told_at (shelf_at before d) ≡ 0 = ap told_at (ap (shelf_at before) same ∙ vacant) in omega (arith, none, told)) in
+      (let none : shelf_count (shelf_at before d) ≡ 0 = ap shelf_count (ap (shelf_at before) same ∙ vacant) in omega (arith, none, told)) in
       shared_step
       (λ x. elim (cases_eq x d) [
         | inl same ↦
-            subst (λ x. told_at (shelf_at after x) + names_at x (directory_number_at old k) ≡ told_at (shelf_at before x) + names_at x (directory_number_at new k)) (sym same)
-            (let left_told : told_at (shelf_at after d) ≡ left.versions = ap told_at less in
+            subst (λ x. shelf_count (shelf_at after x) + names_at x (directory_number_at old k) ≡ shelf_count (shelf_at before x) + names_at x (directory_number_at new k)) (sym same)
+            (let left_told : shelf_count (shelf_at after d) ≡ left.versions = ap shelf_count less in
             let own : names_at d (directory_number_at old k) ≡ 1 = ap (names_at d) was ∙ names_at-same d in
             let other : names_at d (directory_number_at new k) ≡ 0 = ap (names_at d) is ∙ names_at-other d e apart in
             omega (arith, left_told, own, other, told))
         | inr beside ↦
             elim (cases_eq x e) [
               | inl same ↦
-                  subst (λ x. told_at (shelf_at after x) + names_at x (directory_number_at old k) ≡ told_at (shelf_at before x) + names_at x (directory_number_at new k)) (sym same)
-                  (let made_told : told_at (shelf_at after e) ≡ made.versions = ap told_at stands in
-                  let none : told_at (shelf_at before e) ≡ 0 = ap told_at vacant in
+                  subst (λ x. shelf_count (shelf_at after x) + names_at x (directory_number_at old k) ≡ shelf_count (shelf_at before x) + names_at x (directory_number_at new k)) (sym same)
+                  (let made_told : shelf_count (shelf_at after e) ≡ made.versions = ap shelf_count stands in
+                  let none : shelf_count (shelf_at before e) ≡ 0 = ap shelf_count vacant in
                   let other : names_at e (directory_number_at old k) ≡ 0 = ap (names_at e) was ∙ names_at-other e d (λ equal. apart (sym equal)) in
                   let own : names_at e (directory_number_at new k) ≡ 1 = ap (names_at e) is ∙ names_at-same e in
                   omega (arith, made_told, none, own, other, one))
               | inr far ↦
-                  let same : told_at (shelf_at after x) ≡ told_at (shelf_at before x) = ap told_at (stand x beside far) in
+                  let same : shelf_count (shelf_at after x) ≡ shelf_count (shelf_at before x) = ap shelf_count (stand x beside far) in
                   let first : names_at x (directory_number_at old k) ≡ 0 = ap (names_at x) was ∙ names_at-other x d beside in
                   let second : names_at x (directory_number_at new k) ≡ 0 = ap (names_at x) is ∙ names_at-other x e far in
                   omega (arith, same, first, second)
@@ -259,12 +259,12 @@ module _ (k : ℕ) (old new : DirectoryNumbers) (before after : Shelves) (h : Ar
       (λ x directory there.
       elim (cases_eq x d) [
         | inl same ↦
-            let versions : directory.versions ≡ left.versions = ap told_at (sym there ∙ ap (shelf_at after) same ∙ less) in
+            let versions : directory.versions ≡ left.versions = ap shelf_count (sym there ∙ ap (shelf_at after) same ∙ less) in
             omega (arith, versions, some)
         | inr beside ↦
             elim (cases_eq x e) [
               | inl same ↦
-                  let versions : directory.versions ≡ made.versions = ap told_at (sym there ∙ ap (shelf_at after) same ∙ stands) in
+                  let versions : directory.versions ≡ made.versions = ap shelf_count (sym there ∙ ap (shelf_at after) same ∙ stands) in
                   omega (arith, versions, one)
               | inr far ↦ h.named x directory (sym (stand x beside far) ∙ there)
             ]
@@ -274,12 +274,12 @@ module _ (k : ℕ) (old new : DirectoryNumbers) (before after : Shelves) (h : Ar
 pub shared_changed : (versions : DirectoryNumbers) (before after : Shelves) (d : ℕ) (was is : DirectoryState) → AreShared versions before
     → StandBut d before after → shelf_at before d ≡ Some was → shelf_at after d ≡ Some is → is.versions ≡ was.versions → AreShared versions after
 shared_changed versions before after d was is h stand stood stands same =
-    let told : told_at (shelf_at after d) ≡ told_at (shelf_at before d) = ap told_at stands ∙ same ∙ sym (ap told_at stood) in
+    let told : shelf_count (shelf_at after d) ≡ shelf_count (shelf_at before d) = ap shelf_count stands ∙ same ∙ sym (ap shelf_count stood) in
     shared_one 0 versions versions before after h (λ v apart. refl) d stand
     (omega (arith, told))
     (λ e apart. refl)
     (λ other still.
-    let equal : other.versions ≡ is.versions = ap told_at (sym still ∙ stands) in
+    let equal : other.versions ≡ is.versions = ap shelf_count (sym still ∙ stands) in
     let some = h.named d was stood in
     omega (arith, equal, same, some))
 

@@ -1,13 +1,14 @@
 -- What a call does to a directory, and to the pages of its leaves.
-use Rattle.std.specs.Prelude.{◌≡◌, ◌+◌, ◌<◌, ◌≤◌, ℕ, ℤ, Bool, true, List, [], ◌++◌, take, drop, is_some, IfNone, IfOk, IfSome, IsTrue, Option, Result, OnErr, OnOk, Vec, vec_capacity, vec_len}
+use Rattle.std.specs.Prelude.{◌≡◌, ◌+◌, ◌<◌, ◌≤◌, ℕ, ℤ, Bool, true, List, [], ◌++◌, length, take, drop, is_some, IfNone, IfOk, IfSome, IsTrue, Option, Result, OnErr, OnOk, Vec, vec_capacity, vec_len}
 use Rattle.oai_catalogue.specs.Store.{Spends}
 use Rattle.oai_item.specs.Item.{ItemState}
 use Rattle.oai_item.specs.Items.{item_at, with_item, without_at}
+use Rattle.oai_item.specs.Order.{are_in_order}
 use Rattle.oai_item.specs.declared.faults.Fault.{Fault}
 use Rattle.oai_pool.specs.Counts.{count_of}
 use Rattle.oai_pool.specs.declared.pools.PagePool.{Ghosts}
 use Rattle.oai_places.specs.Directory.{IsDirectory, StandsIn}
-use Rattle.oai_places.specs.Pages.{fit_one}
+use Rattle.oai_places.specs.Pages.{FitAlone, between, fit_one}
 use Rattle.oai_places.specs.Places.{IsSoundPlace, PlaceState, items_on, named_in}
 use Rattle.oai_places.specs.Sums.{AreGroups, GroupState}
 use Rattle.oai_paged.specs.declared.changes.Changed.{Changed}
@@ -58,6 +59,18 @@ pub record HasWayBack (at len stand room gone gone_room : ℕ) : Type 0 where
   pub there : stand + gone ≤ room
   pub back : gone + len ≤ gone_room
 
+-- the leaves and the others have at least the capacity that they had
+pub record KeepCapacity (leaves_before others_before leaves_after others_after : Vec PlaceState Global) : Type 0 where
+  pub leaves : vec_capacity leaves_before ≤ vec_capacity leaves_after
+  pub others : vec_capacity others_before ≤ vec_capacity others_after
+
+-- the items from one position up to another one, of items in order, can be put on pages: they fit on one, or are one
+pub record IsRange (from to : ℕ) (items : List ItemState) : Type 0 where
+  pub order : from ≤ to
+  pub within : to ≤ length items
+  pub alone : FitAlone (between from to items)
+  pub rising : are_in_order items ≡ true
+
 -- they are the leaves of these items, in place of that many from `at` on
 pub record IsDirectoryChanged {P : Type 0} (g : Ghosts P) (items : List ItemState) (at len new_at new_len : ℕ) (gone before after : List PlaceState) (old new : P) : Type 0 where
   pub place : new_at ≡ at
@@ -70,6 +83,17 @@ pub record IsDirectoryChanged {P : Type 0} (g : Ghosts P) (items : List ItemStat
 pub record IsRemoved (stamp : ℤ) (identifier : List ℕ) (found : Bool) (old new : List ItemState) : Type 0 where
   pub was : found ≡ is_some (item_at stamp identifier old)
   pub left : new ≡ without_at stamp identifier old
+
+-- these items are put in place of a run of leaves, that many from `at` on, by at most as many new pages as they may
+-- need, and the pages of the leaves that are gone are still referenced; if it fails, directory and pages are unchanged.
+-- The change can be undone, the leaves lose no capacity, and the statistics of groups are those of the new ones
+pub record PutsRun {P : Type 0} (g : Ghosts P) (items : List ItemState) (at len : ℕ) (result : Result Changed Fault) (before after : Vec PlaceState Global) (known known_after : List GroupState) (old new : P) : Type 0 where
+  pub ok : IfOk result (λ changed. IsDirectoryChanged g items at len changed.at changed.len changed.gone.items before.items after.items old new)
+  pub back : IfOk result (λ changed. HasWayBack changed.at changed.len (vec_len after) (vec_capacity after) (vec_len changed.gone) (vec_capacity changed.gone))
+  pub err : OnErr result (ChangesNothing g before.items after.items old new)
+  pub capacity : vec_capacity before ≤ vec_capacity after
+  pub pool : AddsPages g items result old new
+  pub groups : AreGroups before.items known → AreGroups after.items known_after
 
 -- the item is inserted, by at most as many new pages as it may need, and the pages of the leaves that are gone are
 -- still referenced; if it fails, directory and pages are unchanged. The leaves lose no capacity, and the statistics of

@@ -51,12 +51,12 @@ unfoldable pub references_to : ℕ → DirectoryNumbers → ℕ
 references_to d versions = sum_by (names_at d) versions
 
 -- the reference count of a directory, if there is one
-abbrev pub told_at : Option DirectoryState → ℕ
-told_at None = 0
-told_at (Some directory) = directory.versions
+abbrev pub shelf_count : Option DirectoryState → ℕ
+shelf_count None = 0
+shelf_count (Some directory) = directory.versions
 
 -- the reference count of each directory is the number of versions that refer to it, at least one; each version refers
 -- to a directory
 pub record AreShared (versions : DirectoryNumbers) (shelves : Shelves) : Type 0 where
-  pub counted : (d : ℕ) → references_to d versions ≡ told_at (shelf_at shelves d)
+  pub counted : (d : ℕ) → references_to d versions ≡ shelf_count (shelf_at shelves d)
   pub named : (d : ℕ) (directory : DirectoryState) → shelf_at shelves d ≡ Some directory → 0 < directory.versions

@@ -6,7 +6,7 @@ ghost use Rattle.oai_item.specs.Item.{ItemState};
 ghost use Rattle.oai_item.specs.Order.{are_in_order};
 ghost use Rattle.oai_pool.specs.Counts.{count_of};
 ghost use Rattle.oai_places.specs.Calls.{Renames};
-ghost use Rattle.oai_paged.specs.Changes.{Adds, AddsPages, ChangesNothing, HasWayBack, IsDirectoryChanged};
+ghost use Rattle.oai_paged.specs.Changes.{Adds, AddsPages, HasWayBack, IsRange, PutsRun};
 ghost use Rattle.oai_places.specs.Directory.{IsRunWithin, MayStand, StandsIn};
 ghost use Rattle.oai_places.specs.Pages.{AreCuts, FitAlone, between, kind_for, overflow_of, pages_of};
 ghost use Rattle.oai_places.specs.Places.{have_records, named_in};
@@ -77,14 +77,7 @@ impl DirectoryLeaves {
         requires stands { StandsIn P.PagePool pages.old self.old.places.items }
         requires cuts { AreCuts cut.entries.now cut.cuts.first cut.cuts.second }
         requires may_stand { MayStand (P.pages pages.old) self.old.places.items run.at run.len cut.entries.now }
-        ensures ok { IfOk result (λ changed. IsDirectoryChanged P.PagePool cut.entry.entries.now run.at run.len changed.at changed.len changed.gone.items
-            self.old.places.items self.new.places.items pages.old pages.new) }
-        ensures back { IfOk result (λ changed. HasWayBack changed.at changed.len
-            (vec_len self.new.places) (vec_capacity self.new.places) (vec_len changed.gone) (vec_capacity changed.gone)) }
-        ensures capacity { vec_capacity self.old.places ≤ vec_capacity self.new.places }
-        ensures err { OnErr result (ChangesNothing P.PagePool self.old.places.items self.new.places.items pages.old pages.new) }
-        ensures pool { AddsPages P.PagePool cut.entry.entries.now result pages.old pages.new }
-        ensures groups { AreGroups self.old.places.items self.old.groups → AreGroups self.new.places.items self.new.groups }
+        ensures { PutsRun P.PagePool cut.entry.entries.now run.at run.len result self.old.places self.new.places self.old.groups self.new.groups pages.old pages.new }
     {
         let LeafRun { at, len } = run;
         let mut others = add_all(alloc, pages, names, cut, self.places.get(at))?;
@@ -201,10 +194,7 @@ fn add_part<P: PagePool>(
     near: Option<&SharedPlace>,
     added: &mut Vec<SharedPlace>,
 ) -> Result<(), Fault>
-    requires order { range.from ≤ range.to }
-    requires within { range.to ≤ length range.entries.now }
-    requires alone { FitAlone (between range.from range.to range.entries.now) }
-    requires rising { are_in_order range.entries.now ≡ true }
+    requires range { IsRange range.from range.to range.entries.now }
     requires room { vec_len added.old < vec_capacity added.old }
     ensures ok { (items : List ItemState) (first : P) → Adds P.PagePool items added.old.items first pages.old
         → OnOk result (Adds P.PagePool (items ++ between range.entry.from range.entry.to range.entry.entries.now) added.new.items first pages.new) }

@@ -1,5 +1,6 @@
 //! Swaps leaves of a directory for others, in place.
 ghost use Rattle.std.specs.Prelude.{◌≡◌, ◌+◌, ◌-◌, ◌≤◌, ◌++◌, take, drop, vec_len, vec_capacity, OnOk};
+ghost use Rattle.oai_paged.specs.Changes.{KeepCapacity};
 ghost use Rattle.oai_places.specs.declared.sizes.TheConstants.{MAX_REPLACED};
 
 use oai_places::{MAX_REPLACED, SharedPlace};
@@ -40,8 +41,7 @@ pub(crate) fn exchange(
     ensures others { others.new.items ≡ take len (drop at places.old.items) }
     ensures len { vec_len places.new + len ≡ vec_len places.old + vec_len others.old }
     ensures others_len { vec_len others.new ≡ len }
-    ensures capacity { vec_capacity places.old ≤ vec_capacity places.new }
-    ensures others_capacity { vec_capacity others.old ≤ vec_capacity others.new }
+    ensures capacity { KeepCapacity places.old others.old places.new others.new }
 {
     let count = others.len();
     let both = count.min(len);
@@ -81,8 +81,7 @@ fn move_in(places: &mut Vec<SharedPlace>, at: usize, others: &mut Vec<SharedPlac
     ensures others { others.new.items ≡ take from others.old.items }
     ensures len { vec_len places.new ≡ vec_len places.old + (vec_len others.old - from) }
     ensures others_len { vec_len others.new ≡ from }
-    ensures capacity { vec_capacity places.old ≤ vec_capacity places.new }
-    ensures others_capacity { vec_capacity others.old ≤ vec_capacity others.new }
+    ensures capacity { KeepCapacity places.old others.old places.new others.new }
 {
     'others: while others.len() > from {
         let place = others.remove(others.len() - 1);
@@ -98,8 +97,7 @@ fn move_out(places: &mut Vec<SharedPlace>, at: usize, count: usize, others: &mut
     ensures others { others.new.items ≡ others.old.items ++ take count (drop at places.old.items) }
     ensures len { vec_len places.new + count ≡ vec_len places.old }
     ensures others_len { vec_len others.new ≡ vec_len others.old + count }
-    ensures capacity { vec_capacity places.old ≤ vec_capacity places.new }
-    ensures others_capacity { vec_capacity others.old ≤ vec_capacity others.new }
+    ensures capacity { KeepCapacity places.old others.old places.new others.new }
 {
     'moved: for i in 0..count {
         let place = places.remove(at);

@@ -1,8 +1,17 @@
--- What else a call does to a pool: to the numbers that are left, to the device, and to the capacity of the cache.
-use Rattle.std.specs.Prelude.{◌≡◌, ◌+◌, ◌<◌, ◌≤◌, ℕ, Bool, false, Result, IsErrOf}
+-- What a call does to a pool: to its pages, to the numbers that are left, to the device, and to the capacity of the
+-- cache.
+use Rattle.std.specs.Prelude.{◌≡◌, ◌+◌, ◌<◌, ◌≤◌, ℕ, Bool, false, List, Option, Some, Result, IsErrOf}
 use Rattle.oai_device.specs.Device.{CountsFailures}
+use Rattle.oai_pool.specs.Counts.{AddsName, count_of}
 use Rattle.oai_pool.specs.declared.pools.PoolFault.{PoolFault}
 use Rattle.oai_pool.specs.declared.pools.PoolFault.TheVariants.{Damaged, Device, TooManyPages}
+
+-- a page of these bytes was added under that number, which nothing referenced, and which has one reference now
+pub record IsAdded {P : Type 0} (counts_of : P → List ℕ) (pages_of : P → ℕ → Option (List ℕ)) (bytes : List ℕ) (no : ℕ) (old new : P) : Type 0 where
+  pub free : count_of (counts_of old) no ≡ 0
+  pub counts : AddsName no (counts_of old) (counts_of new)
+  pub once : count_of (counts_of new) no ≡ 1
+  pub page : pages_of new no ≡ Some bytes
 
 -- a call that uses at most that many numbers, and reaches the device: it lacks a number only if fewer were sure to be
 -- left, so never if it uses none; and it finds damage only over a device that is not honest

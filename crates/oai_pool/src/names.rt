@@ -1,6 +1,6 @@
 ghost use Rattle.std.specs.Prelude.{◌≡◌, ◌≢◌, ◌+◌, ◌<◌, ◌≤◌, ◌==◌, if◌then◌else◌, ℕ, [], IfErr, IfOk, IsErrOf, OnErr, OnOk, length, max, vec_len, vec_capacity};
 ghost use Rattle.oai_pool.specs.Counts.{AddsName, count_of, used_of};
-ghost use Rattle.oai_pool.specs.Names.{is_free, number_to_give, times};
+ghost use Rattle.oai_pool.specs.Names.{HasRoomToName, is_free, number_to_give, times};
 ghost use Rattle.oai_pool.specs.declared.pools.PoolFault.TheVariants as fault;
 ghost use Rattle.oai_pool.specs.declared.pools.TheConstants.{MAX_PAGES};
 
@@ -36,11 +36,7 @@ impl Names {
         ensures counts { self.new.counts.items ≡ self.old.counts.items }
         ensures number { IfOk result (λ no. no ≡ number_to_give self.new.counts.items self.new.free.items) }
         ensures free { IfOk result (λ no. count_of self.new.counts.items no ≡ 0) }
-        ensures room { OnOk result (vec_len self.new.free ≡ 0
-            → vec_len self.new.counts < vec_capacity self.new.counts) }
-        ensures free_room { OnOk result (vec_len self.new.free ≡ 0
-            → vec_len self.new.counts < vec_capacity self.new.free) }
-        ensures few { OnOk result (vec_len self.new.free ≡ 0 → vec_len self.new.counts < MAX_PAGES) }
+        ensures room { OnOk result (HasRoomToName self.new.counts self.new.free) }
         ensures fault { IfErr result (λ cause. cause ≢ fault.Device) }
         ensures whole { IfErr result (λ cause. cause ≢ fault.Damaged) }
         ensures full { IsErrOf result PoolFault.TooManyPages → MAX_PAGES ≤ used_of self.old.counts.items }
@@ -60,11 +56,7 @@ impl Names {
 
     /// Sets the reference count of the number that `next` returned to 1.
     pub fn name(&mut self)
-        requires room { vec_len self.old.free ≡ 0
-            → vec_len self.old.counts < vec_capacity self.old.counts }
-        requires free_room { vec_len self.old.free ≡ 0
-            → vec_len self.old.counts < vec_capacity self.old.free }
-        requires few { vec_len self.old.free ≡ 0 → vec_len self.old.counts < MAX_PAGES }
+        requires { HasRoomToName self.old.counts self.old.free }
         ensures counts { let no = number_to_give self.old.counts.items self.old.free.items in
             AddsName no self.old.counts.items self.new.counts.items }
         ensures dense { length self.new.counts.items

@@ -2,7 +2,7 @@ ghost use Rattle.std.specs.Prelude.{◌≡◌, ◌+◌, ◌<◌, ◌≤◌, ℕ,
 ghost use Rattle.oai_device.specs.Device.{range_of};
 ghost use Rattle.oai_device.specs.declared.devices.TheConstants.{PAGE_BYTES};
 ghost use Rattle.oai_pool.specs.Counts.{AddsName, KeepsNamed, StaysNamed, count_of, used_of};
-ghost use Rattle.oai_pool.specs.Calls.{SparesNumbers, SpendsNumbers};
+ghost use Rattle.oai_pool.specs.Calls.{IsAdded, SparesNumbers, SpendsNumbers};
 ghost use Rattle.oai_pool.specs.Kinds.{is_of};
 ghost use Rattle.oai_pool.specs.declared.pools.PoolFault.TheVariants as fault;
 ghost use Rattle.oai_pool.specs.declared.pools.TheConstants.{MAX_PAGES};
@@ -80,10 +80,7 @@ pub trait PagePool {
     /// reused first. The errors: Device, NoMemory or TooManyPages.
     fn add(&mut self, page: &Page, kind: PageKind) -> Result<PageNo, PoolFault>
         requires { is_of kind page.now ≡ true }
-        ensures free { IfOk result (λ no. count_of (counts self.old) no ≡ 0) }
-        ensures counts { IfOk result (λ no. AddsName no (counts self.old) (counts self.new)) }
-        ensures once { IfOk result (λ no. count_of (counts self.new) no ≡ 1) }
-        ensures page { IfOk result (λ no. pages self.new no ≡ Some page.now) }
+        ensures added { IfOk result (λ no. IsAdded counts pages page.now no self.old self.new) }
         ensures dense { OnOk result (length (counts self.new)
             ≡ max (length (counts self.old)) (used_of (counts self.old) + 1)) }
         ensures err { OnErr result (counts self.new ≡ counts self.old) }

@@ -1,5 +1,5 @@
-//! Tests of the paged store (`oai_paged`, `oai_places`): beside a plain store, by the pages that it uses and reads, and over a device
-//! that fails. It holds nothing else.
+//! Tests of the paged store (`oai_paged`, `oai_places`, `oai_sums`): beside a plain store, by the pages that it uses and
+//! reads, and over a device that fails. It holds nothing else.
 #![tactic(auto)]
 
 #[cfg(test)]

@@ -53,7 +53,7 @@ loop-at-preserved g c =
     let pushed : c.push.new.self.items ≡ c.loop-at.numbers.items ++ c.in-Ok.number ∷ [] = rw done at c.push.ensures.items in
     let next : take (at + 1) all ≡ take at all ++ c.fill_page.new.page ∷ [] = take_more all at [] within ∙ ap (λ page. take at all ++ page ∷ []) (sym (c.fill_page.ensures [])) in
     record {
-      added = rw (next, pushed) (adds_number G (take at all) c.loop-at.numbers.items c.in-Ok.number c.fill_page.new.page p q r so_far.added c.in-Ok.ensures.free c.in-Ok.ensures.counts c.add.ensures.kept c.in-Ok.ensures.page);
+      added = rw (next, pushed) (adds_number G (take at all) c.loop-at.numbers.items c.in-Ok.number c.fill_page.new.page p q r so_far.added c.in-Ok.ensures.added.free c.in-Ok.ensures.added.counts c.add.ensures.kept c.in-Ok.ensures.added.page);
       taken = spends_both G at 1 at (ok_of (at + 1)) p q r so_far.taken (spends_call G 1 c.in-Ok.number (at + 1) q r c.in-Ok.ensures.pool);
       len = rw done at c.push.ensures.len ∙ ap (λ n. n + 1) so_far.len;
       room = omega (arith, so_far.room, c.push.ensures.capacity);
