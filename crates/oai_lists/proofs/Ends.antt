@@ -1,6 +1,6 @@
 -- Which lists have ended, and what is kept of the others.
-use Rattle.std.proofs.Common.{◌≡◌, ◌≢◌, ◌∙◌, ℕ, ℤ, ◌+◌, ◌<◌, ◌≤◌, ◌<ℤ◌, ◌≤ℤ◌, inl, inr, ◌⊎◌, Bool, true, false, not, cond, eqb, List, [], ◌∷◌, ◌++◌, Option, None, Some, Ok, Err, length, take, drop, get_or, refl, sym, ap, subst, arith, add-one, unwrap_or, IsSome, is_some, append-nil}
-use Rattle.std.specs.Prelude.{find, int_le, int_lt, nat_lt, nat_le, position}
+use Rattle.std.proofs.Common.{◌≡◌, ◌-◌, ◌&&◌, ◌≢◌, ◌∙◌, ℕ, ℤ, ◌+◌, ◌<◌, ◌≤◌, ◌<ℤ◌, ◌≤ℤ◌, inl, inr, ◌⊎◌, Bool, true, false, not, cond, eqb, List, [], ◌∷◌, ◌++◌, Option, None, Some, Ok, Err, length, take, drop, get_or, refl, sym, ap, subst, arith, add-one, unwrap_or, IsSome, is_some, append-nil}
+use Rattle.std.specs.Prelude.{find, int_le, int_lt, nat_lt, nat_le, position, slice_get}
 use Rattle.std.specs.Int.{int_min}
 use Rattle.std.specs.List.{after_first, before_first, list_all, position_or_len, remove}
 use Rattle.std.proofs.lemmas.Bool.{false≢true, and_from, and_parts, cond-true, cond-false, cond_both, cases_Bool, eqb-false, le-leb, lt-leb, lt-ltb, ltb-true, not-true, not_from_false}
@@ -11,7 +11,7 @@ use Rattle.std.proofs.lemmas.List.Folds.{list_all-append}
 use Rattle.std.proofs.lemmas.List.Quantifiers.{position-Some}
 use Rattle.std.proofs.lemmas.List.Sums.{AllPass-from_list_all, list_all-from_AllPass, position_or_len_is}
 use Rattle.oai_lists.specs.HeldTable.{IsHeldTable, earlier}
-use Rattle.oai_lists.specs.OpenLists.{IsEarliest, IsListOpening, Table, number_or_fault, are_numbered_lists, has_ended, is_open, list_numbered, list_number, open_fault, open_ones, with_opened}
+use Rattle.oai_lists.specs.OpenLists.{IsEarliest, IsListOpening, Table, may_reopen, number_or_fault, are_numbered_lists, has_ended, is_open, list_numbered, list_number, open_fault, open_ones, with_opened, with_reopened}
 use Rattle.oai_lists.specs.declared.lists.OpenListFault.{OpenListFault}
 use Rattle.oai_lists.specs.declared.lists.OpenListFault.TheVariants.{Full, NumbersSpent}
 use Rattle.oai_lists.specs.declared.open_lists.OpenList.{OpenList}
@@ -206,24 +206,73 @@ earliest_kept now lists i x end within is over so_far =
 
 -- ---- what a table keeps
 
--- one more list, of the next number
-pub held_push : (table : Table) (earliest : ℤ) (list : OpenList) → IsHeldTable table earliest → list.number ≡ table.next → IsHeldTable (with_opened table list) (int_min earliest list.end)
-held_push table earliest list held same = record {
+-- one more list, of a number above theirs
+pub held_more : (table : Table) (earliest : ℤ) (next : ℕ) (list : OpenList) → IsHeldTable table earliest → list_all (λ (other : OpenList). nat_lt other.number list.number) table.lists ≡ true
+    → table.next ≤ next → list.number < next → IsHeldTable (record { limit = table.limit; next = next; lists = table.lists ++ list ∷ [] }) (int_min earliest list.end)
+held_more table earliest next list held above higher below = record {
   numbers = record {
     numbered = rise-join list_number table.lists (list ∷ []) held.numbers.numbered refl
-        (all-weaker (λ (other : OpenList). nat_lt other.number table.next) (λ other. list_all (is_lower list_number other) (list ∷ []))
-        (λ other low. and_from (is_lower list_number other list) true (lt-ltb other.number list.number (omega (arith, same, ltb-true other.number table.next low))) refl)
-        table.lists held.numbers.given);
-    given = list_all-append (λ other. nat_lt other.number (table.next + 1)) table.lists (list ∷ [])
+        (all-weaker (λ (other : OpenList). nat_lt other.number list.number) (λ other. list_all (is_lower list_number other) (list ∷ []))
+        (λ other low. and_from (is_lower list_number other list) true low refl)
+        table.lists above);
+    given = list_all-append (λ other. nat_lt other.number next) table.lists (list ∷ [])
         ∙ and_from _ _
-        (all-weaker (λ (other : OpenList). nat_lt other.number table.next) (λ other. nat_lt other.number (table.next + 1)) (λ other low. lt-ltb other.number (table.next + 1) (omega (arith, ltb-true other.number table.next low))) table.lists held.numbers.given)
-        (and_from (nat_lt list.number (table.next + 1)) true (lt-ltb list.number (table.next + 1) (omega (arith, same))) refl);
+        (all-weaker (λ (other : OpenList). nat_lt other.number table.next) (λ other. nat_lt other.number next) (λ other low. lt-ltb other.number next (omega (arith, higher, ltb-true other.number table.next low))) table.lists held.numbers.given)
+        (and_from (nat_lt list.number next) true (lt-ltb list.number next below) refl);
   };
   bound = list_all-append (λ other. int_le (int_min earliest list.end) other.end) table.lists (list ∷ [])
       ∙ and_from _ _
       (all-weaker (λ (other : OpenList). int_le earliest other.end) (λ other. int_le (int_min earliest list.end) other.end) (λ other low. min_left earliest list.end other.end low) table.lists held.bound)
       (and_from (int_le (int_min earliest list.end) list.end) true (min_right earliest list.end) refl);
 }
+
+-- of the next number
+pub held_push : (table : Table) (earliest : ℤ) (list : OpenList) → IsHeldTable table earliest → list.number ≡ table.next → IsHeldTable (with_opened table list) (int_min earliest list.end)
+held_push table earliest list held same =
+    held_more table earliest (table.next + 1) list held
+    (subst (λ (n : ℕ). list_all (λ (other : OpenList). nat_lt other.number n) table.lists ≡ true) (sym same) held.numbers.given)
+    (omega arith) (omega (arith, same))
+
+-- of a number that a list may be put back with
+pub held_reopened : (table : Table) (earliest : ℤ) (list : OpenList) → IsHeldTable table earliest → may_reopen table list.number ≡ true → IsHeldTable (with_reopened table list) (int_min earliest list.end)
+held_reopened table earliest list held may =
+    let tests = and_parts (list_all (λ (other : OpenList). nat_lt other.number list.number) table.lists) (nat_lt list.number table.next) may in
+    held_more table earliest table.next list held tests.0 (omega arith) (ltb-true list.number table.next tests.1)
+
+-- a number above the last one is above all
+above_at : (x : OpenList) (lists : List OpenList) (n : ℕ) (last : OpenList) → are_numbered_lists (x ∷ lists) ≡ true → slice_get (x ∷ lists) (length lists) ≡ Some last
+    → list_all (λ (list : OpenList). nat_lt list.number n) (x ∷ lists) ≡ nat_lt last.number n
+above_at x [] n last rises is =
+    let same : x ≡ last = cc in
+    and_last (nat_lt x.number n) ∙ ap (λ (list : OpenList). nat_lt list.number n) same
+  where
+    and_last : (b : Bool) → (b && true) ≡ b
+    and_last true = refl
+    and_last false = refl
+above_at x (y ∷ lists) n last rises is =
+    let parts = and_parts (list_all (is_lower list_number x) (y ∷ lists)) (are_numbered_lists (y ∷ lists)) rises in
+    let rest : list_all (λ (list : OpenList). nat_lt list.number n) (y ∷ lists) ≡ nat_lt last.number n = above_at y lists n last parts.1 is in
+    elim (cases_Bool (nat_lt last.number n)) [
+      | inl above ↦
+          let ahead = and_parts (is_lower list_number x y) (list_all (is_lower list_number x) lists) parts.0 in
+          let next = and_parts (nat_lt y.number n) (list_all (λ (list : OpenList). nat_lt list.number n) lists) (rest ∙ above) in
+          and_from (nat_lt x.number n) (list_all (λ (list : OpenList). nat_lt list.number n) (y ∷ lists))
+          (lt-ltb x.number n (omega (arith, ltb-true x.number y.number ahead.0, ltb-true y.number n next.0)))
+          (rest ∙ above)
+          ∙ sym above
+      | inr not_above ↦ ap (λ b. nat_lt x.number n && b) (rest ∙ not_above) ∙ and_false (nat_lt x.number n) ∙ sym not_above
+    ]
+  where
+    and_false : (b : Bool) → (b && false) ≡ false
+    and_false true = refl
+    and_false false = refl
+
+pub last_above : (lists : List OpenList) (n : ℕ) (last : OpenList) → are_numbered_lists lists ≡ true → slice_get lists (length lists - 1) ≡ Some last
+    → list_all (λ (list : OpenList). nat_lt list.number n) lists ≡ nat_lt last.number n
+last_above [] n last rises is = cc
+last_above (x ∷ lists) n last rises is =
+    let place : length (x ∷ lists) - 1 ≡ length lists = omega arith in
+    above_at x lists n last rises (ap (slice_get (x ∷ lists)) (sym place) ∙ is)
 
 -- one list less
 all-removed : (p : OpenList → Bool) (lists : List OpenList) (at : ℕ) (d : OpenList) → at < length lists → list_all p lists ≡ true → list_all p (remove lists at) ≡ true

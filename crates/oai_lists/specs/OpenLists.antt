@@ -1,13 +1,14 @@
 -- The lists that a repository has begun to answer and that resumption tokens continue. OAI-PMH 2.0, section 3.5.
-use Rattle.std.specs.Prelude.{◌≡◌, ◌+◌, ◌≤ℤ◌, ℕ, ℤ, max, int_le, int_lt, Bool, true, ◌&&◌, ◌==◌, nat_le, nat_lt, if◌then◌else◌, List, [], ◌∷◌, ◌++◌, length, map, Option, None, Some, MatchOption, filter, find, Result, Ok, Err}
+use Rattle.std.specs.Prelude.{◌≡◌, ◌+◌, ◌≤ℤ◌, ℕ, ℤ, max, int_le, int_lt, Bool, true, false, ◌&&◌, ◌==◌, nat_le, nat_lt, if◌then◌else◌, List, [], ◌∷◌, ◌++◌, length, map, Option, None, Some, MatchOption, filter, find, Result, Ok, Err}
 use Rattle.std.specs.List.{All, Contains, after_first, before_first, list_all}
-use Rattle.oai_names.specs.declared.list_verbs.ListVerb.{ListVerb}
 use Rattle.oai_names.specs.Numbered.{numbers_rise}
-use Rattle.oai_item.specs.Selection.{Filter}
 use Rattle.oai_lists.specs.declared.open_lists.Mark.{Mark}
+use Rattle.oai_lists.specs.declared.open_lists.NewList.{NewList}
 use Rattle.oai_lists.specs.declared.open_lists.OpenList.{OpenList}
 use Rattle.oai_lists.specs.declared.lists.OpenListFault.{OpenListFault}
 use Rattle.oai_lists.specs.declared.lists.OpenListFault.TheVariants.{Full, NumbersSpent, NoMemory}
+use Rattle.oai_lists.specs.declared.lists.ReopenFault.{ReopenFault}
+use Rattle.oai_lists.specs.declared.lists.ReopenFault.TheVariants as reopen
 
 -- the lists that are held, in the order in which they were opened, how many may be open, and the next number
 pub record Table : Type 0 where
@@ -62,16 +63,16 @@ number_or_fault (Some fault) next = Err fault
 abbrev pub with_opened : Table → OpenList → Table
 with_opened table list = record table { next = table.next + 1; lists = table.lists ++ list ∷ [] }
 
--- the list with these parts and the next number; the first cursor was given, and there is no mark
-abbrev pub next_list : Table → ListVerb → Filter → ℕ → ℕ → ℤ → ℕ → OpenList
-next_list table verb filter version size end first = record {
-  number = table.next;
-  verb = verb;
-  filter = filter;
-  version = version;
-  size = size;
-  end = end;
-  given = first;
+-- the list with that number, and without a mark
+abbrev pub opened_list : ℕ → NewList → OpenList
+opened_list number list = record {
+  number = number;
+  verb = list.verb;
+  filter = list.filter;
+  version = list.version;
+  size = list.size;
+  end = list.end;
+  given = list.given;
   mark = None;
 }
 
@@ -82,6 +83,23 @@ IsListOpening old now list (Ok number) new =
     (open_fault old now ≡ None) × (number ≡ old.next) × (new ≡ with_opened old list)
 IsListOpening old now list (Err NoMemory) new = (open_fault old now ≡ None) × (new ≡ old)
 IsListOpening old now list (Err fault) new = (open_fault old now ≡ Some fault) × (new ≡ old)
+
+-- ---- reopening
+
+-- a list with that number may be put behind those that are held: the number is above theirs, and below the next one
+abbrev pub may_reopen : Table → ℕ → Bool
+may_reopen table number = list_all (λ list. nat_lt list.number number) table.lists && nat_lt number table.next
+
+-- the table with that list behind the others
+abbrev pub with_reopened : Table → OpenList → Table
+with_reopened table list = record table { lists = table.lists ++ list ∷ [] }
+
+-- the result of putting the list back, and the table afterwards: it is the last one; or its number is out of order, or
+-- memory is, and the table is unchanged
+abbrev pub IsReopening : Table → OpenList → Result (Unit {0}) ReopenFault → Table → Type 0
+IsReopening old list (Ok _) new = (may_reopen old list.number ≡ true) × (new ≡ with_reopened old list)
+IsReopening old list (Err reopen.OutOfOrder) new = (may_reopen old list.number ≡ false) × (new ≡ old)
+IsReopening old list (Err reopen.NoMemory) new = (may_reopen old list.number ≡ true) × (new ≡ old)
 
 -- ---- changing one list
 

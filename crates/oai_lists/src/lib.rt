@@ -5,6 +5,6 @@ mod lists;
 mod open_lists;
 mod tokens;
 
-pub use lists::{LAST_NUMBER, Lists, OpenListFault};
-pub use open_lists::{Mark, OpenList};
+pub use lists::{LAST_NUMBER, Lists, OpenListFault, ReopenFault};
+pub use open_lists::{Mark, NewList, OpenList};
 pub use tokens::Token;

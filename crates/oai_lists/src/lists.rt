@@ -1,13 +1,11 @@
-ghost use Rattle.std.specs.Prelude.{◌≡◌, ◌<◌, [], get_or, vec_len, true, length, nat_le, position, IsSome, OnSome};
-ghost use Rattle.std.specs.List.{find, remove};
+ghost use Rattle.std.specs.Prelude.{◌≡◌, ◌<◌, [], get_or, vec_len, true, length, nat_le, nat_lt, position, slice_get, IsSome, OnSome};
+ghost use Rattle.std.specs.List.{find, list_all, remove};
 ghost use Rattle.oai_lists.specs.declared.open_lists.OpenList.{OpenList as Opened};
 ghost use Rattle.std.specs.Option.{option_copied, option_map};
 ghost use Rattle.oai_lists.specs.HeldTable.{IsListPlace, earlier};
-ghost use Rattle.oai_lists.specs.OpenLists.{IsEarliest, IsListOpening, IsListTable, number_or_fault, are_numbered_lists, has_ended, list_numbered, next_list, given_too, open_fault, open_numbered, open_ones, open_until, with_change, with_mark, without_ended};
+ghost use Rattle.oai_lists.specs.OpenLists.{IsEarliest, IsListOpening, IsListTable, IsReopening, may_reopen, number_or_fault, are_numbered_lists, has_ended, list_numbered, given_too, open_fault, open_numbered, open_ones, open_until, with_change, with_mark, opened_list, without_ended};
 
-use crate::open_lists::{Mark, OpenList};
-use oai_catalogue::Filter;
-use oai_names::ListVerb;
+use crate::open_lists::{Mark, NewList, OpenList};
 use std::alloc::Global;
 use std::marker::Model;
 use thiserror::Error;
@@ -24,6 +22,17 @@ pub enum OpenListFault {
     /// No number is left.
     #[error("no number is left for a list")]
     NumbersSpent,
+    /// Out of memory.
+    #[error("out of memory")]
+    NoMemory,
+}
+
+/// Why a list was not put back, in the order in which the causes are tested.
+#[derive(Clone, Copy, Debug, PartialEq, Eq, Error)]
+pub enum ReopenFault {
+    /// Its number is not above those of the lists that are held, or not below the next one.
+    #[error("the number of the list is out of order")]
+    OutOfOrder,
     /// Out of memory.
     #[error("out of memory")]
     NoMemory,
@@ -80,45 +89,53 @@ impl Lists {
         Ok(self.next)
     }
 
-    /// Opens a list at `now` and returns its number, which is the next one. The list has `size` records of that
-    /// version, ends at `end`, and has no mark; `first` is the highest cursor given in a token of it. Both moments are
-    /// in seconds from 1970 on. The error is the first cause of `OpenListFault` that applies, and the lists are unchanged.
-    /// It scans the lists only if `next` does, and allocates space for one more list.
-    pub fn open(
-        &mut self,
-        now: i64,
-        verb: ListVerb,
-        filter: Filter,
-        version: u64,
-        size: u64,
-        end: i64,
-        first: u64,
-    ) -> Result<u64, OpenListFault>
-        ensures opened { let list = next_list self.old verb filter version size end first in
-            IsListOpening self.old now list result self.new }
+    /// Opens the list at `now`, in seconds from 1970 on, and returns its number, which is the next one. It has no mark.
+    /// The error is the first cause of `OpenListFault` that applies, and the lists are unchanged. It scans the lists only
+    /// if `next` does, and allocates space for one more list.
+    pub fn open(&mut self, now: i64, list: NewList) -> Result<u64, OpenListFault>
+        ensures opened { IsListOpening self.old now (opened_list self.old.next list) result self.new }
         ensures valid { IsListTable self.old }
     {
         let number = match self.next(now) {
             Ok(number) => number,
             Err(fault) => return Err(fault),
         };
-        let list = OpenList {
-            number,
-            verb,
-            filter,
-            version,
-            size,
-            end,
-            given: first,
-            mark: None,
-        };
-        match self.lists.push(list) {
+        let end = list.end;
+        match self.lists.push(opened_list(list, number)) {
             Ok(()) => {}
             Err(_) => return Err(OpenListFault::NoMemory),
         }
         self.next = number + 1;
         self.earliest = self.earliest.min(end);
         Ok(number)
+    }
+
+    /// Whether a list with that number may be put back: the number is above those of the lists that are held, and below
+    /// the next one.
+    pub fn may_reopen(&self, number: u64) -> bool
+        ensures { result ≡ may_reopen self.now number }
+    {
+        is_above_all(self.lists.as_slice(), number) && number < self.next
+    }
+
+    /// Puts a list back that was open before, behind those that are held, with its number and all else that it had. It
+    /// does not look at the limit: where more lists are then open than may be, `open` returns `Full` until enough of
+    /// them have ended. The error is the first cause of `ReopenFault` that applies, and the lists are unchanged. It
+    /// allocates space for one more list.
+    pub fn reopen(&mut self, list: OpenList) -> Result<(), ReopenFault>
+        ensures reopened { IsReopening self.old list result self.new }
+        ensures valid { IsListTable self.old }
+    {
+        if !self.may_reopen(list.number) {
+            return Err(ReopenFault::OutOfOrder);
+        }
+        let end = list.end;
+        match self.lists.push(list) {
+            Ok(()) => {}
+            Err(_) => return Err(ReopenFault::NoMemory),
+        }
+        self.earliest = self.earliest.min(end);
+        Ok(())
     }
 
     /// The list with that number, if its end is above `now`, in seconds from 1970 on. Allocates nothing. Binary search,
@@ -135,6 +152,14 @@ impl Lists {
             }
             None => None,
         }
+    }
+
+    /// The list at that position among those that are held, in the order of their numbers, those that have ended and are
+    /// not dropped yet among them. Allocates nothing.
+    pub fn get(&self, at: usize) -> Option<&OpenList>
+        ensures { option_copied result ≡ slice_get self.now.lists at }
+    {
+        self.lists.get(at)
     }
 
     /// Sets the end of the list with that number, in seconds from 1970 on. Allocates nothing. O(log n).
@@ -233,6 +258,33 @@ impl Lists {
             return true;
         }
         self.limit <= open_among(self.lists.as_slice(), now)
+    }
+}
+
+/// The list with that number, and without a mark.
+fn opened_list(list: NewList, number: u64) -> OpenList
+    ensures { result ≡ opened_list number list }
+{
+    OpenList {
+        number,
+        verb: list.verb,
+        filter: list.filter,
+        version: list.version,
+        size: list.size,
+        end: list.end,
+        given: list.given,
+        mark: None,
+    }
+}
+
+/// Whether the number is above those of the lists, which rise.
+fn is_above_all(lists: &[OpenList], number: u64) -> bool
+    requires { are_numbered_lists lists.now ≡ true }
+    ensures { result ≡ list_all (λ list. nat_lt list.number number) lists.now }
+{
+    match lists.last() {
+        Some(last) => last.number < number,
+        None => true,
     }
 }
 

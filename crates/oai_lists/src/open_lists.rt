@@ -22,6 +22,23 @@ pub struct OpenList {
     pub mark: Option<Mark>,
 }
 
+/// A list that is opened: an `OpenList` that has no number yet, and no mark.
+#[derive(Debug, Drop)]
+pub struct NewList {
+    /// The verb of the request.
+    pub verb: ListVerb,
+    /// What the request asks for.
+    pub filter: Filter,
+    /// The number of the version that is its snapshot of the items.
+    pub version: u64,
+    /// How many records the filter selects.
+    pub size: u64,
+    /// The moment from which on it is no longer open, in seconds from 1970 on.
+    pub end: i64,
+    /// The highest cursor given in a token.
+    pub given: u64,
+}
+
 /// A position in a list, after one of its records.
 #[derive(Debug, Drop)]
 pub struct Mark {
