@@ -1,9 +1,8 @@
-ghost use Rattle.std.specs.Prelude.{◌≡◌, ◌∷◌, OnOk, IfSome, ◌++◌, codes};
+ghost use Rattle.std.specs.Prelude.{◌≡◌, OnOk, ◌++◌, codes};
 ghost use Rattle.std.specs.List.{before_first, flat_map};
-ghost use Rattle.std.specs.Option.{option_copied};
-ghost use Rattle.oai_item.specs.Elements.{behind_content, element_in, from_nameless, is_nameless};
+ghost use Rattle.oai_item.specs.Elements.{behind_content, content_in, from_nameless, is_nameless};
 ghost use Rattle.oai_answers.specs.Appends.{Appends};
-ghost use Rattle.oai_answers.specs.Contents.{about_from, content_from, field_told};
+ghost use Rattle.oai_answers.specs.Contents.{about_from, content_from};
 ghost use Rattle.oai_answers.specs.Documents.{declared_metadata, declared_start, dublin_core_metadata, dublin_core_start, field_element, fields_metadata, metadata, qualifier_of, schema_location};
 ghost use Rattle.oai_answers.specs.Markup.{end_tag, start_tag};
 
@@ -61,45 +60,30 @@ pub(crate) fn write_metadata(
     ensures written { OnOk result (Appends out.old.items out.new.items (metadata format.now fields.old)) }
     ensures about { OnOk result (fields.new ≡ behind_content fields.old) }
 {
+    match fields.element() {
+        Some(element) => {
+            *fields = fields.about();
+            put(element, out)
+        }
+        None => write_content(format, fields, out),
+    }
+}
+
+/// Appends the fields that are the record itself, in their format. The fields that remain are about the record.
+fn write_content(
+    format: &Format,
+    fields: &mut Fields<'_>,
+    out: &mut Vec<u8>,
+) -> Result<(), AllocError>
+    ensures written { OnOk result (Appends out.old.items out.new.items (fields_metadata format.now (content_in fields.old))) }
+    ensures about { OnOk result (fields.new ≡ behind_content fields.old) }
+{
     match fields.next() {
-        Some(first) => write_first(format, first, fields, out),
+        Some(first) => write_fields_metadata(format, Some(first), fields, out),
         None => {
             *fields = Fields::none();
             write_fields_metadata(format, None, fields, out)
         }
-    }
-}
-
-/// Appends the metadata, of which the first field was taken.
-#[tactic(auto, unfolding(crate::specs::Documents::metadata, crate::specs::Markup::plain))]
-fn write_first(
-    format: &Format,
-    first: FieldTexts<'_>,
-    others: &mut Fields<'_>,
-    out: &mut Vec<u8>,
-) -> Result<(), AllocError>
-    ensures written { OnOk result (Appends out.old.items out.new.items
-        (metadata format.now (field_told first.entry ∷ others.old))) }
-    ensures about { OnOk result (others.new ≡ from_nameless others.old) }
-{
-    match element_of(&first, others) {
-        Some(element) => put(element, out),
-        None => write_fields_metadata(format, Some(first), others, out),
-    }
-}
-
-/// The element that is the record itself, if the first field has no name, and none with a name follows.
-fn element_of<'a>(first: &FieldTexts<'a>, others: &Fields<'_>) -> Option<&'a str>
-    ensures element { option_copied result ≡ element_in (field_told first.now ∷ others.now) }
-    ensures alone { IfSome result (λ _. from_nameless others.now ≡ others.now) }
-{
-    if !first.name.is_empty() {
-        return None;
-    }
-    let mut ahead = others.copy();
-    match ahead.next_named() {
-        Some(_) => None,
-        None => Some(first.text),
     }
 }
 

@@ -1,25 +1,24 @@
 -- What is about records, read in place in the value of a line.
-use Rattle.std.proofs.Common.{◌≡◌, ◌∙◌, ℕ, Bool, true, false, ◌&&◌, ◌||◌, cond, is_some, List, [], ◌∷◌, map, codes, Option, Some, None, Result, Ok, Err, String, Global, BTreeMap, string_bytes, refl, sym, ap, subst}
+use Rattle.std.proofs.Common.{◌≡◌, ◌∙◌, ℕ, Bool, true, false, ◌&&◌, ◌||◌, cond, is_some, List, [], ◌∷◌, map, codes, Option, Some, None, Result, Ok, Err, String, Global, BTreeMap, string_bytes, refl, sym, ap}
 use Rattle.std.specs.List.{list_all, list_any}
 use Rattle.std.specs.Map.{lookup}
 use Rattle.std.specs.Str.{bytes_eq}
 use Rattle.std.specs.Option.{option_map}
-use Rattle.serde_json.specs.Data.{Data, Members, array, boolean, member, no_members, null, number, object, string}
-use Rattle.serde_json.specs.Find.{as_object, as_str, get, get_member}
+use Rattle.serde_json.specs.Data.{Data, Members, array, boolean, null, number, object, string}
+use Rattle.serde_json.specs.Find.{as_object, as_str, get}
 use Rattle.serde_json.specs.View.{members_view, view}
 use Rattle.serde_json.specs.declared.value.Value.{Value, Object}
 use Rattle.serde_json.proofs.Views.{view-Object}
 use Rattle.oai_item.specs.declared.forms.Forms.{Forms}
 use Rattle.oai_item.specs.declared.refusals.LineRefusal.{LineRefusal}
-use Rattle.oai_item.specs.declared.refusals.LineRefusal.TheVariants.{BadCommand}
 use Rattle.oai_names.specs.Names.{is_among}
 use Rattle.oai_names.specs.Optional.{◌>>=◌, each_of, tested}
 use Rattle.oai_json.specs.Json.{elements_of, members_in}
 use Rattle.oai_json.proofs.JsonLemmas.{members_in-members_view, seen}
 use Rattle.oai_json.proofs.ReadingLemmas.{Some-injective, bind-Some}
-use Rattle.oai_deposit.specs.Calls.{Anywhere, list_there, texts_if_there, texts_of_list, those_there}
-use Rattle.oai_deposit.specs.Lines.{LineAbout, LineRecord, about_of, abouts_at, abouts_if_there, abouts_of, have_records, record_of, records_at, records_of, text_list_of, texts_about, texts_or_none}
-use Rattle.oai_deposit.specs.Readings.{Finds, FindsBy, GivesBy}
+use Rattle.oai_deposit.specs.Calls.{Anywhere, texts_if_there, texts_of_list, those_there}
+use Rattle.oai_deposit.specs.Lines.{LineAbout, LineRecord, about_of, abouts_at, abouts_if_there, abouts_of, are_about_records, records_at, records_of, text_list_of, texts_about, texts_or_none}
+use Rattle.oai_deposit.specs.Readings.{FindsBy, GivesBy}
 use Rattle.oai_deposit.specs.declared.faults.LineFault.{LineFault}
 use Rattle.oai_deposit.specs.declared.faults.LineFault.TheVariants.{NoMemory, Refused}
 use Rattle.oai_deposit.proofs.CountLemmas.{in_list}
@@ -141,7 +140,7 @@ named forms p (object ms) rs is =
     ap is_some (in_list p ms) ∙ there_among p (members_in ms) ∙ ap (λ names. is_among names p) (names_kept forms (members_in ms) rs is)
 
 all_named : (forms : Forms) (d : Data) (rs : List LineRecord) (ts : List LineAbout) → records_of forms d ≡ Some rs
-    → list_all (λ (about : LineAbout). is_some (get about.0 d)) ts ≡ have_records rs ts
+    → list_all (λ (about : LineAbout). is_some (get about.0 d)) ts ≡ are_about_records rs ts
 all_named forms d rs [] is = refl
 all_named forms d rs (a ∷ ts) is =
     ap (λ b. b && list_all (λ (about : LineAbout). is_some (get about.0 d)) ts) (named forms a.0 d rs is)
@@ -149,19 +148,19 @@ all_named forms d rs (a ∷ ts) is =
 
 -- they are read where their prefixes are those of records, and otherwise nothing is
 pub same_test : (forms : Forms) (d e : Data) (rs : List LineRecord) (ts : List LineAbout) → records_at forms d ≡ Some rs → get (codes "records") d ≡ Some e
-    → tested (list_all (λ (about : LineAbout). is_some (get about.0 e))) ts ≡ tested (have_records rs) ts
+    → tested (list_all (λ (about : LineAbout). is_some (get about.0 e))) ts ≡ tested (are_about_records rs) ts
 unfolding records_at
 same_test forms d e rs ts is there =
     let records : records_of forms e ≡ Some rs = sym (ap (λ o. o >>= records_of forms) there) ∙ is in
     ap (λ b. cond b (Some ts) None) (all_named forms e rs ts records)
 
-pub abouts_read : (rs : List LineRecord) (d : Data) (ts : List LineAbout) → abouts_if_there (get (codes "about") d) ≡ Some ts → tested (have_records rs) ts ≡ abouts_at rs d
+pub abouts_read : (rs : List LineRecord) (d : Data) (ts : List LineAbout) → abouts_if_there (get (codes "about") d) ≡ Some ts → tested (are_about_records rs) ts ≡ abouts_at rs d
 unfolding abouts_at
-abouts_read rs d ts is = sym (ap (λ o. o >>= tested (have_records rs)) is)
+abouts_read rs d ts is = sym (ap (λ o. o >>= tested (are_about_records rs)) is)
 
 pub abouts_none : (rs : List LineRecord) (d : Data) → abouts_if_there (get (codes "about") d) ≡ None → abouts_at rs d ≡ None
 unfolding abouts_at
-abouts_none rs d is = ap (λ o. o >>= tested (have_records rs)) is
+abouts_none rs d is = ap (λ o. o >>= tested (are_about_records rs)) is
 
 pub no_records : (forms : Forms) (d : Data) (rs : List LineRecord) → get (codes "records") d ≡ None → records_at forms d ≡ Some rs → ⊥
 unfolding records_at

@@ -1,11 +1,10 @@
 -- Lines that a dump prints, and the changes that they request.
-use Rattle.std.proofs.Common.{◌≡◌, ◌&&◌, ◌||◌, ℕ, Bool, true, false, cond, not, Option, None, List, [], ◌∷◌, ◌++◌, map, codes, if◌then◌else◌, Some, Result, Ok, Err, IfOk, String, Global, string_bytes, refl, ap, sym, ◌∙◌}
+use Rattle.std.proofs.Common.{◌≡◌, ◌&&◌, ◌||◌, ℕ, Bool, true, false, cond, not, Option, None, List, [], ◌∷◌, ◌++◌, map, codes, if◌then◌else◌, Some, Result, Ok, refl, ap, sym, ◌∙◌}
 use Rattle.std.proofs.lemmas.List.{map-append}
 use Rattle.std.proofs.lemmas.List.Concat.{flat_map-cons}
 use Rattle.std.proofs.lemmas.List.Elements.{All-head, All-tail}
-use Rattle.std.proofs.lemmas.Str.{IsUtf8-string_bytes}
 use Rattle.std.specs.Cmp.Lexicographic.{slice_cmp}
-use Rattle.std.specs.List.{All, AllZip, filter, flat_map, list_all, list_any}
+use Rattle.std.specs.List.{All, AllZip, filter, flat_map, list_all}
 use Rattle.std.specs.Map.{lookup}
 use Rattle.std.specs.Ordering.{is_eq, is_lt, nat_cmp}
 use Rattle.std.specs.Str.{bytes_eq}
@@ -14,14 +13,14 @@ use Rattle.std.proofs.lemmas.Cmp.{nat_list_cmp_total}
 use Rattle.std.proofs.lemmas.Map.Text.{is_eq-slice_cmp}
 use Rattle.std.proofs.lemmas.Slice.Eq.{bytes_eq-Decides}
 use Rattle.std.proofs.lemmas.Bool.{and_from, and_parts}
-use Rattle.serde_json.specs.Data.{Data, Members, no_members, object, put, string}
-use Rattle.serde_json.specs.Written.{compact_text, has_float, items_have_float, members_have_float}
+use Rattle.serde_json.specs.Data.{Data, string}
+use Rattle.serde_json.specs.Written.{has_float, items_have_float, members_have_float}
 use Rattle.serde_json.proofs.OnLiterals.{serde_json_on_literals}
 use Rattle.oai_xml.specs.Documents.{canonical, is_canonical}
 use Rattle.oai_xml.proofs.CanonicalLemmas.{canonical_again, element_tested}
 use Rattle.oai_item.specs.Elements.{about_in, behind_content, content_in, element_in, is_about, is_nameless}
 use Rattle.oai_item.specs.Givens.{GivenRecord, given_back, given_of, is_none_or_canonical, kept}
-use Rattle.oai_item.specs.Item.{IsItem, ItemState, Metadata, are_rising, are_set_specs, is_before}
+use Rattle.oai_item.specs.Item.{ItemState, Metadata, are_rising, are_set_specs, is_before}
 use Rattle.oai_item.specs.declared.forms.Forms.{Forms}
 use Rattle.oai_item.specs.declared.forms.Forms.TheVariants.{Elements, Fields}
 use Rattle.oai_item.specs.declared.givens.Given.{Given}
@@ -34,8 +33,8 @@ use Rattle.oai_item.specs.declared.refusals.LineRefusal.{LineRefusal}
 use Rattle.oai_deposit.specs.Dumps.{about_member, has_about, line_about, line_abouts, line_record, IsHeldItem, IsHeldSet, IsLineOf, deletion_value, deposit_value, dump_changes, dump_values, item_changes, item_values, set_value}
 use Rattle.oai_names.specs.Names.{is_among}
 use Rattle.oai_json.specs.Json.{items_of, json_in, members_of, object_of}
-use Rattle.oai_deposit.specs.Lines.{LineAbout, LineRecord, about_read, adds_set, are_of_forms, are_records_of, as_given, before_about, element_read, have_records, is_of_forms, may_be_about, record_read, texts_about, texts_or_none, with_about, with_abouts, as_deposit, asked_change, asked_parts, before_others, change_asked, deletes, deposits, elements_read, given_element, have_xml_texts, line_of, read_as_element, shape_of, value_asked}
-use Rattle.oai_deposit.specs.Shapes.{IsDeposit, written_about, written_abouts, written_field, written_given, written_record, written_records, written_texts}
+use Rattle.oai_deposit.specs.Lines.{LineAbout, LineRecord, about_read, adds_set, are_about_records, are_of_forms, are_records_of, as_given, before_about, is_of_forms, may_be_about, texts_about, texts_or_none, with_abouts, as_deposit, asked_change, asked_parts, before_others, change_asked, deletes, deposits, elements_read, given_element, have_xml_texts, line_of, read_as_element, shape_of, value_asked}
+use Rattle.oai_deposit.specs.Shapes.{IsDeposit, written_about, written_field, written_given, written_record, written_records, written_texts}
 use Rattle.oai_deposit.proofs.CountLemmas.{not_empty}
 use Rattle.oai_deposit.proofs.ShapeLemmas.{shape_law_holds}
 use Rattle.oai_deposit.proofs.ValueLemmas.{less}
@@ -46,11 +45,11 @@ abbrev asked : Forms → Data → Result Change LineRefusal
 asked forms d = change_asked (shape_of forms d)
 
 -- each prefix about whose record something is printed is that of a record that is printed
-under_more : (r : LineRecord) (rs : List LineRecord) (ts : List LineAbout) → have_records rs ts ≡ true → have_records (r ∷ rs) ts ≡ true
+under_more : (r : LineRecord) (rs : List LineRecord) (ts : List LineAbout) → are_about_records rs ts ≡ true → are_about_records (r ∷ rs) ts ≡ true
 under_more r rs [] is = refl
 under_more r rs (a ∷ ts) is =
-    let parts = and_parts (is_among (map (λ (x : LineRecord). x.0) rs) a.0) (have_records rs ts) is in
-    and_from (is_among (map (λ (x : LineRecord). x.0) (r ∷ rs)) a.0) (have_records (r ∷ rs) ts) (or_more (bytes_eq a.0 r.0) _ parts.0) (under_more r rs ts parts.1)
+    let parts = and_parts (is_among (map (λ (x : LineRecord). x.0) rs) a.0) (are_about_records rs ts) is in
+    and_from (is_among (map (λ (x : LineRecord). x.0) (r ∷ rs)) a.0) (are_about_records (r ∷ rs) ts) (or_more (bytes_eq a.0 r.0) _ parts.0) (under_more r rs ts parts.1)
   where
     or_more : (b c : Bool) → c ≡ true → (b || c) ≡ true
     or_more true c is = refl
@@ -59,7 +58,7 @@ under_more r rs (a ∷ ts) is =
 same_bytes : (p : List ℕ) → bytes_eq p p ≡ true
 same_bytes p = (bytes_eq-Decides p p).1 refl
 
-under_all : (records : List GivenRecord) → have_records (map line_record records) (line_abouts records) ≡ true
+under_all : (records : List GivenRecord) → are_about_records (map line_record records) (line_abouts records) ≡ true
 under_all [] = refl
 under_all (r ∷ records) =
     by_test (has_about r) (under_more (line_record r) (map line_record records) (line_abouts records) (under_all records))
@@ -67,8 +66,8 @@ under_all (r ∷ records) =
     here : is_among (map (λ (x : LineRecord). x.0) (map line_record (r ∷ records))) r.0 ≡ true
     here = ap (λ b. b || is_among (map (λ (x : LineRecord). x.0) (map line_record records)) r.0) (same_bytes r.0)
 
-    by_test : (b : Bool) → have_records (map line_record (r ∷ records)) (line_abouts records) ≡ true
-        → have_records (map line_record (r ∷ records)) (map line_about (cond b (r ∷ filter has_about records) (filter has_about records))) ≡ true
+    by_test : (b : Bool) → are_about_records (map line_record (r ∷ records)) (line_abouts records) ≡ true
+        → are_about_records (map line_record (r ∷ records)) (map line_about (cond b (r ∷ filter has_about records) (filter has_about records))) ≡ true
     by_test true others = and_from (is_among (map (λ (x : LineRecord). x.0) (map line_record (r ∷ records))) r.0) _ here others
     by_test false others = others
 
@@ -92,7 +91,7 @@ value_of abouts identifier sets records =
     object_of (about_member abouts ++ (codes "deposit", string identifier) ∷ (codes "records", written_records records) ∷ (codes "sets", written_texts sets) ∷ [])
 
 value_is : (forms : Forms) (identifier : List ℕ) (sets : List (List ℕ)) (records : List LineRecord) (abouts : List LineAbout)
-    → (forms ≡ Fields → abouts ≡ []) → have_records records abouts ≡ true → are_records_of forms records ≡ true
+    → (forms ≡ Fields → abouts ≡ []) → are_about_records records abouts ≡ true → are_records_of forms records ≡ true
     → IsDeposit forms identifier sets records abouts (value_of abouts identifier sets records)
 unfolding serde_json_on_literals
 value_is Fields identifier sets records [] none under formed =

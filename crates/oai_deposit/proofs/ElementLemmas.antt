@@ -1,9 +1,9 @@
 -- The elements of a deposit, read one after the other.
-use Rattle.std.proofs.Common.{◌≡◌, ◌∙◌, ◌&&◌, ◌≤◌, ◌<◌, ◌+◌, ◌-◌, ℕ, suc, Bool, true, List, [], ◌∷◌, ◌++◌, map, length, get_or, take, drop, drop-cons, add-one, Bor, Option, Some, None, Result, Ok, Err, refl, sym, ap, subst, append_assoc, append-nil, length-append, arith}
+use Rattle.std.proofs.Common.{◌≡◌, ◌∙◌, ◌&&◌, ◌≤◌, ◌<◌, ◌+◌, ◌-◌, ℕ, suc, true, List, [], ◌∷◌, ◌++◌, map, length, get_or, take, drop, drop-cons, add-one, Bor, Option, Some, Result, Ok, Err, refl, sym, ap, subst, append_assoc, append-nil, length-append, arith}
 use Rattle.std.specs.List.{list_all}
 use Rattle.std.proofs.lemmas.Bool.{and_from, and_parts}
 use Rattle.std.proofs.lemmas.List.{drop_all, map-append}
-use Rattle.oai_xml.specs.Documents.{canonical, is_canonical}
+use Rattle.oai_xml.specs.Documents.{canonical}
 use Rattle.oai_xml.specs.Roots.{RootName, root_of}
 use Rattle.oai_xml.specs.Trees.{Tree}
 use Rattle.oai_xml.specs.Whole.{SpellsTree}

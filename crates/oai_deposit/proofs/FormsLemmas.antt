@@ -14,7 +14,7 @@ use Rattle.oai_item.specs.declared.refusals.LineRefusal.TheVariants.{BadIdentifi
 use Rattle.oai_json.specs.Json.{json_in}
 use Rattle.oai_names.specs.Names.{may_be_identifier}
 use Rattle.oai_names.specs.Sets.{may_be_set_spec}
-use Rattle.oai_deposit.specs.Lines.{DepositParts, LineAbout, LineRecord, Shape, about_read, are_records_of, before_about, may_be_about, record_read, with_abouts, adds_set, are_of_forms, as_deposit, as_put, asked_change, asked_parts, before_others, change_asked, deletes, deposits, puts, elements_read, given_element, have_xml_texts, is_of_forms, line_of, purges, shape_of, value_asked}
+use Rattle.oai_deposit.specs.Lines.{DepositParts, LineAbout, LineRecord, Shape, about_read, are_records_of, before_about, may_be_about, with_abouts, adds_set, are_of_forms, as_deposit, as_put, asked_change, asked_parts, before_others, change_asked, deletes, deposits, puts, elements_read, given_element, have_xml_texts, is_of_forms, line_of, purges, shape_of, value_asked}
 use Rattle.oai_deposit.proofs.CountLemmas.{is_empty}
 use Rattle.oai_deposit.proofs.ShapeLemmas.{no_about, shape_law_holds}
 

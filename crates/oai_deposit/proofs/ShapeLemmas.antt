@@ -1,6 +1,5 @@
 -- The shape of a value is the one that it is written as; and a value that is of none has none.
 use Rattle.std.proofs.Common.{◌≡◌, ◌≤◌, ◌+◌, ℕ, Bool, ◌&&◌, eqb, true, false, cond, Option, Some, None, IsSome, List, [], ◌∷◌, length, codes, refl, sym, ap, subst, is_some, ◌∙◌, arith}
-use Rattle.std.proofs.lemmas.Bool.{eqb-true}
 use Rattle.std.proofs.lemmas.Bool.Decides.{nat_tests}
 use Rattle.std.specs.Ordering.{is_eq, match_ordering, nat_cmp}
 use Rattle.std.specs.Cmp.Lexicographic.{slice_cmp}
@@ -16,8 +15,8 @@ use Rattle.oai_item.specs.declared.forms.Forms.{Forms}
 use Rattle.oai_item.specs.declared.forms.Forms.TheVariants.{Elements, Fields}
 use Rattle.oai_names.specs.Optional.{◌>>=◌, tested}
 use Rattle.oai_json.specs.Json.{has_each, has_members, has_members_and, names_there, size, text_at, texts_at}
-use Rattle.oai_deposit.specs.Lines.{LineAbout, LineRecord, Shape, abouts_at, abouts_if_there, abouts_of, are_records_of, has_deposit_members, have_records, optional_members, deposits, puts, put_shape, put_members, has_put_members, deletes, purges, purge_shape, purge_members, adds_set, records_at, records_of, deposit_shape, deposit_members, deletion_shape, deletion_members, set_shape, set_members, shape_of}
-use Rattle.oai_deposit.specs.Shapes.{written_abouts, written_records, AreAbouts, IsDeposit, IsPut, IsDeletion, IsPurge, IsNewSet, IsShape, ShapeLaw}
+use Rattle.oai_deposit.specs.Lines.{LineAbout, LineRecord, Shape, abouts_at, abouts_if_there, abouts_of, are_records_of, are_about_records, has_deposit_members, optional_members, deposits, puts, put_shape, put_members, has_put_members, deletes, purges, purge_shape, purge_members, adds_set, records_at, records_of, deposit_shape, deposit_members, deletion_shape, deletion_members, set_shape, set_members, shape_of}
+use Rattle.oai_deposit.specs.Shapes.{written_records, AreAbouts, IsDeposit, IsPut, IsDeletion, IsPurge, IsNewSet, IsShape, ShapeLaw}
 use Rattle.oai_json.proofs.MemberLemmas.{of_another_size, of_size, of_size_and, text_again, text_takes, texts_are, texts_take}
 use Rattle.oai_deposit.proofs.CountLemmas.{as_many}
 use Rattle.oai_deposit.proofs.ReaderLemmas.{abouts, records}
@@ -49,19 +48,19 @@ test_passed : {A : Type 0} (b : Bool) (x y : A) → cond b (Some x) None ≡ Som
 test_passed true x y is = (refl, Some-injective x y is)
 test_passed false x y is = absurd cc
 
-abouts_take : (rs : List LineRecord) (d : Data) (ts : List LineAbout) → abouts_at rs d ≡ Some ts → AreAbouts ts (get (codes "about") d) × (have_records rs ts ≡ true)
+abouts_take : (rs : List LineRecord) (d : Data) (ts : List LineAbout) → abouts_at rs d ≡ Some ts → AreAbouts ts (get (codes "about") d) × (are_about_records rs ts ≡ true)
 unfolding abouts_at
 abouts_take rs d ts is =
-    let p = bind-Some (abouts_if_there (get (codes "about") d)) (tested (have_records rs)) ts is in
-    let q = test_passed (have_records rs p.0) p.0 ts p.2 in (
+    let p = bind-Some (abouts_if_there (get (codes "about") d)) (tested (are_about_records rs)) ts is in
+    let q = test_passed (are_about_records rs p.0) p.0 ts p.2 in (
       subst (λ (xs : List LineAbout). AreAbouts xs (get (codes "about") d)) q.1 (if_there_takes (get (codes "about") d) p.0 p.1),
-      ap (have_records rs) (sym q.1) ∙ q.0,
+      ap (are_about_records rs) (sym q.1) ∙ q.0,
     )
 
-abouts_again : (rs : List LineRecord) (d : Data) (ts : List LineAbout) → AreAbouts ts (get (codes "about") d) → have_records rs ts ≡ true → abouts_at rs d ≡ Some ts
+abouts_again : (rs : List LineRecord) (d : Data) (ts : List LineAbout) → AreAbouts ts (get (codes "about") d) → are_about_records rs ts ≡ true → abouts_at rs d ≡ Some ts
 unfolding abouts_at
 abouts_again rs d ts is under =
-    ap (λ r. r >>= tested (have_records rs)) (if_there_again (get (codes "about") d) ts is) ∙ ap (λ b. cond b (Some ts) None) under
+    ap (λ r. r >>= tested (are_about_records rs)) (if_there_again (get (codes "about") d) ts is) ∙ ap (λ b. cond b (Some ts) None) under
 
 -- ---- a deposit
 

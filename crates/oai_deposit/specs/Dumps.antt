@@ -1,7 +1,7 @@
 -- What a dump prints of a repository: lines that deposit what it holds again. JSON texts of RFC 8259, sections 4, 5 and
 -- 7; the lines are this repository's own.
 use Rattle.std.specs.Prelude.{◌≡◌, ◌==◌, ℕ, Bool, not, List, [], ◌∷◌, ◌++◌, length, map, codes, if◌then◌else◌, Some, true}
-use Rattle.std.specs.List.{All, AllZip, filter, flat_map, list_all}
+use Rattle.std.specs.List.{AllZip, filter, flat_map, list_all}
 use Rattle.serde_json.specs.Data.{Data, string}
 use Rattle.serde_json.specs.Written.{compact_text}
 use Rattle.oai_item.specs.Elements.{behind_content, element_in, is_about}

@@ -128,12 +128,12 @@ abouts_if_there None = Some []
 abouts_if_there (Some d) = abouts_of d
 
 -- each prefix is that of a record
-abbrev pub have_records : List LineRecord → List LineAbout → Bool
-have_records records abouts = list_all (λ a. is_among (map (λ r. r.0) records) a.0) abouts
+abbrev pub are_about_records : List LineRecord → List LineAbout → Bool
+are_about_records records abouts = list_all (λ a. is_among (map (λ r. r.0) records) a.0) abouts
 
 -- .. as the member of them
 unfoldable pub abouts_at : List LineRecord → Data → Option (List LineAbout)
-abouts_at records d = abouts_if_there (get (codes "about") d) >>= tested (have_records records)
+abouts_at records d = abouts_if_there (get (codes "about") d) >>= tested (are_about_records records)
 
 -- {"deposit":ID,"sets":[SPEC,..],"records":{PREFIX:[[NAME,TEXT],..],PREFIX:TEXT,..},"about":{PREFIX:[TEXT,..],..}}
 unfoldable pub deposit_shape : Forms → Data → Option Shape

@@ -8,7 +8,7 @@ use Rattle.oai_item.specs.declared.forms.Forms.TheVariants.{Elements}
 use Rattle.oai_item.specs.declared.givens.Given.{Given}
 use Rattle.oai_item.specs.declared.givens.Given.TheVariants.{Listed, Whole}
 use Rattle.oai_json.specs.Json.{size, names_there, array_of, object_of}
-use Rattle.oai_deposit.specs.Lines.{LineAbout, LineRecord, Shape, are_records_of, have_records, optional_members, deposits, puts, deletes, purges, adds_set, shape_of}
+use Rattle.oai_deposit.specs.Lines.{LineAbout, LineRecord, Shape, are_about_records, are_records_of, optional_members, deposits, puts, deletes, purges, adds_set, shape_of}
 
 -- [TEXT,..]
 abbrev pub written_texts : List (List ℕ) → Data
@@ -52,7 +52,7 @@ pub record IsDeposit (forms : Forms) (identifier : List ℕ) (specs : List (List
   pub sets : get (codes "sets") d ≡ Some (written_texts specs)
   pub records : get (codes "records") d ≡ Some (written_records given)
   pub about : AreAbouts abouts (get (codes "about") d)
-  pub under : have_records given abouts ≡ true
+  pub under : are_about_records given abouts ≡ true
   pub formed : are_records_of forms given ≡ true
   pub no_other : size d ≡ 3 + length (names_there (optional_members forms) d)
 
@@ -64,7 +64,7 @@ pub record IsPut (forms : Forms) (identifier : List ℕ) (specs : List (List ℕ
   pub sets : get (codes "sets") d ≡ Some (written_texts specs)
   pub records : get (codes "records") d ≡ Some (written_records given)
   pub about : AreAbouts abouts (get (codes "about") d)
-  pub under : have_records given abouts ≡ true
+  pub under : are_about_records given abouts ≡ true
   pub allowed : forms ≡ Elements
   pub no_other : size d ≡ 3 + length (names_there (optional_members forms) d)
 

@@ -105,7 +105,7 @@ pub(crate) fn abouts_at(value: &Value) -> Result<AboutTexts<'_>, LineFault>
 /// What is given about records, if it is about those of the value.
 fn abouts_of_records<'a>(abouts: AboutTexts<'a>, value: &Value) -> Result<AboutTexts<'a>, LineFault>
     ensures { (forms : Forms) (records : List LineRecord) → lines.records_at forms (view value.now) ≡ Some records
-        → Finds ⊥ result (tested (lines.have_records records) abouts.entry) }
+        → Finds ⊥ result (tested (lines.are_about_records records) abouts.entry) }
 {
     match value.get("records") {
         Some(records) => abouts_under(abouts, records),

@@ -1,11 +1,9 @@
-use Rattle.std.proofs.Common.{List, ◌∷◌, [], ◌++◌, map, ap, ◌∙◌, sym}
+use Rattle.std.proofs.Common.{◌∷◌, [], ◌++◌, ap, ◌∙◌, sym}
 use Rattle.std.specs.List.{before_first}
 use Rattle.std.proofs.lemmas.List.{append_assoc}
-use Rattle.serde_json.specs.View.{view}
 use Rattle.oai_item.proofs.Contents.{named_before}
 use Rattle.oai_item.specs.Elements.{is_nameless}
 use Rattle.oai_item.specs.declared.fields.Field.{Field}
-use Rattle.oai_deposit.specs.Shapes.{written_field}
 use Rattle.oai_deposit.proofs.ValueLemmas.{fields_end, fields_more, pushed}
 use Rattle.oai_deposit.proofs.dump_values.add_named.Goals as goal
 

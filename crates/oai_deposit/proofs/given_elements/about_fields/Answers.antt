@@ -1,5 +1,5 @@
 -- One element more, one that is refused, and at the end.
-use Rattle.std.proofs.Common.{◌≡◌, ◌<◌, ◌≤◌, ℕ, List, Bor, Vec, Global, length, arith}
+use Rattle.std.proofs.Common.{◌<◌, ◌≤◌, Vec, Global, length, arith}
 use Rattle.std.proofs.lemmas.Result.{err_from_is_err_and}
 use Rattle.oai_item.specs.Givens.{field_texts}
 use Rattle.oai_item.specs.declared.fields.Field.{Field}

@@ -1,5 +1,5 @@
 -- What is about the record stands behind the record itself.
-use Rattle.std.proofs.Common.{◌≡◌, ◌++◌, ℕ, List, Option, Vec, Global, length, rules}
+use Rattle.std.proofs.Common.{◌≡◌, ◌++◌, List, Option, Vec, Global, length, rules}
 use Rattle.std.proofs.lemmas.Result.{err_from_is_err_and}
 use Rattle.oai_xml.specs.Roots.{RootName}
 use Rattle.oai_item.specs.Givens.{field_texts, noted_given}

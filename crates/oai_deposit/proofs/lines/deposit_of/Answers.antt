@@ -1,4 +1,4 @@
-use Rattle.std.proofs.Common.{◌≡◌, ◌∙◌, ℕ, Bor, List, Some, codes, map, rules}
+use Rattle.std.proofs.Common.{◌≡◌, ℕ, Bor, List, Some, codes, map, rules}
 use Rattle.std.proofs.lemmas.Result.{err_from_is_err_and}
 use Rattle.serde_json.specs.View.{view}
 use Rattle.oai_json.specs.Json.{text_at, texts_at}
