@@ -1,5 +1,5 @@
 -- Items with differences: what has an identifier then, and that lists in order that have the same under each identifier are one.
-use Rattle.std.proofs.Common.{◌≡◌, ◌∙◌, ℕ, Bool, true, false, not, inl, inr, List, [], ◌∷◌, ◌++◌, map, Option, None, Some, refl, sym, ap, subst}
+use Rattle.std.proofs.Common.{◌≡◌, ◌∙◌, ℕ, Bool, true, not, inl, inr, List, [], ◌∷◌, ◌++◌, map, Option, None, Some, refl, sym, ap, subst}
 use Rattle.std.specs.Prelude.{find}
 use Rattle.std.specs.List.{list_all}
 use Rattle.std.specs.Ordering.{int_eq}
@@ -17,7 +17,7 @@ use Rattle.oai_holdings.specs.Differences.{AreDifferences, AreInOrderAndApart, I
 
 -- ---- what has an identifier after differences
 
-named_differences : (q : List ℕ) (items : List ItemState) (differences : List ItemDifference)
+pub named_differences : (q : List ℕ) (items : List ItemState) (differences : List ItemDifference)
     → item_named q (with_differences items differences) ≡ named_after q differences (item_named q items)
 named_differences q items [] = refl
 named_differences q items (comes item ∷ differences) =
@@ -34,7 +34,7 @@ held_difference items (goes gone) held =
     let stays : ItemState → Bool = λ item. not (is_named gone item) in
     record { ordered = in_order-filter stays items held.ordered; apart = apart-filter stays items held.apart }
 
-held_differences : (items : List ItemState) (differences : List ItemDifference) → AreInOrderAndApart items → AreInOrderAndApart (with_differences items differences)
+pub held_differences : (items : List ItemState) (differences : List ItemDifference) → AreInOrderAndApart items → AreInOrderAndApart (with_differences items differences)
 held_differences items [] held = held
 held_differences items (difference ∷ differences) held = held_differences (with_difference items difference) differences (held_difference items difference held)
 
@@ -74,7 +74,7 @@ first_same x y xs ys a b same =
     ]
 
 -- none of the items behind one has its identifier
-none_behind : (q : List ℕ) (x : ItemState) (xs : List ItemState) → list_all (is_apart x) xs ≡ true → is_named q x ≡ true → item_named q xs ≡ None
+pub none_behind : (q : List ℕ) (x : ItemState) (xs : List ItemState) → list_all (is_apart x) xs ≡ true → is_named q x ≡ true → item_named q xs ≡ None
 unfolding item_named
 none_behind q x xs apart named =
     find_none (is_named q) xs (subst (λ (t : List ℕ). list_all (λ (y : ItemState). not (is_named t y)) xs ≡ true) ((bytes_eq-Decides x.identifier q).0 named) apart)
@@ -91,7 +91,7 @@ rest_same q x xs ys a b same =
           sym (cond-false (is_named q x) (Some x) (find (is_named q) xs) other) ∙ same ∙ cond-false (is_named q x) (Some x) (find (is_named q) ys) other
     ]
 
-same_held : (xs ys : List ItemState) → AreInOrderAndApart xs → AreInOrderAndApart ys → ((q : List ℕ) → item_named q xs ≡ item_named q ys) → xs ≡ ys
+pub same_held : (xs ys : List ItemState) → AreInOrderAndApart xs → AreInOrderAndApart ys → ((q : List ℕ) → item_named q xs ≡ item_named q ys) → xs ≡ ys
 unfolding item_named
 same_held [] [] a b same = refl
 same_held [] (y ∷ ys) a b same = absurd (none-some y (same y.identifier ∙ found_first y ys))
@@ -123,13 +123,13 @@ differences_lead items others differences held are same =
 abbrev all_change : List ItemState → List ItemState → List ItemDifference
 all_change items others = map (λ (item : ItemState). goes item.identifier) items ++ map comes others
 
-after_append : (q : List ℕ) (differences others : List ItemDifference) (found : Option ItemState)
+pub after_append : (q : List ℕ) (differences others : List ItemDifference) (found : Option ItemState)
     → named_after q (differences ++ others) found ≡ named_after q others (named_after q differences found)
 after_append q [] others found = refl
 after_append q (comes item ∷ differences) others found = after_append q differences others _
 after_append q (goes gone ∷ differences) others found = after_append q differences others _
 
-none_stays : (q : List ℕ) (items : List ItemState) → named_after q (map (λ (item : ItemState). goes item.identifier) items) None ≡ None
+pub none_stays : (q : List ℕ) (items : List ItemState) → named_after q (map (λ (item : ItemState). goes item.identifier) items) None ≡ None
 none_stays q [] = refl
 none_stays q (x ∷ items) =
     cond_both (bytes_eq x.identifier q) None None (λ (found : Option ItemState). named_after q (map (λ (item : ItemState). goes item.identifier) items) found ≡ None)
@@ -151,7 +151,7 @@ all_gone q (x ∷ items) =
     rest found = named_after q (map (λ (item : ItemState). goes item.identifier) items) found
 
 -- items of other identifiers come
-others_come : (q : List ℕ) (items : List ItemState) (found : Option ItemState) → list_all (λ (item : ItemState). not (is_named q item)) items ≡ true
+pub others_come : (q : List ℕ) (items : List ItemState) (found : Option ItemState) → list_all (λ (item : ItemState). not (is_named q item)) items ≡ true
     → named_after q (map comes items) found ≡ found
 others_come q [] found none = refl
 others_come q (x ∷ items) found none =
@@ -159,7 +159,7 @@ others_come q (x ∷ items) found none =
     ap (named_after q (map comes items)) (cond-false (is_named q x) (Some x) found (not-true (is_named q x) parts.0)) ∙ others_come q items found parts.1
 
 -- all come, and the one of the identifier is found
-all_come : (q : List ℕ) (items : List ItemState) → are_apart items ≡ true → named_after q (map comes items) None ≡ item_named q items
+pub all_come : (q : List ℕ) (items : List ItemState) → are_apart items ≡ true → named_after q (map comes items) None ≡ item_named q items
 unfolding item_named
 all_come q [] apart = refl
 all_come q (x ∷ items) apart =

@@ -5,3 +5,7 @@ pub mod PurgeLemmas
 pub mod PutLemmas
 pub mod RestoreLemmas
 pub mod DifferenceLemmas
+pub mod GoneLemmas
+pub mod MissingLemmas
+pub mod BatchLemmas
+pub mod MissingLaws

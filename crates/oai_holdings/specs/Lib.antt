@@ -9,3 +9,5 @@ pub mod Indexing
 pub mod Purges
 pub mod Saved
 pub mod Differences
+pub mod Missing
+pub mod MissingParts

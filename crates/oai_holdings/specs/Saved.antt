@@ -9,6 +9,7 @@ use Rattle.oai_item.specs.declared.faults.Fault.{Fault}
 use Rattle.oai_item.specs.declared.faults.Fault.TheVariants as fault
 use Rattle.oai_settings.specs.Config.{RepositoryConfig}
 use Rattle.oai_holdings.specs.Changes.{set_refusal}
+use Rattle.oai_holdings.specs.Entries.{IndexEntries, stamp_in}
 use Rattle.oai_holdings.specs.Kept.{is_well_kept}
 use Rattle.oai_holdings.specs.Holdings.{NamedSet}
 
@@ -24,6 +25,10 @@ may_have_set sets spec = is_none (set_refusal sets spec)
 -- an item may be added that satisfies the repository's invariants, if there are that many, and fewer than there may be
 abbrev pub may_have_item : RepositoryConfig → List NamedSet → ℕ → ItemState → Bool
 may_have_item config sets count item = is_well_kept config sets item && nat_lt count config.items
+
+-- an item may go that is held
+abbrev pub may_go : IndexEntries → List ℕ → Bool
+may_go entries identifier = is_some (stamp_in identifier entries)
 
 -- fields keep an element, as the record itself or about it
 abbrev pub keep_elements : List Field → Bool

@@ -24,6 +24,7 @@ use oai_names::{SetFault, SetSpec, SetTree};
 use oai_settings::RepoConfig;
 pub(crate) use purges::deleted_below;
 use purges::purge;
+pub(crate) use sameness::{are_same_records, are_same_sets};
 use std::alloc::Global;
 
 /// The context of a change.

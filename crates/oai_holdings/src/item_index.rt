@@ -101,6 +101,7 @@ impl ItemIndex {
             → IsSome (item_named identifier.now (stored_items self.now (V.lists store.old)))) }
         ensures there { IfOk result (λ item. IsSome item
             → IsSome (stamp_in identifier.now self.now.entries)) }
+        ensures entered { OnErr result (IsSome (stamp_in identifier.now self.now.entries)) }
         ensures named { IfOk result (λ item. IfSome item (λ item. item.identifier
             ≡ identifier.now)) }
         ensures reads { OnlyReads V.Versions result store.old store.new }

@@ -23,7 +23,7 @@ pub(crate) fn is_held_so(item: &Item, held: Option<&Item>) -> bool
 }
 
 /// Whether these are the same setSpecs, in the same order.
-fn are_same_sets(sets: &[SetSpec], others: &[SetSpec]) -> bool
+pub(crate) fn are_same_sets(sets: &[SetSpec], others: &[SetSpec]) -> bool
     ensures { result ≡ pointwise bytes_eq sets.now others.now }
 {
     let mut left = sets;
@@ -42,7 +42,7 @@ fn are_same_sets(sets: &[SetSpec], others: &[SetSpec]) -> bool
 }
 
 /// Whether these are records of the same prefixes and with the same fields, in the same order.
-fn are_same_records(mut records: ItemRecords<'_>, mut others: ItemRecords<'_>) -> bool
+pub(crate) fn are_same_records(mut records: ItemRecords<'_>, mut others: ItemRecords<'_>) -> bool
     ensures { result ≡ pointwise spec.is_same_record records.entry others.entry }
 {
     while let Some(record) = records.next() {
