@@ -21,3 +21,4 @@ pub mod NewLemmas
 pub mod PutLemmas
 pub mod UnseenLemmas
 pub mod SavedListLemmas
+pub mod ReopenLemmas

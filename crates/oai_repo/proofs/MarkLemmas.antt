@@ -1,5 +1,5 @@
 -- The mark of a list is a place among its items, and what stands behind the mark's item is what stands behind the place.
-use Rattle.std.proofs.Common.{◌≡◌, ◌∙◌, inl, inr, ℕ, ℤ, suc, zero, ◌+◌, ◌<◌, Bool, true, not, List, [], ◌∷◌, ◌++◌, append_assoc, length, take, drop, Option, None, Some, Result, Ok, Err, IfOk, IfSome, OnOk, ◌-◌, arith, slice_get, refl, sym, ap, subst}
+use Rattle.std.proofs.Common.{◌≡◌, ◌∙◌, inl, inr, ℕ, ℤ, suc, zero, ◌+◌, ◌<◌, Bool, true, not, List, [], ◌∷◌, ◌++◌, append_assoc, length, take, drop, Option, None, Some, Result, Ok, Err, IfOk, IfSome, ◌-◌, arith, slice_get, refl, sym, ap, subst}
 use Rattle.std.specs.Prelude.{filter}
 use Rattle.std.specs.List.{list_all}
 use Rattle.std.specs.Ordering.{int_eq, is_eq, is_gt, is_lt}

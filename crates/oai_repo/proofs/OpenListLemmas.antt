@@ -16,7 +16,7 @@ use Rattle.oai_catalogue.specs.Store.{VersionLists, list_at, with_list}
 use Rattle.oai_catalogue.proofs.ListsLemmas.{list_at-with}
 use Rattle.oai_lists.proofs.Changes.{change-last, changed_twice, unchanged_lists}
 use Rattle.oai_lists.specs.HeldTable.{no_list_numbered}
-use Rattle.oai_lists.specs.OpenLists.{IsListTable, Table, are_numbered_lists, changed_one, given_too, has_list_number, is_open, list_number, list_numbered, open_numbered, open_ones, open_until, with_change, with_mark, with_opened as opening, without_ended}
+use Rattle.oai_lists.specs.OpenLists.{IsListTable, Table, are_numbered_lists, changed_one, given_too, has_list_number, is_open, list_number, list_numbered, open_numbered, open_ones, open_until, with_change, with_mark, with_opened as opening, with_reopened, without_ended}
 use Rattle.oai_lists.specs.declared.open_lists.Mark.{Mark}
 use Rattle.oai_lists.specs.declared.open_lists.OpenList.{OpenList}
 use Rattle.oai_settings.specs.Config.{RepositoryConfig}
@@ -25,8 +25,9 @@ use Rattle.oai_repo.specs.Fields.{AreInUse, KeepsOthers, TableAgrees, are_differ
 use Rattle.oai_holdings.specs.Kept.{AreKept}
 use Rattle.oai_repo.specs.Listing.{carried_on, carried_on_at, is_of_number, with_carried_on, with_new_list}
 use Rattle.oai_holdings.specs.Holdings.{NamedSet}
+use Rattle.oai_repo.specs.Saved.{with_begun}
 use Rattle.oai_repo.specs.State.{FrozenList, OpenLists, is_open_at, still_open}
-use Rattle.oai_repo.specs.Tables.{IsKeptTable, IsLeftOpen, dropped_at, has_end, is_of_known_format, kept_open, version_ended, without_version}
+use Rattle.oai_repo.specs.Tables.{IsKeptTable, IsLeftOpen, IsPutBack, dropped_at, has_end, is_of_known_format, kept_open, version_ended, without_version}
 use Rattle.oai_repo.proofs.EndLemmas.{left_same, open_here, open_later, open_same, rest_all, versions}
 use Rattle.oai_repo.proofs.NumberLemmas.{clash, in_use_end, kept_end, kept_same, same_number, turned, unused_lacks}
 
@@ -430,16 +431,31 @@ other_lists v table w items all stands free n there =
     (λ same. clash (has (v ∷ versions_in table) w) (or_right (eqb v w) (has (versions_in table) w) (subst (λ (m : ℕ). has (versions_in table) m ≡ true) (eqb-true n w same) there))
     (unused_lacks (v ∷ versions_in table) all w stands.used free)))
 
+-- the open ones, with that one behind them
+abbrev frozen_with : OpenList → List ItemState → FrozenList
+frozen_with list items = record { number = list.number; verb = list.verb; prefix = list.filter.prefix; items = selected list.filter items; end = list.end; given = list.given }
+
+frozen_end : (now : ℤ) (v : ℕ) (table : Table) (all : VersionLists) (list : OpenList) (items : List ItemState) → AreInUse (v ∷ versions_in table) all → all list.version ≡ None → is_open now list ≡ true
+    → map (frozen_in (with_list list.version items all)) (open_ones now (table.lists ++ list ∷ [])) ≡ map (frozen_in all) (open_ones now table.lists) ++ frozen_with list items ∷ []
+frozen_end now v table all list items stands free lasts =
+    let after : VersionLists = with_list list.version items all in
+    ap (map (frozen_in after)) (open_end now table.lists list lasts)
+    ∙ map-append (frozen_in after) (open_ones now table.lists) (list ∷ [])
+    ∙ ap (λ ls. ls ++ frozen_in after list ∷ []) (map_frozen all after (open_ones now table.lists) (λ n there. other_lists v table list.version items all stands free n (open_there now table.lists n there)))
+    ∙ ap (λ (xs : List ItemState). map (frozen_in all) (open_ones now table.lists) ++ frozen_with list xs ∷ []) (list_at-with list.version items all)
+
 pub open_lists_opened : (now : ℤ) (v : ℕ) (table : Table) (all : VersionLists) (list : OpenList) (items : List ItemState) → AreInUse (v ∷ versions_in table) all → all list.version ≡ None → is_open now list ≡ true
     → open_lists_of now (opening table list) (with_list list.version items all) ≡ with_new_list (record { number = list.number; verb = list.verb; prefix = list.filter.prefix; items = selected list.filter items; end = list.end; given = list.given }) (open_lists_of now table all)
 open_lists_opened now v table all list items stands free lasts =
-    let after : VersionLists = with_list list.version items all in
     let made : List FrozenList → OpenLists = λ lists. record { lists = lists; next = table.next + 1 } in
-    let frozen : List ItemState → FrozenList = λ xs. record { number = list.number; verb = list.verb; prefix = list.filter.prefix; items = selected list.filter xs; end = list.end; given = list.given } in
-    ap made (ap (map (frozen_in after)) (open_end now table.lists list lasts)
-    ∙ map-append (frozen_in after) (open_ones now table.lists) (list ∷ [])
-    ∙ ap (λ ls. ls ++ frozen_in after list ∷ []) (map_frozen all after (open_ones now table.lists) (λ n there. other_lists v table list.version items all stands free n (open_there now table.lists n there)))
-    ∙ ap (λ (xs : List ItemState). map (frozen_in all) (open_ones now table.lists) ++ frozen xs ∷ []) (list_at-with list.version items all))
+    ap made (frozen_end now v table all list items stands free lasts)
+
+-- so it is where it is put back, and the next number is as it was
+pub open_lists_reopened : (now : ℤ) (v : ℕ) (table : Table) (all : VersionLists) (list : OpenList) (items : List ItemState) → AreInUse (v ∷ versions_in table) all → all list.version ≡ None → is_open now list ≡ true
+    → open_lists_of now (with_reopened table list) (with_list list.version items all) ≡ with_begun (open_lists_of now table all) (record { number = list.number; verb = list.verb; prefix = list.filter.prefix; items = selected list.filter items; end = list.end; given = list.given })
+open_lists_reopened now v table all list items stands free lasts =
+    let made : List FrozenList → OpenLists = λ lists. record { lists = lists; next = table.next } in
+    ap made (frozen_end now v table all list items stands free lasts)
 
 -- the list that was opened last is there, and its mark is set
 pub numbered_last : (number : ℕ) (lists : List OpenList) (x : OpenList) → x.number ≡ number → IsSome (list_numbered number (lists ++ x ∷ []))
@@ -481,14 +497,19 @@ table_agrees_opened v table all list items stands free size place agrees = recor
   marked = opened_agrees by_mark v table all list items stands free agrees.marked place;
 }
 
-pub left_opened : (config : RepositoryConfig) (now : ℤ) (v : ℕ) (table : Table) (all : VersionLists) (list : OpenList) (items : List ItemState) → IsKeptTable config table → AreInUse (v ∷ versions_in table) all → all list.version ≡ None
-    → int_le list.end (pos 253_402_300_799) ≡ true → is_of_known_format config list ≡ true → list.number ≡ table.next → length (open_ones now table.lists) < table.limit
-    → IsLeftOpen config now v table all (opening table list) (with_list list.version items all)
-left_opened config now v table all list items kept stands free fits known numbered few =
+pub table_agrees_reopened : (v : ℕ) (table : Table) (all : VersionLists) (list : OpenList) (items : List ItemState) → AreInUse (v ∷ versions_in table) all → all list.version ≡ None
+    → list.size ≡ length (selected list.filter items) → is_place_in (selected list.filter items) list.mark ≡ true → TableAgrees table all → TableAgrees (with_reopened table list) (with_list list.version items all)
+table_agrees_reopened v table all list items stands free size place agrees =
+    let opened = table_agrees_opened v table all list items stands free size place agrees in
+    record { counted = opened.counted; marked = opened.marked }
+
+pub put_back : (config : RepositoryConfig) (v : ℕ) (table : Table) (all : VersionLists) (list : OpenList) (items : List ItemState) → IsKeptTable config table → AreInUse (v ∷ versions_in table) all → all list.version ≡ None
+    → int_le list.end (pos 253_402_300_799) ≡ true → is_of_known_format config list ≡ true
+    → IsPutBack config v table all (with_reopened table list) (with_list list.version items all)
+put_back config v table all list items kept stands free fits known =
     let after : VersionLists = with_list list.version items all in
-    let same : versions_in (opening table list) ≡ versions_in table ++ list.version ∷ [] = versions_end table.lists list in
+    let same : versions_in (with_reopened table list) ≡ versions_in table ++ list.version ∷ [] = versions_end table.lists list in
     record {
-      asked = inr (inr (list, numbered, few, refl));
       kept = record { limit = kept.limit; ends = all_end has_end table.lists list kept.ends fits; known = all_end (is_of_known_format config) table.lists list kept.known known };
       stands = subst (λ (ns : List ℕ). AreInUse (v ∷ ns) after) (sym same) (in_use_end (v ∷ versions_in table) list.version items all stands free);
       others = subst (λ (ns : List ℕ). KeepsOthers (v ∷ versions_in table) all (v ∷ ns) after) (sym same) (kept_end (v ∷ versions_in table) list.version items all free);
@@ -497,4 +518,20 @@ left_opened config now v table all list items kept stands free fits known number
           (turned list.version v (false_from_ne_true (eqb list.version v)
           (λ same. clash (has (v ∷ versions_in table) list.version) (or_left (eqb v list.version) (has (versions_in table) list.version) (eq-eqb v list.version (sym (eqb-true list.version v same))))
           (unused_lacks (v ∷ versions_in table) all list.version stands.used free)))));
+    }
+
+pub not_put_back : (config : RepositoryConfig) (v : ℕ) (table : Table) (all : VersionLists) → IsKeptTable config table → AreInUse (v ∷ versions_in table) all → IsPutBack config v table all table all
+not_put_back config v table all kept stands = record { kept = kept; stands = stands; others = kept_same (v ∷ versions_in table) all; items = refl }
+
+pub left_opened : (config : RepositoryConfig) (now : ℤ) (v : ℕ) (table : Table) (all : VersionLists) (list : OpenList) (items : List ItemState) → IsKeptTable config table → AreInUse (v ∷ versions_in table) all → all list.version ≡ None
+    → int_le list.end (pos 253_402_300_799) ≡ true → is_of_known_format config list ≡ true → list.number ≡ table.next → length (open_ones now table.lists) < table.limit
+    → IsLeftOpen config now v table all (opening table list) (with_list list.version items all)
+left_opened config now v table all list items kept stands free fits known numbered few =
+    let back = put_back config v table all list items kept stands free fits known in
+    record {
+      asked = inr (inr (list, numbered, few, refl));
+      kept = record { limit = back.kept.limit; ends = back.kept.ends; known = back.kept.known };
+      stands = back.stands;
+      others = back.others;
+      items = back.items;
     }

@@ -1,5 +1,5 @@
 -- Which responses are parts of lists, and what else is to be replayed.
-use Rattle.std.proofs.Common.{◌≡◌, ◌∙◌, ℕ, ℤ, ◌≤ℤ◌, true, false, Bool, List, [], ◌∷◌, Option, None, Some, is_some, refl, sym, ap}
+use Rattle.std.proofs.Common.{◌≡◌, ◌∙◌, ℕ, ℤ, true, false, Bool, List, [], ◌∷◌, Option, None, Some, is_some, refl, ap}
 use Rattle.std.specs.Prelude.{nat_lt}
 use Rattle.std.specs.Int.Signed.{≤ℤ_refl}
 use Rattle.oai_names.specs.declared.list_verbs.ListVerb.{ListVerb}
@@ -8,14 +8,12 @@ use Rattle.oai_item.specs.Formats.{format_named}
 use Rattle.oai_item.specs.Item.{ItemState, has_record}
 use Rattle.oai_item.specs.Items.{item_named}
 use Rattle.oai_item.specs.declared.formats.Format.{Format}
-use Rattle.oai_answers.specs.Answers.{Continuation, Page, completes, fails, gives_record, lists_formats, offered, remains}
-use Rattle.oai_answers.specs.declared.errors.ErrorCode.TheVariants.{CannotDisseminateFormat, NoMetadataFormats}
+use Rattle.oai_answers.specs.Answers.{Page}
 use Rattle.oai_answers.specs.declared.tokens.Extent.{Extent}
 use Rattle.oai_args.specs.Verbs.{is_of_records}
-use Rattle.oai_lists.specs.Tokens.{token_text}
 use Rattle.oai_settings.specs.Config.{RepositoryConfig}
 use Rattle.oai_repo.specs.Answers.{disseminated, formats_answer, item_formats_answer, record_answer, sets_answer}
-use Rattle.oai_repo.specs.Listing.{Response, answer_by_verb, complete_answer, continued_at, part_answer, part_from, with_answer}
+use Rattle.oai_repo.specs.Listing.{answer_by_verb, complete_answer, continued_at, part_answer, part_from, with_answer}
 use Rattle.oai_catalogue.specs.Store.{VersionLists}
 use Rattle.oai_catalogue.specs.declared.versions.Versions.{Ghosts}
 use Rattle.oai_lists.specs.OpenLists.{Table}

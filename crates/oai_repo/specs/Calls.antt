@@ -1,5 +1,5 @@
 -- What the calls of a repository return and leave, in the machine's words: this repository's own.
-use Rattle.std.specs.Prelude.{◌≡◌, ℕ, ℤ, Bool, true, false, List, None, Result, Ok, Err}
+use Rattle.std.specs.Prelude.{◌≡◌, ℕ, ℤ, Bool, true, false, List, None, Result, Ok, Err, OnOk}
 use Rattle.oai_item.specs.Refusals.{in_repository}
 use Rattle.oai_deposit.specs.declared.changes.Change.{Change}
 use Rattle.oai_item.specs.declared.faults.Fault.{Fault}
@@ -15,7 +15,7 @@ use Rattle.oai_holdings.specs.Index.{holdings_of}
 use Rattle.oai_repo.specs.Fields.{RepoFields, state_of}
 use Rattle.oai_repo.specs.Machine.{Output, act_at, accepted, bytes, changing, query, refused_with, step, wait}
 use Rattle.oai_repo.specs.State.{moved}
-use Rattle.oai_repo.specs.Tables.{HoldsFew, dropped_at}
+use Rattle.oai_repo.specs.Tables.{HoldsFew, IsAskedOf, dropped_at}
 use Rattle.oai_item.specs.declared.refusals.Refusal.{Refusal}
 use Rattle.oai_item.specs.declared.refusals.Refusal.TheVariants as refusal
 use Rattle.oai_repo.specs.declared.responses.Reply.{Reply}
@@ -71,6 +71,12 @@ IsClockAt (Err fault) moment old before new after = (new ≡ old) × (after ≡ 
 pub record DropsEnded (old new : RepoFields) : Type 0 where
   pub table : new.table ≡ dropped_at new.clock old.table
   pub few : HoldsFew old.table → HoldsFew new.table
+
+-- what a request leaves of the fields: the index is unchanged; and where it was answered, the table is one that it makes,
+-- without the first list that has ended
+pub record LeavesFields {A : Type 0} (result : Result A Fault) (old new : RepoFields) : Type 0 where
+  pub index : new.index ≡ old.index
+  pub table : OnOk result (IsAskedOf new.clock old.table new.table)
 
 -- a change was refused: the state is the one at the moment, the index is unchanged, and the first list that has ended
 -- is gone

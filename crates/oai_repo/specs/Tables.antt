@@ -96,6 +96,14 @@ pub record IsLeftOpen (config : RepositoryConfig) (now : ℤ) (v : ℕ) (old : T
   pub others : KeepsOthers (v ∷ versions_in old) before (v ∷ versions_in new) after
   pub items : list_at after v ≡ list_at before v
 
+-- what is left of the table and of the lists where an open list is put back: the table satisfies its invariant, the
+-- numbers are in use, nothing of others has changed, and the items are unchanged
+pub record IsPutBack (config : RepositoryConfig) (v : ℕ) (old : Table) (before : VersionLists) (new : Table) (after : VersionLists) : Type 0 where
+  pub kept : IsKeptTable config new
+  pub stands : AreInUse (v ∷ versions_in new) after
+  pub others : KeepsOthers (v ∷ versions_in old) before (v ∷ versions_in new) after
+  pub items : list_at after v ≡ list_at before v
+
 -- ---- the list that a token continues
 
 -- the list, if the token continues it by the verb

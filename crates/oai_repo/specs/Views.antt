@@ -1,5 +1,5 @@
 -- What a request sees of a repository, its precondition and its effect, and the reply: this repository's own.
-use Rattle.std.specs.Prelude.{◌≡◌, ◌+◌, ◌+ℤ◌, ◌<◌, ℕ, ℤ, pos, true, false, List, ◌∷◌, take, Option, None, Some, Result, Ok, Err, IsSome, IsTrue, OnErr}
+use Rattle.std.specs.Prelude.{◌≡◌, ◌+◌, ◌+ℤ◌, ◌<◌, ℕ, ℤ, pos, true, false, List, ◌∷◌, length, take, Option, None, Some, Result, Ok, Err, IsSome, IsTrue, OnErr}
 use Rattle.oai_names.specs.declared.list_verbs.ListVerb.{ListVerb}
 use Rattle.oai_names.specs.Sets.{HasSetsAbove, has_set}
 use Rattle.oai_item.specs.Formats.{format_named}
@@ -13,7 +13,7 @@ use Rattle.oai_answers.specs.Documents.{document}
 use Rattle.oai_catalogue.specs.Store.{VersionLists, list_at, with_list}
 use Rattle.oai_catalogue.specs.declared.versions.Versions.{Ghosts}
 use Rattle.oai_item.specs.declared.faults.Fault.{Fault}
-use Rattle.oai_lists.specs.OpenLists.{IsListTable, Table, next_list, open_fault, with_opened}
+use Rattle.oai_lists.specs.OpenLists.{IsListTable, Table, open_fault, opened_list, with_opened}
 use Rattle.oai_lists.specs.declared.open_lists.OpenList.{OpenList}
 use Rattle.oai_lists.specs.Tokens.{token_of}
 use Rattle.oai_args.specs.Asks.{AskOrError}
@@ -119,6 +119,18 @@ pub record IsOfFormat (config : RepositoryConfig) (selection : Selection) : Type
   pub known : IsSome (format_named selection.filter.prefix config.formats)
   pub lists : is_of_records selection.verb ≡ true
 
+-- the list of that many records of that selection, under that number and in that version: it ends its lifetime from now
+-- on, the cursor behind its first part was given, and it has no mark
+abbrev pub view_begun_list : RepoView → Selection → ℕ → ℕ → ℕ → OpenList
+view_begun_list repo selection number version size = opened_list number (record {
+  verb = selection.verb;
+  filter = selection.filter;
+  version = version;
+  size = size;
+  end = repo.clock +ℤ pos repo.config.now.lifetime;
+  given = repo.config.now.chunk;
+})
+
 -- a list of that many records of that selection has begun, after the others and without a mark: its version, which was
 -- not in use, is a snapshot of the items
 pub record HasListBegun {V : Type 0} (g : Ghosts V) (repo : RepoView) (selection : Selection) (size : ℕ) (old : Table) (before : V) (new : Table) (after : V) : Type 0 where
@@ -126,7 +138,7 @@ pub record HasListBegun {V : Type 0} (g : Ghosts V) (repo : RepoView) (selection
   pub unused : g.lists before version ≡ None
   pub frozen : g.lists after ≡ with_list version (list_at (g.lists before) repo.index.now.version) (g.lists before)
   pub room : open_fault old repo.clock ≡ None
-  pub opened : new ≡ with_opened old (next_list old selection.verb selection.filter version size (repo.clock +ℤ pos repo.config.now.lifetime) repo.config.now.chunk)
+  pub opened : new ≡ with_opened old (view_begun_list repo selection old.next version size)
   pub valid : IsListTable old
 
 -- a part of an open list may be answered, after that many of its records: there are more than that, the list is of a
@@ -153,6 +165,11 @@ IsFilter sets prefix from until set None = (name : List ℕ) × (set ≡ Some na
 -- the first of the selected items, one more than a part of a list may have
 abbrev pub first_items : RepoView → VersionLists → Filter → List ItemState
 first_items repo lists filter = take (repo.config.now.chunk + 1) (view_selected repo lists filter)
+
+-- the first items that the filter selects are known, over an honest store, and are more than a part of a list may have
+pub record IsBeyondPart {V : Type 0} (g : Ghosts V) (repo : RepoView) (filter : Filter) (first : List ItemState) (store : V) : Type 0 where
+  pub items : IsTrue (g.honest store) → first ≡ first_items repo (g.lists store) filter
+  pub more : repo.config.now.chunk < length first
 
 -- ---- the responses
 

@@ -10,7 +10,7 @@ ghost use Rattle.oai_deposit.specs.declared.changes.Change.TheVariants as change
 ghost use Rattle.oai_repo.specs.Machine.{Command, act_at, changing, requesting};
 ghost use Rattle.oai_repo.specs.Puts.{AreAlikeButForStamps};
 ghost use Rattle.oai_repo.specs.Saved.{ended, parts_of, with_parts};
-ghost use Rattle.oai_repo.specs.SavedLists.{AreBeginnings, Beginning, listed_parts, with_listed_parts};
+ghost use Rattle.oai_repo.specs.SavedLists.{AreBeginnings, Beginning, listed_parts};
 ghost use Rattle.oai_holdings.specs.Differences.{ItemDifference};
 ghost use Rattle.oai_holdings.specs.Holdings.{no_holdings};
 ghost use Rattle.oai_repo.specs.State.{RepoState, moved, state_at_clock};
@@ -52,7 +52,7 @@ pub fn listed_law()
     ensures { (state start : RepoState) (beginnings : List Beginning) (last : List ItemDifference)
         → start.holdings ≡ no_holdings
         → AreBeginnings [] beginnings last state.open_lists.lists state.holdings.items
-        → with_listed_parts start (listed_parts state beginnings last) ≡ state }
+        → with_parts start (listed_parts state beginnings last) ≡ state }
 {}
 
 /// A put that comes again, at whatever moment and whatever it was answered, is answered the same, and leaves the state

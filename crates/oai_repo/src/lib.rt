@@ -19,4 +19,4 @@ pub use oai_item::Refusal;
 pub use oai_settings::RepoConfig;
 pub use repo::Repo;
 pub use responses::{Replay, Replied, Reply};
-pub use saved_parts::SavedPart;
+pub use saved_parts::{SavedList, SavedPart};

@@ -16,7 +16,7 @@ ghost use Rattle.oai_repo.specs.Fields.{AreInUse, open_lists_of, versions_in};
 ghost use Rattle.oai_repo.specs.Listing as listing;
 ghost use Rattle.oai_repo.specs.Replays.{AreAsBefore};
 ghost use Rattle.oai_repo.specs.Tables.{dropped_at, has_end, version_ended, without_version};
-ghost use Rattle.oai_repo.specs.Views.{HasListBegun, IsFilter, IsOfFormat, IsReady, IsSelectionOrError, IsViewReply, LeavesTableAndLists, document_reply, first_items, view_list_response, view_new_list, view_open_lists, view_selected, view_selection_response, view_wait};
+ghost use Rattle.oai_repo.specs.Views.{HasListBegun, IsBeyondPart, IsFilter, IsOfFormat, IsReady, IsSelectionOrError, IsViewReply, LeavesTableAndLists, document_reply, first_items, view_list_response, view_new_list, view_open_lists, view_selected, view_selection_response, view_wait};
 
 use crate::parts::mark_behind;
 use crate::responses::{Replied, Reply, make_reply, reply_with_error};
@@ -26,7 +26,7 @@ use oai_answers::{Body, ErrorCode, Extent, Listed, Resumption};
 use oai_args::BoundText;
 use oai_catalogue::{Filter, Versions};
 use oai_item::{Fault, Format, Item};
-use oai_lists::{Lists, OpenListFault};
+use oai_lists::{Lists, NewList, OpenListFault};
 use oai_names::{ListVerb, Prefix, SetTree, Text};
 use oai_time::{FIRST_SECOND, LAST_SECOND, lower, upper};
 use std::alloc::{AllocError, Global};
@@ -205,9 +205,7 @@ fn open_list<V: Versions>(
 ) -> Result<Replied, Fault>
     requires ready { IsReady V.Versions repo.now lists.old store.old }
     requires selection { IsOfFormat repo.now.config.now selection.now }
-    requires first { IsTrue (V.honest store.old)
-        → first.now ≡ first_items repo.now (V.lists store.old) selection.now.filter }
-    requires more { repo.now.config.now.chunk < length first.now }
+    requires first { IsBeyondPart V.Versions repo.now selection.now.filter first.now store.old }
     ensures reply { IfOk result (λ replied. IsTrue (V.honest store.old)
         → IsViewReply repo.now
         (view_new_list repo.now lists.old (V.lists store.old) selection.now
@@ -237,9 +235,7 @@ fn start_list<V: Versions>(
 ) -> Result<Replied, Fault>
     requires ready { IsReady V.Versions repo.now lists.old store.old }
     requires selection { IsOfFormat repo.now.config.now selection.now }
-    requires first { IsTrue (V.honest store.old)
-        → first.now ≡ first_items repo.now (V.lists store.old) selection.now.filter }
-    requires more { repo.now.config.now.chunk < length first.now }
+    requires first { IsBeyondPart V.Versions repo.now selection.now.filter first.now store.old }
     requires next { number_or_fault (open_fault lists.old repo.now.clock) lists.old.next ≡ Ok number }
     ensures reply { IfOk result (λ replied. IsTrue (V.honest store.old)
         → IsViewReply repo.now
@@ -288,15 +284,15 @@ pub(crate) fn start_unread<V: Versions>(
     let end = repo.end();
     let filter = selection.filter.copy(repo.alloc)?;
     let frozen = store.freeze(repo.index.version())?;
-    match lists.open(
-        repo.clock,
-        selection.verb,
+    let list = NewList {
+        verb: selection.verb,
         filter,
-        frozen,
+        version: frozen,
         size,
         end,
-        repo.config.chunk(),
-    ) {
+        given: repo.config.chunk(),
+    };
+    match lists.open(repo.clock, list) {
         Ok(_) => Ok(()),
         Err(_) => {
             store.release(frozen);
@@ -314,9 +310,7 @@ fn count_beyond<V: Versions>(
     first: &[Item],
 ) -> Result<u64, Fault>
     requires stands { IsSome (V.lists store.old repo.now.index.now.version) }
-    requires first { IsTrue (V.honest store.old)
-        → first.now ≡ first_items repo.now (V.lists store.old) filter.now }
-    requires more { repo.now.config.now.chunk < length first.now }
+    requires first { IsBeyondPart V.Versions repo.now filter.now first.now store.old }
     ensures size { IfOk result (λ size. IsTrue (V.honest store.old)
         → size ≡ length (view_selected repo.now (V.lists store.old) filter.now)) }
     ensures beyond { IfOk result (λ size. repo.now.config.now.chunk < size) }

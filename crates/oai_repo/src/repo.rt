@@ -1,4 +1,4 @@
-ghost use Rattle.std.specs.Prelude.{◌≡◌, ◌≤◌, ◌≤ℤ◌, true, false, length, take, Err, IfOk, IsTrue, OnErr, OnOk};
+ghost use Rattle.std.specs.Prelude.{◌≡◌, ◌≤◌, ◌≤ℤ◌, true, false, length, slice_get, take, Err, IfOk, IsTrue, OnErr, OnOk};
 ghost use Rattle.std.specs.Option.{option_copied};
 ghost use Rattle.oai_args.specs.Pairs.{decoded_pairs};
 ghost use Rattle.oai_args.specs.Requests.{request_of};
@@ -7,30 +7,30 @@ ghost use Rattle.oai_catalogue.specs.Store.{Spares, Spends};
 ghost use Rattle.oai_item.specs.declared.faults.Fault.TheVariants as fault;
 ghost use Rattle.oai_settings.specs.Config.{is_in_years};
 ghost use Rattle.oai_holdings.specs.Calls.{OnRefused, fault_in, room_to_change};
-ghost use Rattle.oai_repo.specs.Calls.{DropsEnded, IsAccepted, IsAsked, IsChanged, IsClockAt, IsLeftByStep, IsRefusedAt, room_to_ask};
+ghost use Rattle.oai_repo.specs.Calls.{DropsEnded, IsAccepted, IsAsked, IsChanged, IsClockAt, IsLeftByStep, IsRefusedAt, LeavesFields, room_to_ask};
 ghost use Rattle.oai_holdings.specs.Index.{holdings_of, stored_items};
 ghost use Rattle.oai_repo.specs.Fields.{IsNew, Keeps, Owns, state_of};
 ghost use Rattle.oai_repo.specs.Replays.{IsReplay};
 ghost use Rattle.oai_holdings.specs.Saved.{IsDamagedOrShort, fault_of_store, items_behind};
 ghost use Rattle.oai_repo.specs.Saved.{is_restorable, is_with_element, part_state, with_part};
 ghost use Rattle.oai_repo.specs.State.{moved, state_at_clock};
-ghost use Rattle.oai_repo.specs.Tables.{IsAskedOf};
 
 use crate::lists::drop_first_ended;
 use crate::passes::pass_query;
 use crate::requests::reply_to_query;
 use crate::responses::Replied;
-use crate::restores::begin;
+use crate::restores::{begin, reopen};
 use crate::saved_parts::SavedPart;
 use crate::view::RepoView;
 use oai_answers::RequestAttributes;
 use oai_catalogue::Versions;
 use oai_deposit::Change;
 use oai_holdings::{
-    ChangeContext, ItemIndex, make_change, read_behind, restore_item, restore_set, told_stamp,
+    ChangeContext, ItemIndex, make_change, read_behind, restore_gone, restore_item, restore_set,
+    told_stamp,
 };
 use oai_item::{Fault, Item, Refusal};
-use oai_lists::Lists;
+use oai_lists::{Lists, OpenList};
 use oai_names::{Sequence, SetTree};
 use oai_settings::RepoConfig;
 use oai_time::{Clock, stamp};
@@ -123,8 +123,7 @@ impl Repo {
             (V.lists store.new) }
         ensures kept { holdings_of self.new.index self.new.sets (V.lists store.new)
             ≡ holdings_of self.old.index self.old.sets (V.lists store.old) }
-        ensures index { self.new.index ≡ self.old.index }
-        ensures table { OnOk result (IsAskedOf self.new.clock self.old.table self.new.table) }
+        ensures fields { LeavesFields result self.old self.new }
         ensures keeps { Keeps (V.honest store.old) self.old (V.lists store.old) self.new
             (V.lists store.new) }
         ensures store { Spends V.room V.failures V.honest (room_to_ask
@@ -165,8 +164,7 @@ impl Repo {
             (V.lists store.new) }
         ensures kept { holdings_of self.new.index self.new.sets (V.lists store.new)
             ≡ holdings_of self.old.index self.old.sets (V.lists store.old) }
-        ensures index { self.new.index ≡ self.old.index }
-        ensures table { OnOk result (IsAskedOf self.new.clock self.old.table self.new.table) }
+        ensures fields { LeavesFields result self.old self.new }
         ensures keeps { Keeps (V.honest store.old) self.old (V.lists store.old) self.new
             (V.lists store.new) }
         ensures store { Spends V.room V.failures V.honest (room_to_ask
@@ -248,9 +246,14 @@ impl Repo {
     /// Restores a part of a saved state, after those that were restored before. `Damaged` if it does not fit: the
     /// repository begins though a list is held, or with a clock that is not in the years 0001 to 9998; the set exists
     /// or has no parent, or there are 10,000; the item violates the repository's invariants, or there are as many items
-    /// as there may be; of an item with elements `NoMemory` may come in its place. Otherwise any fault may come,
-    /// `Damaged` only if the store returns other items than were put into it, and `TooManyPages` only if it may lack
-    /// room for one call. After a fault everything is unchanged.
+    /// as there may be; of an item with elements `NoMemory` may come in its place; there is no item of the identifier
+    /// that goes; the number of the list is not above those of the lists that are held, or not below the next one, the
+    /// repository lacks its format, or its end is not above the clock or is after the year 9999. Otherwise any fault may
+    /// come, `Damaged` only if the store returns other items than were put into it, and `TooManyPages` only if it may
+    /// lack room for one call. After a fault everything is unchanged.
+    ///
+    /// More lists may so be open than the configuration allows; until enough of them have ended, no list is opened. A
+    /// list costs what the store needs to count its records and to take a snapshot.
     pub fn restore<V: Versions>(&mut self, store: &mut V, part: &SavedPart<'_>) -> Result<(), Fault>
         requires { Owns (V.honest store.old) self.old (V.lists store.old) }
         ensures restored { OnOk result (IsTrue (V.honest store.old)
@@ -281,6 +284,18 @@ impl Repo {
             SavedPart::HasSet { spec, name } => restore_set(&mut self.sets, spec, name),
             SavedPart::HasItem { item } => {
                 restore_item(alloc, config, &self.sets, store, &mut self.index, item)
+            }
+            SavedPart::Goes { identifier } => restore_gone(store, &mut self.index, identifier),
+            SavedPart::HasList { list } => {
+                let view = RepoView {
+                    alloc,
+                    config,
+                    clock: self.clock.now(),
+                    index: &self.index,
+                    sets: &self.sets,
+                    asked: RequestAttributes::nothing(),
+                };
+                reopen(&view, &mut self.lists, store, list)
             }
         }
     }
@@ -370,6 +385,20 @@ impl Repo {
         ensures { result ≡ length self.now.index.entries }
     {
         self.index.len()
+    }
+
+    /// The list at that position among those that it holds, in the order of their numbers.
+    pub fn list_at(&self, at: usize) -> Option<&OpenList>
+        ensures { option_copied result ≡ slice_get self.now.table.lists at }
+    {
+        self.lists.get(at)
+    }
+
+    /// The number of the version of the store that has its items.
+    pub fn version(&self) -> u64
+        ensures { result ≡ self.now.index.version }
+    {
+        self.index.version()
     }
 
     /// How many lists it holds, including those that have ended and are not dropped yet.

@@ -1,14 +1,12 @@
 -- The list stands behind the others, and its version holds the items as they stand.
-use Rattle.std.proofs.Common.{◌≡◌, ◌∙◌, ◌+ℤ◌, pos, ℕ, List, ap, FitsSigned, w64, refl, sym, take}
+use Rattle.std.proofs.Common.{◌≡◌, ◌∙◌, ℕ, List, ap, FitsSigned, w64, refl, sym, take}
 use Rattle.std.proofs.lemmas.Int.{to_z-of_z}
 use Rattle.oai_item.specs.Item.{ItemState}
 use Rattle.oai_answers.specs.Answers.{Page}
 use Rattle.oai_catalogue.specs.Store.{list_at}
-use Rattle.oai_lists.specs.OpenLists.{Table, next_list, with_mark}
-use Rattle.oai_repo.specs.declared.lists.Selection.{Selection}
-use Rattle.oai_repo.specs.declared.view.RepoView.{RepoView}
+use Rattle.oai_lists.specs.OpenLists.{with_mark}
 use Rattle.oai_lists.specs.declared.open_lists.OpenList.{OpenList}
-use Rattle.oai_repo.specs.Views.{document_reply, view_open_lists, view_selected}
+use Rattle.oai_repo.specs.Views.{view_begun_list, document_reply, view_open_lists, view_selected}
 use Rattle.oai_repo.specs.Fields.{open_lists_of}
 use Rattle.oai_repo.specs.Listing.{answer_by_verb, items_from, new_list, with_new_list}
 use Rattle.oai_repo.specs.State.{FrozenList}
@@ -21,11 +19,6 @@ use Rattle.oai_repo.proofs.ReplayLemmas.{part_opened}
 use Rattle.oai_repo.proofs.WaitLemmas.{may_begin, room_for_one}
 use Rattle.oai_repo.proofs.lists.start_list.Goals as goal
 
--- the list that has begun, without its mark
-abbrev begun_list : RepoView → Table → Selection → ℕ → ℕ → OpenList
-begun_list repo table selection version size =
-    next_list table selection.verb selection.filter version size (repo.clock +ℤ pos repo.config.now.lifetime) repo.config.now.chunk
-
 pub set_mark-requires : goal.set_mark-requires
 set_mark-requires g c =
     let repo = c.args.repo.now in
@@ -34,7 +27,7 @@ set_mark-requires g c =
     let all = g.V.Versions.lists c.args.store.now in
     let begun = c.in_ok-start_unread.ensures.begun in
     let number = (may_begin repo.config.now repo.clock table all c.args.number c.requires.ready.kept.limit c.requires.next).1 in
-    rw begun.opened (numbered_last c.args.number table.lists (begun_list repo table c.args.selection.now begun.version c.in_ok-size.size) (sym number))
+    rw begun.opened (numbered_last c.args.number table.lists (view_begun_list repo c.args.selection.now table.next begun.version c.in_ok-size.size) (sym number))
 
 pub returns-clause-reply : goal.returns-clause-reply
 returns-clause-reply g c = λ honest.
@@ -53,8 +46,8 @@ returns-clause-reply g c = λ honest.
     let size = c.in_ok-size.ensures.size honest in
     let begun = c.in_ok-start_unread.ensures.begun in
     let mark = c.mark_behind-mark.result in
-    let entry : OpenList = begun_list repo table selection begun.version c.in_ok-size.size in
-    let part : take config.chunk c.args.first.now ≡ items_from config list 0 = part_first config.chunk chosen c.args.first.now (c.requires.first honest) in
+    let entry : OpenList = view_begun_list repo selection table.next begun.version c.in_ok-size.size in
+    let part : take config.chunk c.args.first.now ≡ items_from config list 0 = part_first config.chunk chosen c.args.first.now (c.requires.first.items honest) in
     let page = part_is config list (take config.chunk c.args.first.now) c.args.number c.in_ok-size.size 0 c.end.result number size c.end.ensures.end part in
     let told = simp to_z-of_z at (rw c.chunk.ensures.chunk at c.in_ok-reply.ensures) in
     let unused = rw c.count_beyond.ensures.reads.same at begun.unused in
@@ -83,7 +76,7 @@ returns-clause-left g c =
     let chosen : List ItemState = view_selected repo all selection.filter in
     let number = (may_begin config repo.clock table all c.args.number c.requires.ready.kept.limit c.requires.next).1 in
     let begun = c.in_ok-start_unread.ensures.begun in
-    let entry : OpenList = begun_list repo table selection begun.version c.in_ok-size.size in
+    let entry : OpenList = view_begun_list repo selection table.next begun.version c.in_ok-size.size in
     let unused = rw c.count_beyond.ensures.reads.same at begun.unused in
     let frozen = rw c.count_beyond.ensures.reads.same at begun.frozen in
     let last = rw c.end.ensures.end at c.end.ensures.last in
@@ -94,7 +87,7 @@ returns-clause-left g c =
       agrees = λ honest.
           rw (marked, frozen)
           (table_agrees_opened v table all (with_mark mark entry) (list_at all v) c.requires.ready.stands unused (c.in_ok-size.ensures.size honest)
-          (mark_first chosen c.args.first.now config.chunk mark (c.requires.first honest) c.requires.more behind) (c.requires.ready.agrees honest));
+          (mark_first chosen c.args.first.now config.chunk mark (c.requires.first.items honest) c.requires.first.more behind) (c.requires.ready.agrees honest));
       err = tt;
       err_lists = tt;
     }

@@ -5,7 +5,7 @@ use Rattle.oai_item.specs.Item.{ItemState}
 use Rattle.oai_item.specs.Selection.{selected}
 use Rattle.oai_catalogue.specs.Store.{list_at, without_list}
 use Rattle.oai_catalogue.proofs.ListsLemmas.{stands-with, without_with}
-use Rattle.oai_lists.specs.OpenLists.{next_list, with_opened}
+use Rattle.oai_lists.specs.OpenLists.{opened_list, with_opened}
 use Rattle.oai_lists.specs.declared.open_lists.OpenList.{OpenList}
 use Rattle.oai_repo.specs.Fields.{open_lists_of}
 use Rattle.oai_repo.specs.Listing.{new_list, with_new_list}
@@ -102,13 +102,14 @@ returns-in-Ok-clause-begun g c =
     let table = c.args.lists.now in
     let selection = c.args.selection.now in
     let opened = rw c.in_ok-filter.ensures at (simp to_z-of_z at c.in-Ok.ensures.opened) in
+    let made : ℤ → ℕ → OpenList = λ end given. opened_list table.next (record { verb = selection.verb; filter = selection.filter; version = c.in_ok-frozen.frozen; size = c.args.size; end = end; given = given }) in
     record {
       version = c.in_ok-frozen.frozen;
       unused = c.in_ok-frozen.ensures.unused;
       frozen = rw c.version.ensures at c.in_ok-frozen.ensures.ok;
       room = opened.0;
       opened = opened.2
-          ∙ ap (λ (end : ℤ). with_opened table (next_list table selection.verb selection.filter c.in_ok-frozen.frozen c.args.size end c.chunk.result)) c.end-end.ensures.end
-          ∙ ap (λ (chunk : ℕ). with_opened table (next_list table selection.verb selection.filter c.in_ok-frozen.frozen c.args.size (c.args.repo.now.clock +ℤ pos c.args.repo.now.config.now.lifetime) chunk)) c.chunk.ensures.chunk;
+          ∙ ap (λ (end : ℤ). with_opened table (made end c.chunk.result)) c.end-end.ensures.end
+          ∙ ap (λ (chunk : ℕ). with_opened table (made (c.args.repo.now.clock +ℤ pos c.args.repo.now.config.now.lifetime) chunk)) c.chunk.ensures.chunk;
       valid = c.in-Ok.ensures.valid;
     }

@@ -92,13 +92,16 @@ returns-clause-keeps g c =
           c.in_ok-replied.ensures.left.left.others c.move_to.ensures.keeps.others;
     })
 
-pub returns-clause-table : goal.returns-clause-table
-returns-clause-table g c =
+pub returns-clause-fields : goal.returns-clause-fields
+returns-clause-fields g c =
     let fits_now : FitsSigned w64 c.now-now.result = record { sfits = c.now-now.type_inv } in
     let asked = rw c.now-now.ensures at (simp to_z-of_z at c.in_ok-replied.ensures.left.left.asked) in
     let clock = ap (λ (s : RepoState). s.clock) c.move_to.ensures.moved in
     let dropped = rw clock at c.move_to.ensures.dropped.table in
-    rw (← c.self.view_is, clock) (record { made = c.reply_to_query.new.lists; asked = asked; dropped = dropped; few = few_asked c.tick.new.self c.self.inside.lists c.reply_to_query.new.lists c.move_to.new.self.table asked dropped })
+    rw (← c.self.view_is, clock) (record {
+      index = c.move_to.ensures.index;
+      table = record { made = c.reply_to_query.new.lists; asked = asked; dropped = dropped; few = few_asked c.tick.new.self c.self.inside.lists c.reply_to_query.new.lists c.move_to.new.self.table asked dropped };
+    })
 
 pub returns-clause-replay : goal.returns-clause-replay
 returns-clause-replay g c = λ honest.

@@ -1,5 +1,5 @@
 -- Each way out gives the case of the machine, over the fields that the repository is opened to, and leaves the lists of others.
-use Rattle.std.proofs.Common.{◌≡◌, ◌∙◌, ℕ, ℤ, is_some, ◌∷◌, Bool, ap, refl, rules, sym, subst, Ok, Err, FitsSigned, w64, IsTrue}
+use Rattle.std.proofs.Common.{◌≡◌, ◌∙◌, ℕ, ℤ, is_some, ◌∷◌, Bool, ap, refl, sym, subst, Ok, Err, FitsSigned, w64, IsTrue}
 use Rattle.std.specs.List.{list_all}
 use Rattle.std.proofs.lemmas.Bool.{and_parts}
 use Rattle.std.proofs.lemmas.Int.{to_z-of_z}

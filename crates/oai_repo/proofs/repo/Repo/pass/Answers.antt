@@ -79,10 +79,13 @@ returns-clause-keeps g c =
           c.in_ok-pass_query.ensures.left.left.others c.move_to.ensures.keeps.others;
     })
 
-pub returns-clause-table : goal.returns-clause-table
-returns-clause-table g c =
+pub returns-clause-fields : goal.returns-clause-fields
+returns-clause-fields g c =
     let fits_now : FitsSigned w64 c.now-moved.result = record { sfits = c.now-moved.type_inv } in
     let asked = rw c.now-moved.ensures at (simp to_z-of_z at c.in_ok-pass_query.ensures.left.left.asked) in
     let clock = ap (λ (s : RepoState). s.clock) c.move_to.ensures.moved in
     let dropped = rw clock at c.move_to.ensures.dropped.table in
-    rw (← c.self.view_is, clock) (record { made = c.pass_query.new.lists; asked = asked; dropped = dropped; few = few_asked c.tick.new.self c.self.inside.lists c.pass_query.new.lists c.move_to.new.self.table asked dropped })
+    rw (← c.self.view_is, clock) (record {
+      index = c.move_to.ensures.index;
+      table = record { made = c.pass_query.new.lists; asked = asked; dropped = dropped; few = few_asked c.tick.new.self c.self.inside.lists c.pass_query.new.lists c.move_to.new.self.table asked dropped };
+    })
