@@ -1,0 +1,4 @@
+pub mod PassingLemmas
+pub mod ReadingLemmas
+pub mod SnapshotLemmas
+pub mod TakingLemmas
