@@ -7,7 +7,7 @@ use Rattle.oai_http.specs.Exchanges.{call_at}
 use Rattle.oai_replay.specs.Parts.{PartState, restored_all}
 use Rattle.oai_http.specs.declared.exchanges.Call.{Call}
 use Rattle.oai_replay.specs.declared.parts.PartKind.{PartKind}
-use Rattle.oai_replay.specs.declared.parts.PartKind.TheVariants.{Begin, Item, Set}
+use Rattle.oai_replay.specs.declared.parts.PartKind.TheVariants.{Begin, Gone, Item, List as OpenList, Set}
 use Rattle.oai_journal.specs.Records.{Entry}
 use Rattle.oai_journal.specs.declared.journals.Journal as journal
 use Rattle.oai_durable.specs.Checkpoints.{AreIn, AreStages, HasPlaceBehind, HasSaved, HistoryEvent, HoldsCheckpoint, IsCheckpoint, IsHistory, JournalStage, Saving, after_all, after_event, answered_at, done, lists_ended, lived, raises_at, raises_by, records_of_parts, saved}
@@ -23,6 +23,8 @@ pub kind_part : (kind : PartKind) → part_kind (kind_of_part kind) ≡ Some kin
 kind_part Begin = refl
 kind_part Set = refl
 kind_part Item = refl
+kind_part OpenList = refl
+kind_part Gone = refl
 
 -- the record of a part leaves what the part leaves
 pub left_by_part : {K : Type 0} (leaving : Leaving K) (kept : K) (part : PartState) → left_by_entry leaving kept (entry_of_part part) ≡ leaving.restored kept part

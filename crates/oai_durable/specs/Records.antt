@@ -6,12 +6,12 @@ use Rattle.oai_http.specs.declared.exchanges.Call.{Call}
 use Rattle.oai_http.specs.declared.exchanges.Exchange.{Exchange}
 use Rattle.oai_replay.specs.declared.replays.Performed.{Performed}
 use Rattle.oai_replay.specs.declared.parts.PartKind.{PartKind}
-use Rattle.oai_replay.specs.declared.parts.PartKind.TheVariants.{Begin as Begins, Item as HasItem, Set as HasSet}
+use Rattle.oai_replay.specs.declared.parts.PartKind.TheVariants.{Begin as Begins, Gone as Goes, Item as HasItem, List as HasList, Set as HasSet}
 use Rattle.oai_http.specs.declared.targets.Endpoint.{Endpoint}
 use Rattle.oai_http.specs.declared.targets.Endpoint.TheVariants.{Deposits, Requests}
 use Rattle.oai_journal.specs.Records.{Entry}
 use Rattle.oai_journal.specs.declared.records.Kind.{Kind}
-use Rattle.oai_journal.specs.declared.records.Kind.TheVariants.{Begin, Deposit, Item, Oai, Set, Tick}
+use Rattle.oai_journal.specs.declared.records.Kind.TheVariants.{Begin, Deposit, Gone, Item, List as OpenList, Oai, Set, Tick}
 
 -- a deposit, or a request; one without arguments only moves the clock, and is a tick
 abbrev pub kind_of : Endpoint → List ℕ → Kind
@@ -51,6 +51,8 @@ abbrev pub kind_of_part : PartKind → Kind
 kind_of_part Begins = Begin
 kind_of_part HasSet = Set
 kind_of_part HasItem = Item
+kind_of_part HasList = OpenList
+kind_of_part Goes = Gone
 
 -- a part as a record
 abbrev pub entry_of_part : PartState → Entry
@@ -61,6 +63,8 @@ abbrev pub part_kind : Kind → Option PartKind
 part_kind Begin = Some Begins
 part_kind Set = Some HasSet
 part_kind Item = Some HasItem
+part_kind OpenList = Some HasList
+part_kind Gone = Some Goes
 part_kind other = None
 
 -- the part that the record holds

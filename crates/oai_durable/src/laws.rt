@@ -12,7 +12,7 @@ ghost use Rattle.oai_durable.specs.declared.recovery.RecoverFault.{RecoverFault}
 ghost use Rattle.oai_durable.specs.declared.recovery.RecoverFault.TheVariants as cause;
 ghost use Rattle.oai_front.specs.Runs.{Served};
 ghost use Rattle.oai_journal.specs.Changes.{IsChangedAt};
-ghost use Rattle.oai_journal.specs.Kept.{HoldsRecords};
+ghost use Rattle.oai_journal.specs.Kept.{HoldsRecords, disk_in};
 ghost use Rattle.oai_journal.specs.Records.{Entry};
 ghost use Rattle.oai_journal.specs.declared.file.FileJournal.{FileJournal};
 ghost use Rattle.oai_journal.specs.declared.recovery.RecoveryFault.TheVariants.{Damaged};
@@ -182,7 +182,7 @@ pub fn switch_law<H: Replayed, D: Disk, E: Disk>()
         → HoldsRecords E.Disk.seen E.Disk.may_leave new saved (length saved)
         → redone_all (record { redone = H.redone; restored = H.restored }) begun saved
         ≡ redone_all (record { redone = H.redone; restored = H.restored }) begun held
-        → FolderLeaves D.Disk.may_leave E.Disk.may_leave old.disk new.disk phase file
+        → FolderLeaves D.Disk.may_leave E.Disk.may_leave (disk_in old) (disk_in new) phase file
         → StandsForAll (record { redone = H.redone; restored = H.restored }) begun entries file }
 {}
 
@@ -193,7 +193,7 @@ pub fn switch_law<H: Replayed, D: Disk, E: Disk>()
 /// [`crash_law`](oai_journal::crash_law).
 pub fn recovery_law<D: Disk>()
     ensures { (journal : FileJournal D) (entries : List Entry) (durable : ℕ) (file : List ℕ) (fault : RecoverFault)
-        → HoldsRecords D.Disk.seen D.Disk.may_leave journal entries durable → D.Disk.may_leave journal.disk file
+        → HoldsRecords D.Disk.seen D.Disk.may_leave journal entries durable → D.Disk.may_leave (disk_in journal) file
         → ((at : ℕ) → IsChangedAt file at → ⊥)
         → TellsDamage file fault
         → (at : ℕ) → fault ≡ cause.Journal (Damaged at) → ⊥ }

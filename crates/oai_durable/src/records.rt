@@ -64,6 +64,8 @@ pub(crate) fn performed_in<'a>(entry: &LogRecord<'a>) -> Option<Performed<'a>>
         Kind::Begin => return None,
         Kind::Set => return None,
         Kind::Item => return None,
+        Kind::List => return None,
+        Kind::Gone => return None,
     };
     Some(Performed {
         endpoint,
@@ -80,6 +82,8 @@ pub(crate) fn record_of_part<'a>(part: &Part<'a>) -> LogRecord<'a>
         PartKind::Begin => Kind::Begin,
         PartKind::Set => Kind::Set,
         PartKind::Item => Kind::Item,
+        PartKind::List => Kind::List,
+        PartKind::Gone => Kind::Gone,
     };
     LogRecord {
         moment: part.moment,
@@ -99,6 +103,8 @@ pub(crate) fn part_in<'a>(entry: &LogRecord<'a>) -> Option<Part<'a>>
         Kind::Begin => PartKind::Begin,
         Kind::Set => PartKind::Set,
         Kind::Item => PartKind::Item,
+        Kind::List => PartKind::List,
+        Kind::Gone => PartKind::Gone,
         Kind::Journal => return None,
         Kind::Oai => return None,
         Kind::Deposit => return None,

@@ -6,7 +6,7 @@ use Rattle.oai_journal.specs.Heads.{CanBeSpelled}
 use Rattle.oai_journal.specs.Frames.{head_of}
 use Rattle.oai_journal.specs.Records.{Entry, IsFit, is_within, is_visible_ascii, most_bytes}
 use Rattle.oai_journal.specs.declared.records.Kind.{Kind}
-use Rattle.oai_journal.specs.declared.records.Kind.TheVariants.{Journal, Oai, Deposit, Tick, Begin, Set, Item}
+use Rattle.oai_journal.specs.declared.records.Kind.TheVariants.{Journal, Oai, Deposit, Tick, Begin, Set, Item, List as OpenList, Gone}
 use Rattle.oai_journal.specs.declared.records.TheConstants.{MAX_NAME, MAX_FIRST_BODY}
 
 pub record FitParts (kind : Kind) (name : List ℕ) (size : ℕ) : Type 0 where
@@ -29,6 +29,8 @@ most_is Tick = omega arith
 most_is Begin = omega arith
 most_is Set = omega arith
 most_is Item = omega arith
+most_is OpenList = omega arith
+most_is Gone = omega arith
 
 pub spellable : (e : Entry) → IsFit e → CanBeSpelled (head_of e)
 spellable e is =

@@ -15,7 +15,7 @@ use Rattle.oai_bytes.specs.Numbers.{moment_of, number_in}
 use Rattle.oai_journal.specs.Records.{is_visible_ascii, word_of}
 use Rattle.oai_journal.specs.declared.heads.TheConstants.{MAX_HEAD}
 use Rattle.oai_journal.specs.declared.records.Kind.{Kind}
-use Rattle.oai_journal.specs.declared.records.Kind.TheVariants.{Journal, Oai, Deposit, Tick, Begin, Set, Item}
+use Rattle.oai_journal.specs.declared.records.Kind.TheVariants.{Journal, Oai, Deposit, Tick, Begin, Set, Item, List as OpenList, Gone}
 use Rattle.oai_bytes.proofs.NumeralLemmas.{moment_avoids, moment_written, number_avoids, number_written}
 
 -- ---- what stands before a space, and after it
@@ -55,6 +55,8 @@ word_no_space kind = name_no_space (word_of kind) (seen kind)
     seen Begin = refl
     seen Set = refl
     seen Item = refl
+    seen OpenList = refl
+    seen Gone = refl
 
 kind_written : (kind : Kind) → kind_in (word_of kind) ≡ Some kind
 unfolding kind_in
@@ -65,6 +67,8 @@ kind_written Tick = refl
 kind_written Begin = refl
 kind_written Set = refl
 kind_written Item = refl
+kind_written OpenList = refl
+kind_written Gone = refl
 
 -- ---- a head
 
@@ -122,6 +126,8 @@ length_word Tick = lit≤ tt
 length_word Begin = lit≤ tt
 length_word Set = lit≤ tt
 length_word Item = lit≤ tt
+length_word OpenList = lit≤ tt
+length_word Gone = lit≤ tt
 
 length_moment : (m : ℤ) → FitsSigned w64 m → length (signed_decimal m) ≤ 20
 length_moment (pos n) fits = let below : n < 2 ^ 63 = fits.sfits in length_signed_le 19 (pos n) (omega (arith, below)) below

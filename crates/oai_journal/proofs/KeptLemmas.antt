@@ -7,7 +7,7 @@ use Rattle.std.proofs.lemmas.List.{append-nil, length-append, take-append-le, ta
 use Rattle.oai_journal.specs.Files.{IsJournalFile, IsFirstRecord, front}
 use Rattle.oai_journal.specs.Frames.{frame, next_digest}
 use Rattle.oai_journal.specs.Groups.{AreGrouped, EndsBeforeOrAfter, IsGroup, IsOnDisk, IsMadeDurable, digest_of_all, inside, kept_group}
-use Rattle.oai_journal.specs.Kept.{HoldsRecords, IsAtEnd, DiskLeavesAllOrNone, IsWaiting, KeepsRecords, LeavesAllOrNone, Survives}
+use Rattle.oai_journal.specs.Kept.{disk_in, HoldsRecords, IsAtEnd, DiskLeavesAllOrNone, IsWaiting, KeepsRecords, LeavesAllOrNone, Survives}
 use Rattle.oai_journal.specs.Records.{Entry, IsFit, is_first_kind}
 use Rattle.oai_journal.specs.declared.file.FileJournal.{FileJournal}
 use Rattle.sqlite_disk.specs.Disk.{Only}
@@ -24,7 +24,7 @@ kept_append d (x ∷ es) e =
     ap (λ (l : List ℕ). frame d x ++ 38 ∷ l) (kept_append next es e)
     ∙ sym (append_assoc (frame d x) (38 ∷ kept_group next es) (frame (digest_of_all next es) e ++ 38 ∷ []))
 
-digest_all_append : (d : ℕ) (es : List Entry) (e : Entry) → digest_of_all d (es ++ e ∷ []) ≡ next_digest (digest_of_all d es) e
+pub digest_all_append : (d : ℕ) (es : List Entry) (e : Entry) → digest_of_all d (es ++ e ∷ []) ≡ next_digest (digest_of_all d es) e
 digest_all_append d [] e = refl
 digest_all_append d (x ∷ es) e = digest_all_append (next_digest d x) es e
 
@@ -107,7 +107,7 @@ module _ {D : Type 0} (seen : D → List ℕ) (may_leave : D → List ℕ → Ty
 
   -- a journal that is stopped, of which a crash leaves no other records
   pub kept_stopped : (journal new : FileJournal D) (entries : List Entry) (durable : ℕ) → new.stopped ≡ true
-      → (held : HoldsRecords seen may_leave journal entries durable) → ((file : List ℕ) → may_leave new.disk file → Survives file held.0 entries durable)
+      → (held : HoldsRecords seen may_leave journal entries durable) → ((file : List ℕ) → may_leave (disk_in new) file → Survives file held.0 entries durable)
       → HoldsRecords seen may_leave new entries durable
   kept_stopped journal new entries durable stopped held survives =
       let k = held.1 in (
@@ -160,7 +160,7 @@ module _ {D : Type 0} (seen : D → List ℕ) (may_leave : D → List ℕ → Ty
         says = settled.says;
       }
 
-  pub settled_keeps : (journal : FileJournal D) (first : Entry) (entries : List Entry) → IsOnDisk seen may_leave journal.disk journal.end journal.digest first entries
+  pub settled_keeps : (journal : FileJournal D) (first : Entry) (entries : List Entry) → IsOnDisk seen may_leave (disk_in journal) journal.end journal.digest first entries
       → journal.pending.items ≡ [] → journal.last ≡ journal.digest → KeepsRecords seen may_leave journal first entries (length entries)
   settled_keeps journal first entries settled none same =
       record {
@@ -172,10 +172,10 @@ module _ {D : Type 0} (seen : D → List ℕ) (may_leave : D → List ℕ → Ty
         waits = λ going. record { is = none; last_is = same; are = tt };
         survives = λ file left.
             survives_at file first entries entries (length entries) (length entries) (take_all (length entries) entries (omega arith)) (omega arith) (omega arith)
-            (ends_settled journal.disk journal.end journal.digest first entries settled file left);
+            (ends_settled (disk_in journal) journal.end journal.digest first entries settled file left);
       }
 
-  pub settled_holds : (journal : FileJournal D) (first : Entry) (entries : List Entry) → IsOnDisk seen may_leave journal.disk journal.end journal.digest first entries
+  pub settled_holds : (journal : FileJournal D) (first : Entry) (entries : List Entry) → IsOnDisk seen may_leave (disk_in journal) journal.end journal.digest first entries
       → journal.pending.items ≡ [] → journal.last ≡ journal.digest → HoldsRecords seen may_leave journal entries (length entries)
   settled_holds journal first entries settled none same = (first, settled_keeps journal first entries settled none same)
 
@@ -205,14 +205,14 @@ module _ {D : Type 0} (seen : D → List ℕ) (may_leave : D → List ℕ → Ty
 
   -- once the group is on the disk
   pub kept_settled : (journal new : FileJournal D) (entries : List Entry) (durable : ℕ) (held : HoldsRecords seen may_leave journal entries durable)
-      → IsOnDisk seen may_leave new.disk new.end new.digest held.0 ((held.1).written ++ (held.1).later) → new.pending.items ≡ [] → new.last ≡ new.digest
+      → IsOnDisk seen may_leave (disk_in new) new.end new.digest held.0 ((held.1).written ++ (held.1).later) → new.pending.items ≡ [] → new.last ≡ new.digest
       → HoldsRecords seen may_leave new entries (length entries)
   kept_settled journal new entries durable held settled none same =
       subst (λ l. HoldsRecords seen may_leave new l (length l)) (sym (held.1).are) (settled_holds new held.0 ((held.1).written ++ (held.1).later) settled none same)
 
   -- ---- all of the group, or none
 
-  before_is : (journal : FileJournal D) (entries : List Entry) (durable : ℕ) (held : HoldsRecords seen may_leave journal entries durable) → (held.1).written ≡ take durable entries
+  pub before_is : (journal : FileJournal D) (entries : List Entry) (durable : ℕ) (held : HoldsRecords seen may_leave journal entries durable) → (held.1).written ≡ take durable entries
   before_is journal entries durable held =
       let k = held.1 in
       sym (ap (take durable) k.are ∙ take_at k.written k.later durable (sym k.count))
@@ -221,7 +221,7 @@ module _ {D : Type 0} (seen : D → List ℕ) (may_leave : D → List ℕ → Ty
       → LeavesAllOrNone may_leave journal entries durable
   leaves_before journal entries durable going held found left =
       let k = held.1 in
-      let ends = ends_settled journal.disk journal.end journal.digest held.0 k.written (k.settled going) left.file left.left in
+      let ends = ends_settled (disk_in journal) journal.end journal.digest held.0 k.written (k.settled going) left.file left.left in
       inl ((ends_same left.file left.first held.0 found k.written left.ends ends).are ∙ before_is journal entries durable held)
 
   pub leaves_group : (journal : FileJournal D) (new : D) (entries : List Entry) (durable : ℕ) (held : HoldsRecords seen may_leave journal entries durable)

@@ -9,3 +9,4 @@ pub mod HeadLemmas
 pub mod KeptLemmas
 pub mod ReadingLemmas
 pub mod RecoveryLemmas
+pub mod TailLemmas

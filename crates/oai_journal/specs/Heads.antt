@@ -1,5 +1,5 @@
 -- The head of a frame, up to its digest: `<moment> <kind> <name> <length> `. This repository's own.
-use Rattle.std.specs.Prelude.{◌≡◌, ℕ, ◌==◌, ℤ, Bool, true, List, ◌++◌, length, codes, decimal, Option, Some, None, if◌then◌else◌, FitsSigned, ◌<◌, ◌≤◌, ◌^◌}
+use Rattle.std.specs.Prelude.{◌≡◌, ℕ, ℤ, Bool, true, List, ◌++◌, length, codes, decimal, Option, Some, None, if◌then◌else◌, FitsSigned, ◌<◌, ◌≤◌, ◌^◌}
 use Rattle.std.specs.Fmt.{signed_decimal}
 use Rattle.std.specs.Int.{w64}
 use Rattle.std.specs.List.{list_all}
@@ -9,7 +9,7 @@ use Rattle.oai_bytes.specs.Parts.{part, rest}
 use Rattle.oai_journal.specs.Records.{word_of, is_visible_ascii}
 use Rattle.oai_journal.specs.declared.heads.RecordHead.{RecordHead}
 use Rattle.oai_journal.specs.declared.records.Kind.{Kind}
-use Rattle.oai_journal.specs.declared.records.Kind.TheVariants.{Journal, Oai, Deposit, Tick, Begin, Set, Item}
+use Rattle.oai_journal.specs.declared.records.Kind.TheVariants.{Journal, Oai, Deposit, Tick, Begin, Set, Item, List as OpenList, Gone}
 use Rattle.oai_journal.specs.declared.records.TheConstants.{MAX_NAME}
 
 -- bytes as they are; named so that the search does not spell them out
@@ -50,7 +50,9 @@ kind_in word =
     (if bytes_eq word (codes "journal") then Some Journal else
     (if bytes_eq word (codes "begin") then Some Begin else
     (if bytes_eq word (codes "set") then Some Set else
-    (if bytes_eq word (codes "item") then Some Item else None))))))
+    (if bytes_eq word (codes "item") then Some Item else
+    (if bytes_eq word (codes "list") then Some OpenList else
+    (if bytes_eq word (codes "gone") then Some Gone else None))))))))
 
 infixl 10 ◌>>=◌
 abbrev pub ◌>>=◌ : {A B : Type 0} → Option A → (A → Option B) → Option B

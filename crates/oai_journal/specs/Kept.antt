@@ -9,6 +9,10 @@ use Rattle.oai_journal.specs.Records.{Entry}
 use Rattle.oai_journal.specs.declared.file.FileJournal.{FileJournal}
 use Rattle.oai_journal.specs.declared.frames.TheConstants.{FRAME_ROOM}
 
+-- the disk of a journal
+abbrev pub disk_in : {D : Type 0} → FileJournal D → D
+disk_in journal = journal.reader.disk
+
 -- the records wait in memory, their frames one after the other
 pub record IsWaiting (bytes : List ℕ) (digest last : ℕ) (later : List Entry) : Type 0 where
   pub is : bytes ≡ kept_group digest later
@@ -29,16 +33,16 @@ pub record KeepsRecords {D : Type 0} (seen : D → List ℕ) (may_leave : D → 
   pub later : List Entry
   pub are : entries ≡ written ++ later
   pub count : durable ≡ length written
-  pub settled : journal.stopped ≡ false → IsOnDisk seen may_leave journal.disk journal.end journal.digest first written
+  pub settled : journal.stopped ≡ false → IsOnDisk seen may_leave (disk_in journal) journal.end journal.digest first written
   pub waits : journal.stopped ≡ false → IsWaiting journal.pending.items journal.digest journal.last later
-  pub survives : (file : List ℕ) → may_leave journal.disk file → Survives file first entries durable
+  pub survives : (file : List ℕ) → may_leave (disk_in journal) file → Survives file first entries durable
 
 abbrev pub HoldsRecords : {D : Type 0} → (D → List ℕ) → (D → List ℕ → Type 0) → FileJournal D → List Entry → ℕ → Type 0
 HoldsRecords seen may_leave journal entries durable = (first : Entry) × KeepsRecords seen may_leave journal first entries durable
 
 -- nothing waits, and the disk has not failed
 pub record IsAtEnd {D : Type 0} (journal : FileJournal D) (disk : D) (end digest : ℕ) : Type 0 where
-  pub disk_is : journal.disk ≡ disk
+  pub disk_is : disk_in journal ≡ disk
   pub end_is : journal.end ≡ end
   pub digest_is : journal.digest ≡ digest
   pub none : journal.pending.items ≡ []
@@ -65,7 +69,7 @@ DiskLeavesAllOrNone may_leave disk entries durable =
     (found : List Entry) → MayLeaveRecords may_leave disk found → (found ≡ take durable entries) ⊎ (found ≡ entries)
 
 abbrev pub LeavesAllOrNone : {D : Type 0} → (D → List ℕ → Type 0) → FileJournal D → List Entry → ℕ → Type 0
-LeavesAllOrNone may_leave journal entries durable = DiskLeavesAllOrNone may_leave journal.disk entries durable
+LeavesAllOrNone may_leave journal entries durable = DiskLeavesAllOrNone may_leave (disk_in journal) entries durable
 
 abbrev pub HasRoom : Vec ℕ Global → ℕ → Type 0
 HasRoom pending bytes = vec_len pending + bytes + FRAME_ROOM ≤ vec_capacity pending
@@ -77,14 +81,14 @@ room_for_less pending bytes less low room =
 
 -- what a crash leaves is a prefix
 pub journal_left : {D : Type 0} (seen : D → List ℕ) (may_leave : D → List ℕ → Type 0) (journal : FileJournal D) (entries : List Entry) (durable : ℕ) (found : List Entry)
-    → HoldsRecords seen may_leave journal entries durable → MayLeaveRecords may_leave journal.disk found → IsLeft durable entries found
+    → HoldsRecords seen may_leave journal entries durable → MayLeaveRecords may_leave (disk_in journal) found → IsLeft durable entries found
 journal_left seen may_leave journal entries durable found held left =
     let survives = (held.1).survives left.file left.left in
     record { count = survives.count; enough = survives.enough; is = survives.only left.first found left.ends }
 
 -- and it leaves one
 pub journal_stays : {D : Type 0} (seen : D → List ℕ) (may_leave : D → List ℕ → Type 0) → ((disk : D) → may_leave disk (seen disk)) → (journal : FileJournal D) (entries : List Entry) (durable : ℕ)
-    → HoldsRecords seen may_leave journal entries durable → (found : List Entry) × MayLeaveRecords may_leave journal.disk found
+    → HoldsRecords seen may_leave journal entries durable → (found : List Entry) × MayLeaveRecords may_leave (disk_in journal) found
 journal_stays seen may_leave stays journal entries durable held =
-    let survives = (held.1).survives (seen journal.disk) (stays journal.disk) in
-    (take survives.count entries, record { file = seen journal.disk; left = stays journal.disk; first = held.0; ends = survives.ends })
+    let survives = (held.1).survives (seen (disk_in journal)) (stays (disk_in journal)) in
+    (take survives.count entries, record { file = seen (disk_in journal); left = stays (disk_in journal); first = held.0; ends = survives.ends })

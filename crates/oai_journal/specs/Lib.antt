@@ -1,5 +1,6 @@
 pub mod Blocks
 pub mod Changes
+pub mod Copies
 pub mod Files
 pub mod Frames
 pub mod Groups
@@ -9,3 +10,4 @@ pub mod Kept
 pub mod Records
 pub mod Recovered
 pub mod Recoveries
+pub mod Tails

@@ -3,7 +3,7 @@ use Rattle.std.specs.Prelude.{ℕ, ℤ, Bool, true, false, ◌&&◌, nat_le, Lis
 use Rattle.std.specs.Int.{w64}
 use Rattle.std.specs.List.{list_all}
 use Rattle.oai_journal.specs.declared.records.Kind.{Kind}
-use Rattle.oai_journal.specs.declared.records.Kind.TheVariants.{Journal, Oai, Deposit, Tick, Begin, Set, Item}
+use Rattle.oai_journal.specs.declared.records.Kind.TheVariants.{Journal, Oai, Deposit, Tick, Begin, Set, Item, List as OpenList, Gone}
 use Rattle.oai_journal.specs.declared.records.LogRecord.{LogRecord}
 use Rattle.oai_journal.specs.declared.records.TheConstants.{MAX_BODY, MAX_FIRST_BODY, MAX_NAME}
 
@@ -26,6 +26,8 @@ word_of Tick = codes "tick"
 word_of Begin = codes "begin"
 word_of Set = codes "set"
 word_of Item = codes "item"
+word_of OpenList = codes "list"
+word_of Gone = codes "gone"
 
 -- the maximum length of a record of each kind
 abbrev pub most_bytes : Kind → ℕ

@@ -14,7 +14,7 @@ const BLOCK_BYTES: usize = 1_048_576;
 /// A disk, and the block that was read from it last.
 #[derive(Drop)]
 pub(crate) struct BlockReader<D: Disk> {
-    disk: D,
+    pub(crate) disk: D,
     /// The position of the block.
     start: usize,
     /// Its bytes; none before the first is read.
@@ -40,6 +40,32 @@ impl<D: Disk + Drop> BlockReader<D> {
         self.disk
     }
 
+    /// The length of the file in bytes; it is not synced. The error: Failed if the disk fails, or has failed.
+    pub(crate) fn file_len(&mut self) -> Result<usize, JournalFault>
+        ensures len { IfOk result (λ len. IsTrue (D.Disk.is_clean self.new.disk) → len ≡ length (D.Disk.seen self.old.disk)) }
+        ensures block { IsBlock D.Disk.seen self.old → IsBlock D.Disk.seen self.new }
+        ensures seen { D.Disk.seen self.new.disk ≡ D.Disk.seen self.old.disk }
+        ensures crash { (c : List ℕ) → D.Disk.may_leave self.new.disk c → D.Disk.may_leave self.old.disk c }
+        ensures clean { IsTrue (D.Disk.is_clean self.new.disk) → IsTrue (D.Disk.is_clean self.old.disk) }
+    {
+        if !self.disk.may_be_used() {
+            return Err(JournalFault::Failed);
+        }
+        match self.disk.len() {
+            Ok(len) => Ok(len),
+            Err(_) => Err(JournalFault::Failed),
+        }
+    }
+
+    /// Forgets the block, since the file was written.
+    pub(crate) fn forget(&mut self)
+        ensures block { IsBlock D.Disk.seen self.new }
+        ensures disk { self.new.disk ≡ self.old.disk }
+    {
+        self.start = 0;
+        self.block.clear();
+    }
+
     /// Syncs the file; returns its length in bytes. What was read before is forgotten.
     pub(crate) fn open_len(&mut self) -> Result<usize, JournalFault>
         ensures len { IfOk result (λ len. IsTrue (D.Disk.is_clean self.new.disk) → len ≡ length (D.Disk.seen self.old.disk)) }
@@ -48,8 +74,7 @@ impl<D: Disk + Drop> BlockReader<D> {
         ensures crash { (c : List ℕ) → D.Disk.may_leave self.new.disk c → D.Disk.may_leave self.old.disk c }
         ensures seen { D.Disk.seen self.new.disk ≡ D.Disk.seen self.old.disk }
     {
-        self.start = 0;
-        self.block.clear();
+        self.forget();
         open_len(&mut self.disk)
     }
 

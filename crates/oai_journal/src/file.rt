@@ -3,12 +3,14 @@ ghost use Rattle.std.specs.Prelude.{◌≡◌, ◌<◌, ◌≤◌, ◌+◌, ◌+
 ghost use Rattle.oai_journal.specs.Frames.{frame, next_digest};
 ghost use Rattle.oai_journal.specs.Records.{Entry, as_entry, is_first_kind, is_fit};
 
+use crate::blocks::BlockReader;
 use crate::frames::{FRAME_ROOM, write_frame};
 use crate::groups::{write_group, write_synced};
 use crate::heads::put;
 use crate::journals::{Journal, JournalFault};
 use crate::readings::open_len;
 use crate::records::LogRecord;
+use crate::tails::Tail;
 use sqlite_disk::Disk;
 use std::alloc::{AllocError, Global};
 
@@ -20,7 +22,8 @@ use std::alloc::{AllocError, Global};
 /// what follows is not committed.
 #[derive(Drop)]
 pub struct FileJournal<D: Disk> {
-    disk: D,
+    /// The disk, and the block of it that a tail has read.
+    reader: BlockReader<D>,
     /// The position of the unset commit byte that ends the journal.
     end: usize,
     /// The digest of the last frame on the disk.
@@ -34,12 +37,17 @@ pub struct FileJournal<D: Disk> {
 }
 
 impl<D: Disk + Drop> Journal for FileJournal<D> {
-    ghost use Rattle.oai_journal.specs.Kept.{HasRoom, HoldsRecords, HasNotStopped, LeavesAllOrNone, MayLeaveRecords};
+    ghost use Rattle.oai_journal.specs.Kept.{HasRoom, HoldsRecords, HasNotStopped, LeavesAllOrNone, MayLeaveRecords, disk_in};
+    ghost use Rattle.oai_journal.specs.Tails.{StandsBehind};
     ghost use Rattle.oai_journal.specs.Kept.{journal_left, journal_stays, room_for_less};
 
     ghost holds = { λ journal entries durable. HoldsRecords D.Disk.seen D.Disk.may_leave journal entries durable };
 
-    ghost may_leave = { λ journal found. MayLeaveRecords D.Disk.may_leave journal.disk found };
+    ghost may_leave = { λ journal found. MayLeaveRecords D.Disk.may_leave (disk_in journal) found };
+
+    ghost stands = { λ journal tail read. StandsBehind D.Disk.seen D.Disk.is_clean journal tail read };
+
+    ghost is_clean = { λ journal. D.Disk.is_clean (disk_in journal) };
 
     ghost has_room = { λ journal bytes. HasRoom journal.pending bytes };
 
@@ -75,6 +83,10 @@ impl<D: Disk + Drop> Journal for FileJournal<D> {
         ensures group { HasNotStopped self.old → (entries : List Entry) (durable : ℕ)
             → HoldsRecords D.Disk.seen D.Disk.may_leave self.old entries durable
             → LeavesAllOrNone D.Disk.may_leave self.new entries durable }
+        ensures tails { OnOk result ((entries : List Entry) (durable : ℕ)
+            → HoldsRecords D.Disk.seen D.Disk.may_leave self.old entries durable
+            → (tail : Tail) (read : List Entry) → StandsBehind D.Disk.seen D.Disk.is_clean self.old tail read
+            → StandsBehind D.Disk.seen D.Disk.is_clean self.new tail read) }
     {
         if self.stopped {
             return Err(JournalFault::Failed);
@@ -87,12 +99,38 @@ impl<D: Disk + Drop> Journal for FileJournal<D> {
             return Err(JournalFault::NoRoom);
         };
         close_group(&mut self.pending);
-        write_group(&mut self.disk, self.end, &self.pending)?;
+        write_group(&mut self.reader.disk, self.end, &self.pending)?;
+        self.reader.forget();
         self.pending.clear();
         self.end = end;
         self.digest = self.last;
         self.stopped = false;
         Ok(())
+    }
+
+    fn tail(&mut self, alloc: Global) -> Result<Tail, JournalFault> {
+        if self.stopped {
+            return Err(JournalFault::Failed);
+        }
+        self.reader.forget();
+        Ok(Tail::at(alloc, self.end, self.digest))
+    }
+
+    fn read_next(&mut self, tail: &mut Tail) -> Result<bool, JournalFault> {
+        if self.stopped {
+            return Err(JournalFault::Failed);
+        }
+        if tail.is_at_end(self.end) {
+            return Ok(false);
+        }
+        let len = self.reader.file_len()?;
+        match tail.advance(&mut self.reader, len) {
+            Ok(()) => Ok(true),
+            Err(fault) => {
+                self.reader.forget();
+                Err(fault)
+            }
+        }
     }
 }
 
@@ -121,9 +159,9 @@ impl<D: Disk + Drop> FileJournal<D> {
 
     /// The journal's disk; records that wait are dropped.
     pub fn into_disk(self) -> D
-        ensures { result ≡ self.disk }
+        ensures { result ≡ self.reader.disk }
     {
-        self.disk
+        self.reader.into_disk()
     }
 
     /// The length in bytes of what counts of the file, once all records are durable.
@@ -136,7 +174,7 @@ impl<D: Disk + Drop> FileJournal<D> {
         ensures { IsAtEnd result disk end digest }
     {
         FileJournal {
-            disk,
+            reader: BlockReader::new(alloc, disk),
             end,
             digest,
             pending: Vec::new(alloc),

@@ -96,5 +96,11 @@ fn read_kind(word: &[u8]) -> Option<Kind>
     if word == b"item".as_slice() {
         return Some(Kind::Item);
     }
+    if word == b"list".as_slice() {
+        return Some(Kind::List);
+    }
+    if word == b"gone".as_slice() {
+        return Some(Kind::Gone);
+    }
     None
 }

@@ -27,6 +27,6 @@ pub fn damage_law()
 /// proved by an empty function.
 pub fn crash_law<D: Disk>()
     ensures { (journal : FileJournal D) (entries : List Entry) (durable : ℕ) (file : List ℕ) (at : ℕ)
-        → HoldsRecords D.Disk.seen D.Disk.may_leave journal entries durable → D.Disk.may_leave journal.disk file
+        → HoldsRecords D.Disk.seen D.Disk.may_leave journal entries durable → D.Disk.may_leave journal.reader.disk file
         → IsDamagedAt file at → ⊥ }
 {}

@@ -4,6 +4,7 @@
 
 mod blocks;
 mod changes;
+mod copies;
 mod file;
 mod frames;
 mod groups;
@@ -13,9 +14,12 @@ mod laws;
 mod readings;
 mod records;
 mod recovery;
+mod tails;
 
+pub use copies::copy_some;
 pub use file::FileJournal;
 pub use journals::{Journal, JournalFault};
 pub use laws::{crash_law, damage_law, one_journal_law};
 pub use records::{Kind, LogRecord, MAX_BODY, MAX_FIRST_BODY, MAX_NAME};
 pub use recovery::{Recovery, RecoveryFault};
+pub use tails::Tail;

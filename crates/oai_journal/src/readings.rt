@@ -90,8 +90,7 @@ fn read_len<D: Disk + Drop>(
     ensures found { IfOk result (λ found. IsTrue (D.Disk.is_clean reader.new.disk) → IsBlock D.Disk.seen reader.old
         → len ≡ length (D.Disk.seen reader.old.disk)
         → IsLenAt (drop at (D.Disk.seen reader.old.disk)) found) }
-    ensures some { IfOk result (λ found. IfSome found (λ size. 0 < size)) }
-    ensures within { IfOk result (λ found. IfSome found (λ size. at + size ≤ len)) }
+    ensures within { IfOk result (λ found. IfSome found (λ size. (0 < size) × (at + size ≤ len))) }
     ensures room { vec_capacity out.old ≤ vec_capacity out.new }
     ensures block { OnOk result (IsTrue (D.Disk.is_clean reader.new.disk) → IsBlock D.Disk.seen reader.old
         → IsBlock D.Disk.seen reader.new) }

@@ -26,8 +26,12 @@ pub enum Kind {
     Begin,
     /// A set of a checkpoint: its setSpec, a space, its name.
     Set,
-    /// An item of a checkpoint.
+    /// An item of a checkpoint: it is there, in place of one with its identifier.
     Item,
+    /// An open list of a checkpoint.
+    List,
+    /// An identifier of a checkpoint: its item is there no longer.
+    Gone,
 }
 
 /// A log record.
@@ -56,6 +60,8 @@ impl Kind {
             Kind::Begin => "begin",
             Kind::Set => "set",
             Kind::Item => "item",
+            Kind::List => "list",
+            Kind::Gone => "gone",
         }
     }
 

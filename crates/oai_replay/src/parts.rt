@@ -11,11 +11,19 @@ pub enum PartKind {
     Begin,
     /// A set: its setSpec, a space, its name.
     Set,
-    /// An item, encoded as a store does.
+    /// An item, encoded as a store does. It is there from here on, in place of one with its identifier.
     Item,
+    /// An open list, whose items are those that it selects of the items that are there at this part: its number, the
+    /// verb of its request, its end, the highest cursor handed out, the metadataPrefix, and the first and the last
+    /// datestamp, with one space between; where the request names a set, a space and its setSpec behind them. Moments
+    /// and datestamps are in seconds from 1970 on.
+    List,
+    /// The identifier of an item that is there no longer.
+    Gone,
 }
 
-/// A part of a handler's state. The parts in their order make up the whole state, except for the open lists.
+/// A part of a handler's state. The parts in their order make up the whole state. `Replayed::save` passes no open lists:
+/// it ends them; those that come as parts are restored.
 #[derive(Clone, Copy, Debug)]
 pub struct Part<'a> {
     /// Its kind.

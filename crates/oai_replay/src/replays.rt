@@ -73,7 +73,7 @@ pub trait Replayed: Handler {
     /// The state after a part was restored, after those before it.
     ghost restored: { Kept → PartState → Kept };
 
-    /// The parts of the state, in the order in which they can be restored; open lists have none.
+    /// The parts of the state, in the order in which they can be restored, once its lists have ended.
     ghost parts: { Kept → List PartState };
 
     /// The state with all lists ended, and with the number of each next list raised by that much.

@@ -251,6 +251,8 @@ in_memory = record {
   holds = λ journal entries durable. (journal.entries ≡ entries) × (journal.durable ≡ durable);
   may_leave = λ journal found. IsLeft journal.durable journal.entries found;
   has_room = λ journal bytes. Unit {0};
+  stands = λ journal tail read. Unit {0};
+  is_clean = λ journal. true;
 }
 
 -- ---- clients

@@ -8,7 +8,7 @@ ghost use Rattle.oai_headline.specs.Visits.{Visit};
 ghost use Rattle.oai_host.specs.Hosts.{HostState, begun, store_of};
 ghost use Rattle.oai_laws.specs.Harvests.{Harvest};
 ghost use Rattle.oai_durable.specs.Records.{redone_all};
-ghost use Rattle.oai_journal.specs.Kept.{MayLeaveRecords};
+ghost use Rattle.oai_journal.specs.Kept.{MayLeaveRecords, disk_in};
 ghost use Rattle.oai_journal.specs.Records.{Entry};
 ghost use Rattle.oai_journal.specs.declared.file.FileJournal.{FileJournal};
 ghost use Rattle.sqlite_disk.specs.Fuse.{inner_of};
@@ -77,7 +77,7 @@ pub fn service_on_files_law<S: Stream, P: PageDevice, D: Disk + Drop>()
 /// empty.
 pub fn killed_law<S: Stream, D: Disk + Drop>()
     ensures left { (journal : FileJournal (Fuse D)) (found : List Entry)
-        → MayLeaveRecords D.may_leave (inner_of journal.disk) found
+        → MayLeaveRecords D.may_leave (inner_of (disk_in journal)) found
         → ⟦<FileJournal<Fuse<D>> as Journal>⟧.may_leave journal found }
     ensures served { (config : HostConfig) (eras : List (ServerEra S HostState (FileJournal (Fuse D))))
         → HaveRules config

@@ -5,8 +5,8 @@ use Rattle.oai_journal.specs.Records.{Entry, IsFit, as_entry}
 use Rattle.oai_journal.proofs.KeptLemmas.{kept_append_one}
 use Rattle.oai_journal.proofs.file.FileJournalJournal.append.Goals as goal
 
-pub returns : goal.returns
-returns g c entries durable held =
+pub returns-clause-appended : goal.returns-clause-appended
+returns-clause-appended g c entries durable held =
     let e : Entry = as_entry c.args.entry.now in
     let fit : IsFit e = record { moment = search (rules, to_z-of_z); fit = c.requires.fit } in
     kept_append_one _ _ c.args.self.now c.put.new.out c.write_frame-self.result entries durable e fit c.requires.kind

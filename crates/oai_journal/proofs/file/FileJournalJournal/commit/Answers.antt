@@ -3,6 +3,7 @@ use Rattle.std.proofs.Common.{◌≡◌, ◌∙◌, ℕ, ◌+◌, ◌<◌, ◌==
 use Rattle.std.proofs.lemmas.Bool.{eqb-true, false≢true, eq-eqb}
 use Rattle.oai_journal.specs.Groups.{IsGroup, digest_of_all}
 use Rattle.oai_journal.proofs.KeptLemmas.{is_group, kept_settled, kept_still, kept_stopped, leaves_before, leaves_group, survives_group}
+use Rattle.oai_journal.proofs.TailLemmas.{commit_stands}
 use Rattle.oai_journal.proofs.file.FileJournalJournal.commit.Goals as goal
 
 on_err : {T E : Type 0} {P : Type 0} (r : Result T E) → P → OnErr r P
@@ -51,7 +52,7 @@ returns-clause-ok g c entries durable held =
     let end_is : c.in-Some.end ≡ c.args.self.now.end + length c.deref.result.now =
     omega (arith, c.in-Some.ensures.1, c.len.ensures, c.args.self.now.pending.ok.0, c.close_group.ensures.len, ap length c.deref.ensures.value) in
     let last_is : c.args.self.now.last ≡ digest_of_all c.args.self.now.digest k.later = (k.waits c.if-self.false).last_is in
-    kept_settled _ _ c.args.self.now _ entries durable held (rw (end_is, last_is) settled) c.clear.ensures.items refl
+    kept_settled _ _ c.args.self.now _ entries durable held (rw (c.forget.ensures.disk, end_is, last_is) settled) c.clear.ensures.items refl
 
 pub returns-then-is_empty-clause-group : goal.returns-then-is_empty-clause-group
 returns-then-is_empty-clause-group g c going entries durable held =
@@ -78,5 +79,15 @@ returns-clause-group g c going entries durable held =
     let group : IsGroup c.deref.result.now c.args.self.now.digest k.later =
     is_group c.args.self.now.pending.items c.deref.result.now c.args.self.now.digest c.args.self.now.last k.later (k.waits going) some
     (λ inner gate is. c.deref.ensures.value ∙ c.close_group.ensures.gate inner gate is) in
-    leaves_group g.D.Disk.seen g.D.Disk.may_leave c.args.self.now c.write_group.new.disk entries durable held
-    (λ file left. c.write_group.ensures.crash c.args.self.now.digest held.0 k.written k.later (k.settled going) group file left)
+    rw (c.forget.ensures.disk) (leaves_group g.D.Disk.seen g.D.Disk.may_leave c.args.self.now c.write_group.new.disk entries durable held
+    (λ file left. c.write_group.ensures.crash c.args.self.now.digest held.0 k.written k.later (k.settled going) group file left))
+
+pub returns-clause-tails : goal.returns-clause-tails
+returns-clause-tails g c entries durable held tail read stands =
+    let k = held.1 in
+    let some = some_left _ _ _ c.if-is_empty.false c.is_empty.ensures (c.args.self.now.pending.ok.0) in
+    let group : IsGroup c.deref.result.now c.args.self.now.digest k.later =
+    is_group c.args.self.now.pending.items c.deref.result.now c.args.self.now.digest c.args.self.now.last k.later (k.waits c.if-self.false) some
+    (λ inner gate is. c.deref.ensures.value ∙ c.close_group.ensures.gate inner gate is) in
+    let settled = c.in_ok-write_group.ensures.settled c.args.self.now.digest held.0 k.written k.later (k.settled c.if-self.false) group in
+    commit_stands _ _ _ c.args.self.now _ entries durable held c.if-self.false _ _ _ settled c.forget.ensures.disk c.forget.ensures.block tail read stands
