@@ -14,3 +14,4 @@ pub mod AgainLemmas
 pub mod SavedLemmas
 pub mod PieceLemmas
 pub mod RestoreLemmas
+pub mod ListLemmas

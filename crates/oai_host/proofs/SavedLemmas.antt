@@ -1,25 +1,22 @@
 -- A part that is spelled is read back, and the parts of repositories make them again. A part changes the repository of its name alone, so
 -- what all parts make of a repository is what its own make of it.
-use Rattle.std.proofs.Common.{◌≡◌, ◌∙◌, inl, inr, ℕ, ℤ, ◌+◌, ◌<◌, suc, arith, Bool, true, false, not, decimal, List, [], ◌∷◌, ◌++◌, append_assoc, length, take, drop, get_or, map, Option, None, Some, Result, Ok, Err, OnOk, refl, sym, ap, ap₂, subst, eqb, add-one}
-use Rattle.std.specs.List.{AllByRecursion, after_first, before_first, list_all, list_any, onto_first, position_or_len, slice_split}
+use Rattle.std.proofs.Common.{◌≡◌, ◌∙◌, ℕ, ℤ, ◌+◌, ◌<◌, true, false, decimal, List, [], ◌∷◌, ◌++◌, append_assoc, length, take, get_or, map, Option, None, Some, Result, Ok, Err, OnOk, refl, sym, ap, ap₂, subst}
+use Rattle.std.specs.List.{AllByRecursion, after_first, before_first, list_any}
 use Rattle.std.specs.Ordering.{int_eq}
 use Rattle.std.specs.Str.{bytes_eq}
 use Rattle.std.specs.Str.Parse.{digits_value}
-use Rattle.std.proofs.lemmas.Bool.{and_from, and_parts, cases_Bool, cond-false, cond-true, eqb-true, or_parts}
+use Rattle.std.proofs.lemmas.Bool.{and_from, cond-false, cond-true, or_parts}
 use Rattle.std.proofs.lemmas.Bool.Decides.{Decides-int_eq}
 use Rattle.std.proofs.lemmas.Fmt.{decimal_is_IsNumeral}
 use Rattle.std.proofs.lemmas.List.{append-nil, map_more}
-use Rattle.oai_names.specs.Names.{is_colon, is_prefix, is_prefix_byte}
-use Rattle.oai_names.specs.Sets.{is_set_spec, may_be_set_spec}
-use Rattle.oai_names.specs.declared.limits.TheConstants.{MAX_SET_SPEC_BYTES}
-use Rattle.std.specs.Prelude.{nat_le}
 use Rattle.oai_item.specs.Decoding.{first_item}
 use Rattle.oai_item.specs.Encoding.{encoded}
 use Rattle.oai_item.specs.Rules.{has_repeat}
+use Rattle.oai_item.specs.Item.{ItemState}
 use Rattle.oai_item.proofs.ReadBack.{item_back}
 use Rattle.oai_catalogue.specs.Store.{VersionLists}
 use Rattle.oai_repo.specs.Fields.{state_of}
-use Rattle.oai_repo.specs.Saved.{SavedPartState, ended, has_clock, has_item, has_named_set, parts_of, with_part, with_parts}
+use Rattle.oai_repo.specs.Saved.{SavedPartState, ended, has_clock, has_gone, has_item, has_list, has_named_set, parts_of, with_part, with_parts}
 use Rattle.oai_repo.specs.State.{RepoState, empty_state}
 use Rattle.oai_repo.proofs.SavedLemmas.{restored}
 use Rattle.oai_replay.specs.Parts.{PartState, restored_all}
@@ -27,86 +24,10 @@ use Rattle.oai_replay.specs.declared.parts.PartKind.{PartKind}
 use Rattle.oai_http.proofs.TargetLemmas.{bytes_same, bytes_turned}
 use Rattle.oai_host.specs.Hosts.{Repository}
 use Rattle.oai_host.specs.NamedRepos.{AllHeld, repo_names, repositories_of, repository_of}
-use Rattle.oai_host.specs.Saved.{emptied_at, emptied_in, ended_at, ended_in, has_spelling, if_spelled, is_space_character, part_bytes_of, part_in, part_kind_of, part_moment_of, parts_at, parts_in, restored_at, restored_in, spelled_part, with_read}
+use Rattle.oai_host.specs.Saved.{emptied_at, emptied_in, ended_at, ended_in, has_spelling, if_spelled, is_space_character, list_bytes, list_in, part_bytes_of, part_in, part_kind_of, part_moment_of, part_of_list, parts_at, parts_in, restored_at, restored_in, spelled_part, with_read}
+use Rattle.oai_host.proofs.ListLemmas.{list_back, set_back}
 use Rattle.oai_host.specs.Saving.{CanBeRead, Takes, TakesAll, TakesParts}
 use Rattle.oai_host.specs.declared.repositories.NamedRepo.{NamedRepo}
-
--- ---- no space stands in a setSpec
-
-abbrev is_other : ℕ → Bool
-is_other b = not (is_space_character b)
-
-colon_is_other : (b : ℕ) → is_colon b ≡ true → is_other b ≡ true
-colon_is_other b h = subst (λ (n : ℕ). is_other n ≡ true) (sym (eqb-true b 58 h)) refl
-
-prefix_is_other : (b : ℕ) → is_prefix_byte b ≡ true → is_other b ≡ true
-prefix_is_other b h = elim (cases_Bool (is_space_character b)) [
-  | inl space ↦ let clash : is_prefix_byte 32 ≡ true = subst (λ (n : ℕ). is_prefix_byte n ≡ true) (eqb-true b 32 space) h in cc
-  | inr other ↦ ap not other
-]
-
-abbrev are_prefix_bytes : List ℕ → Bool
-are_prefix_bytes part = list_all is_prefix_byte part
-
-parts_have_them : (parts : List (List ℕ)) → list_all is_prefix parts ≡ true → list_all are_prefix_bytes parts ≡ true
-unfolding is_prefix
-parts_have_them [] h = refl
-parts_have_them (part ∷ parts) h =
-    let both = and_parts (is_prefix part) (list_all is_prefix parts) h in
-    let one = and_parts (not (eqb (length part) 0)) (are_prefix_bytes part) both.0 in
-    and_from (are_prefix_bytes part) (list_all are_prefix_bytes parts) one.1 (parts_have_them parts both.1)
-
-onto_parts : (b : ℕ) (parts : List (List ℕ)) → list_all are_prefix_bytes (onto_first b parts) ≡ true → (is_prefix_byte b ≡ true) × (list_all are_prefix_bytes parts ≡ true)
-onto_parts b [] h =
-    let both = and_parts (are_prefix_bytes (b ∷ [])) true h in
-    ((and_parts (is_prefix_byte b) true both.0).0, refl)
-onto_parts b (part ∷ parts) h =
-    let both = and_parts (are_prefix_bytes (b ∷ part)) (list_all are_prefix_bytes parts) h in
-    let one = and_parts (is_prefix_byte b) (are_prefix_bytes part) both.0 in
-    (one.0, and_from (are_prefix_bytes part) (list_all are_prefix_bytes parts) one.1 both.1)
-
-others_by_parts : (text : List ℕ) → list_all are_prefix_bytes (slice_split is_colon text) ≡ true → list_all is_other text ≡ true
-others_by_parts [] h = refl
-others_by_parts (b ∷ text) h = elim (cases_Bool (is_colon b)) [
-  | inl colon ↦
-      let behind : list_all are_prefix_bytes ([] ∷ slice_split is_colon text) ≡ true =
-      sym (ap (list_all are_prefix_bytes) (cond-true (is_colon b) ([] ∷ slice_split is_colon text) (onto_first b (slice_split is_colon text)) colon)) ∙ h in
-      and_from (is_other b) (list_all is_other text) (colon_is_other b colon) (others_by_parts text behind)
-  | inr other ↦
-      let onto : list_all are_prefix_bytes (onto_first b (slice_split is_colon text)) ≡ true =
-      sym (ap (list_all are_prefix_bytes) (cond-false (is_colon b) ([] ∷ slice_split is_colon text) (onto_first b (slice_split is_colon text)) other)) ∙ h in
-      let both = onto_parts b (slice_split is_colon text) onto in
-      and_from (is_other b) (list_all is_other text) (prefix_is_other b both.0) (others_by_parts text both.1)
-]
-
-no_space : (spec : List ℕ) → may_be_set_spec spec ≡ true → list_all is_other spec ≡ true
-unfolding is_set_spec
-no_space spec h = others_by_parts spec (parts_have_them (slice_split is_colon spec) (and_parts (is_set_spec spec) (nat_le (length spec) MAX_SET_SPEC_BYTES) h).0)
-
--- ---- so it ends at the first one
-
-space_at : (spec name : List ℕ) → list_all is_other spec ≡ true → position_or_len is_space_character (spec ++ 32 ∷ name) ≡ length spec
-space_at [] name h = refl
-space_at (b ∷ spec) name h =
-    let both = and_parts (is_other b) (list_all is_other spec) h in
-    let n : ℕ = position_or_len is_space_character (spec ++ 32 ∷ name) in
-    cond-true (is_other b) (1 + n) 0 both.0 ∙ ap (λ (m : ℕ). 1 + m) (space_at spec name both.1) ∙ omega arith
-
-front_there : (spec name : List ℕ) → take (length spec) (spec ++ 32 ∷ name) ≡ spec
-front_there [] name = refl
-front_there (b ∷ spec) name = ap (λ (bs : List ℕ). b ∷ bs) (front_there spec name)
-
-back_there : (spec name : List ℕ) → drop (suc (length spec)) (spec ++ 32 ∷ name) ≡ name
-back_there [] name = refl
-back_there (b ∷ spec) name = back_there spec name
-
-set_back : (spec name : List ℕ) → may_be_set_spec spec ≡ true → has_named_set (before_first is_space_character (spec ++ 32 ∷ name), after_first is_space_character (spec ++ 32 ∷ name)) ≡ has_named_set (spec, name)
-set_back spec name h =
-    let text : List ℕ = spec ++ 32 ∷ name in
-    let at = space_at spec name (no_space spec h) in
-    let front : before_first is_space_character text ≡ spec = ap (λ (k : ℕ). take k text) at ∙ front_there spec name in
-    let back : after_first is_space_character text ≡ name = ap (λ (k : ℕ). drop (k + 1) text) at ∙ ap (λ (k : ℕ). drop k text) (add-one (length spec)) ∙ back_there spec name in
-    ap₂ (λ (s n : List ℕ). has_named_set (s, n)) front back
 
 -- ---- a part is read back
 
@@ -114,8 +35,10 @@ same_moment : (clock : ℤ) (part : SavedPartState) → int_eq (part_moment_of (
 same_moment clock (has_clock at next) = (Decides-int_eq at at).1 refl
 same_moment clock (has_named_set set) = (Decides-int_eq clock clock).1 refl
 same_moment clock (has_item item) = (Decides-int_eq item.stamp item.stamp).1 refl
+same_moment clock (has_gone identifier) = (Decides-int_eq clock clock).1 refl
+same_moment clock (has_list list) = (Decides-int_eq clock clock).1 refl
 
-spelled_is : (clock : ℤ) (part from : SavedPartState) → from ≡ part → if_spelled (part_moment_of clock part) (part_bytes_of part) from ≡ Some part
+spelled_is : (clock : ℤ) (part : SavedPartState) (from : Option SavedPartState) → from ≡ Some part → if_spelled (part_moment_of clock part) (part_bytes_of part) from ≡ Some part
 spelled_is clock part from same =
     ap (if_spelled (part_moment_of clock part) (part_bytes_of part)) same
     ∙ cond-true (has_spelling (part_moment_of clock part) (part_bytes_of part) part) (Some part) None
@@ -123,10 +46,13 @@ spelled_is clock part from same =
 
 pub read_back : (name : List ℕ) (clock : ℤ) (part : SavedPartState) → CanBeRead part → part_in (spelled_part name clock part) ≡ Some part
 read_back name clock (has_clock at next) small =
-    spelled_is clock (has_clock at next) (has_clock at (digits_value 10 (decimal next))) (ap (has_clock at) (decimal_is_IsNumeral next small).1)
+    spelled_is clock (has_clock at next) (Some (has_clock at (digits_value 10 (decimal next)))) (ap (λ (n : ℕ). Some (has_clock at n)) (decimal_is_IsNumeral next small).1)
 read_back name clock (has_named_set set) spec =
-    spelled_is clock (has_named_set set) (has_named_set (before_first is_space_character (set.0 ++ 32 ∷ set.1), after_first is_space_character (set.0 ++ 32 ∷ set.1))) (set_back set.0 set.1 spec)
-read_back name clock (has_item item) spells = spelled_is clock (has_item item) (has_item (first_item (encoded item))) (ap has_item (item_back (encoded item) item spells))
+    spelled_is clock (has_named_set set) (Some (has_named_set (before_first is_space_character (set.0 ++ 32 ∷ set.1), after_first is_space_character (set.0 ++ 32 ∷ set.1)))) (ap (λ (p : SavedPartState). Some p) (set_back set.0 set.1 spec))
+read_back name clock (has_item item) spells =
+    spelled_is clock (has_item item) (Some (has_item (first_item (encoded item)))) (ap (λ (it : ItemState). Some (has_item it)) (item_back (encoded item) item spells))
+read_back name clock (has_gone identifier) is = spelled_is clock (has_gone identifier) (Some (has_gone identifier)) refl
+read_back name clock (has_list list) is = spelled_is clock (has_list list) (part_of_list (list_in (list_bytes list))) (ap part_of_list (list_back list is))
 
 -- the parts of something that is spelled so
 pub read_as : (kind : PartKind) (moment : ℤ) (name bytes : List ℕ) (part : SavedPartState) → kind ≡ part_kind_of part → moment ≡ part_moment_of moment part → bytes ≡ part_bytes_of part → CanBeRead part

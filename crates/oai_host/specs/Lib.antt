@@ -16,3 +16,4 @@ pub mod Places
 pub mod Saved
 pub mod Emptied
 pub mod Saving
+pub mod ListReadings

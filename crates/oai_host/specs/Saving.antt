@@ -1,13 +1,18 @@
 -- How a repository in a store is restored part by part, and how its parts are passed to a sink: words that no
 -- definition needs.
-use Rattle.std.specs.Prelude.{◌≡◌, ◌<◌, ◌^◌, ℕ, ℤ, true, List, ◌++◌, map, Result, IsTrue, OnErr, OnOk}
+use Rattle.std.specs.Prelude.{◌≡◌, ◌<◌, ◌^◌, ℕ, ℤ, true, FitsSigned, List, ◌++◌, map, Result, IfSome, IsTrue, OnErr, OnOk}
+use Rattle.std.specs.Int.{w64}
 use Rattle.std.specs.List.{AllByRecursion}
+use Rattle.std.specs.Str.{IsUtf8}
+use Rattle.oai_names.specs.Names.{may_be_prefix}
 use Rattle.oai_names.specs.Sets.{may_be_set_spec}
+use Rattle.oai_args.specs.Verbs.{is_of_records}
 use Rattle.oai_item.specs.Encoding.{Spells, encoded}
+use Rattle.oai_item.specs.Selection.{Filter}
 use Rattle.oai_item.specs.declared.faults.Fault.{Fault}
 use Rattle.oai_catalogue.specs.declared.versions.Versions.{Ghosts}
 use Rattle.oai_repo.specs.Fields.{Keeps, RepoFields, state_of}
-use Rattle.oai_repo.specs.Saved.{SavedPartState, ended, has_clock, has_item, has_named_set, parts_of}
+use Rattle.oai_repo.specs.Saved.{SavedListState, SavedPartState, ended, has_clock, has_gone, has_item, has_list, has_named_set, parts_of}
 use Rattle.oai_replay.specs.Parts.{PartState}
 use Rattle.oai_host.specs.Hosts.{Repository}
 use Rattle.oai_host.specs.Saved.{ended_in, part_in, parts_in, spelled_part, with_read}
@@ -20,11 +25,28 @@ pub record RestoresIn {V : Type 0} (g : Ghosts V) (part : PartState) (result : R
   pub kept : Keeps (g.honest before) old (g.lists before) new (g.lists after)
   pub honesty : g.honest after ≡ g.honest before
 
+-- a filter by names that may be those, and by datestamps of 64 bits
+pub record CanBeFilter (filter : Filter) : Type 0 where
+  pub prefix : may_be_prefix filter.prefix ≡ true
+  pub lower : FitsSigned w64 filter.lower
+  pub upper : FitsSigned w64 filter.upper
+  pub set : IfSome filter.set (λ set. may_be_set_spec set ≡ true)
+
+-- a list of items by such a filter, with numbers of 64 bits
+pub record CanBeList (list : SavedListState) : Type 0 where
+  pub number : list.number < 2 ^ 64
+  pub verb : is_of_records list.verb ≡ true
+  pub filter : CanBeFilter list.filter
+  pub end : FitsSigned w64 list.end
+  pub given : list.given < 2 ^ 64
+
 -- the part can be decoded again
 abbrev pub CanBeRead : SavedPartState → Type 0
 CanBeRead (has_clock clock next) = next < 2 ^ 64
 CanBeRead (has_named_set set) = may_be_set_spec set.0 ≡ true
 CanBeRead (has_item item) = Spells (encoded item) item
+CanBeRead (has_gone identifier) = IsUtf8 identifier
+CanBeRead (has_list list) = CanBeList list
 
 -- whatever a sink had taken, it has these parts after it
 abbrev pub Takes : {S : Type 0} → (S → List PartState → Type 0) → List PartState → S → S → Type 0

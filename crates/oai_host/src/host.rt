@@ -205,7 +205,7 @@ impl<V: Versions + Drop> Host<V> {
     }
 }
 
-/// The endpoint of the target, and the position and the name of its repository. The error is the status of the answer.
+/// The endpoint of the target, and the position and the name of its repository; `None` if it is no repository's.
 fn find<'a>(
     routes: &Routes,
     repositories: &Repositories,

@@ -6,6 +6,7 @@ mod deposits;
 mod dispatch;
 mod host;
 mod laws;
+mod list_parts;
 mod records;
 mod repositories;
 mod restores;

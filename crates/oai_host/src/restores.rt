@@ -3,19 +3,23 @@ ghost use Rattle.oai_host.specs.Saving.{RestoresIn};
 ghost use Rattle.oai_replay.specs.Parts.{as_part};
 ghost use Rattle.oai_replay.specs.declared.parts.PartKind.TheVariants as kind;
 ghost use Rattle.oai_item.specs.Encoding.{Spells};
+ghost use Rattle.oai_item.specs.declared.faults.Fault.TheVariants as fault;
+ghost use Rattle.oai_item.specs.declared.forms.Forms.TheVariants.{Fields};
 ghost use Rattle.oai_names.specs.Sets.{may_be_set_spec};
 ghost use Rattle.oai_repo.specs.Fields.{Owns};
-ghost use Rattle.std.specs.Prelude.{IfOk, IfSome, decimal, true, ◌++◌, ◌∷◌, ◌≡◌};
+ghost use Rattle.std.specs.Prelude.{Err, IfOk, IfSome, decimal, true, ◌++◌, ◌∷◌, ◌≡◌};
 
+use crate::list_parts::list_in;
 use itoa::Buffer;
 use oai_catalogue::Versions;
-use oai_item::{DecodeFault, Fault, Item};
+use oai_item::{DecodeFault, Fault, Forms, Item};
 use oai_names::{NameFault, SetSpec};
 use oai_replay::{Part, PartKind};
 use oai_repo::{Repo, SavedPart};
 use std::alloc::Global;
 
-/// Restores a part at the repository. `Damaged` if the part encodes nothing, or violates the repository's invariants.
+/// Restores a part at the repository. `Damaged` if the part encodes nothing, or violates the repository's invariants, or
+/// if the repository is that of a journal of version 1, which has neither open lists nor items that are gone.
 /// Any other fault may come. After a fault everything is unchanged.
 pub(crate) fn restore<V: Versions>(
     alloc: Global,
@@ -30,6 +34,8 @@ pub(crate) fn restore<V: Versions>(
         PartKind::Begin => restore_begin(repo, store, part),
         PartKind::Set => restore_set(alloc, repo, store, part),
         PartKind::Item => restore_item(alloc, repo, store, part),
+        PartKind::List => restore_list(alloc, repo, store, part),
+        PartKind::Gone => restore_gone(repo, store, part),
     }
 }
 
@@ -80,6 +86,42 @@ fn restore_item<V: Versions>(
         return Err(Fault::Damaged);
     }
     repo.restore(store, &SavedPart::HasItem { item: &item })
+}
+
+/// Restores an open list. A journal of version 1 has none.
+fn restore_list<V: Versions>(
+    alloc: Global,
+    repo: &mut Repo,
+    store: &mut V,
+    part: &Part<'_>,
+) -> Result<(), Fault>
+    requires kind { part.now.kind ≡ kind.List }
+    requires owns { Owns (V.honest store.old) repo.old (V.lists store.old) }
+    ensures restored { RestoresIn V.Versions (as_part part.now) result repo.old store.old repo.new store.new }
+    ensures version { repo.old.config.forms ≡ Fields → result ≡ Err fault.Damaged }
+{
+    if repo.config().forms() == Forms::Fields {
+        return Err(Fault::Damaged);
+    }
+    let list = list_in(alloc, part.bytes)?;
+    let list = list.saved();
+    repo.restore(store, &SavedPart::HasList { list })
+}
+
+/// Restores that an item is gone. In a journal of version 1 none is.
+fn restore_gone<V: Versions>(repo: &mut Repo, store: &mut V, part: &Part<'_>) -> Result<(), Fault>
+    requires kind { part.now.kind ≡ kind.Gone }
+    requires owns { Owns (V.honest store.old) repo.old (V.lists store.old) }
+    ensures restored { RestoresIn V.Versions (as_part part.now) result repo.old store.old repo.new store.new }
+    ensures version { repo.old.config.forms ≡ Fields → result ≡ Err fault.Damaged }
+{
+    if repo.config().forms() == Forms::Fields {
+        return Err(Fault::Damaged);
+    }
+    let Ok(identifier) = str::from_utf8(part.bytes) else {
+        return Err(Fault::Damaged);
+    };
+    repo.restore(store, &SavedPart::Goes { identifier })
 }
 
 /// The number below 2^64 that the bytes spell, decimal without leading zeros.
