@@ -1,11 +1,11 @@
 -- What a call that names blocks, or names them no more, does to all lines.
-use Rattle.std.proofs.Common.{◌≡◌, ◌≢◌, ◌∙◌, ◌+◌, ◌<◌, ◌≤◌, ℕ, suc, zero, List, [], ◌∷◌, ◌++◌, Option, None, Some, map, get_or, length, refl, sym, ap, arith, inl, inr}
-use Rattle.std.specs.Prelude.{option_map, sum_by}
+use Rattle.std.proofs.Common.{◌≡◌, ◌≢◌, ◌∙◌, ◌+◌, ◌<◌, ◌≤◌, ℕ, List, [], ◌∷◌, ◌++◌, Option, None, Some, refl, sym, ap, arith, inl, inr}
+use Rattle.std.specs.Prelude.{option_map}
 use Rattle.std.proofs.lemmas.Bool.{cases_eq}
 use Rattle.std.proofs.lemmas.Option.{none-some}
 use Rattle.oai_blocks.specs.Blocks.{AreBlocked, BlockState, Numbers, Shelf, block_at, blocks_of, items_in, names_in, weight, weight_in, items_at, lines_on, named_by, names_at, numbers_at, numbers_in, times_named, times_in}
 use Rattle.oai_blocks.specs.Naming.{AreBut, IsSlotSet, IsNamedAnew}
-use Rattle.oai_blocks.proofs.SlotLemmas.{sum-changed, sum-part, sum-two}
+use Rattle.oai_blocks.proofs.SlotLemmas.{sum-changed, sum-two}
 use Rattle.oai_blocks.proofs.TimesLemmas.{times-append, times-cons, times-nil, times-same}
 
 module _ {T : Type 0} where

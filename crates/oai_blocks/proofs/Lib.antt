@@ -7,3 +7,5 @@ pub mod WaitingLemmas
 pub mod ExchangeLemmas
 pub mod ListedLemmas
 pub mod WeightLemmas
+pub mod JoinLemmas
+pub mod ElementLemmas

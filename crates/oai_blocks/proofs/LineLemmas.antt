@@ -1,17 +1,18 @@
 -- What the elements of a line are after a call, block by block, and that all other lines stay.
-use Rattle.std.proofs.Common.{true≢false, ◌≡◌, ◌≢◌, ◌∙◌, ◌+◌, ◌-◌, ◌<◌, ◌≤◌, ℕ, suc, zero, eqb, List, [], ◌∷◌, ◌++◌, Option, None, Some, get_or, length, map, set, take, drop, refl, sym, subst, ap, arith, inl, inr}
+use Rattle.std.proofs.Common.{true≢false, ◌≡◌, ◌≢◌, ◌∙◌, ◌+◌, ◌<◌, ◌≤◌, ℕ, suc, zero, List, [], ◌∷◌, ◌++◌, Option, None, Some, get_or, length, map, set, take, drop, refl, sym, subst, ap, arith, inl, inr}
 use Rattle.std.specs.Prelude.{IsSome, option_map, sum_by, unwrap_or, ◌==◌}
 use Rattle.std.specs.List.{insert, remove}
-use Rattle.std.proofs.lemmas.Bool.{cases_eq, eq-eqb, ne_eqb}
-use Rattle.std.proofs.lemmas.List.{drop-map, get_or-map, get_or_default, length-map, map-append, map-set, take-map}
+use Rattle.std.proofs.lemmas.Bool.{cases_eq, ne_eqb}
+use Rattle.std.proofs.lemmas.List.{drop-map, get_or_append_left, get_or-set_other, get_or-take, length-take-le, get_or-map, get_or_default, length-map, map-append, map-set, take-map}
 use Rattle.std.proofs.lemmas.List.Sums.{sum_by-cons, sum_by-take-drop}
-use Rattle.oai_blocks.specs.Blocks.{AreBlocked, Numbers, Shelf, blocks_of, items_at, items_in, lines_on, named_by, names_at, numbers_at, numbers_in, steps_for, times_named, times_in, weight}
+use Rattle.std.proofs.lemmas.List.Edits.{get_or-insert_at}
+use Rattle.oai_blocks.specs.Blocks.{AreBlocked, BlockState, block_at, names_in, Numbers, Shelf, blocks_of, items_at, items_in, lines_on, named_by, names_at, numbers_at, numbers_in, steps_for, times_named, times_in, weight}
 use Rattle.oai_blocks.specs.Calls.{IsLineSet, spliced}
 use Rattle.oai_blocks.specs.Naming.{Alters, AreBut, IsSlotSet, IsNamedAnew, Turns}
 use Rattle.oai_blocks.proofs.FrameLemmas.{other_lines, renames_same, renames_within, same_blocks, turned}
 use Rattle.oai_blocks.proofs.ShelfLemmas.{altered, owned_turns, splice_weighs, still_free}
 use Rattle.oai_blocks.proofs.SlotLemmas.{sum-part}
-use Rattle.oai_blocks.proofs.TimesLemmas.{times-append, times-cons, times-insert, times-nil, times-other, times-remove, times-same, times-set, times-within}
+use Rattle.oai_blocks.proofs.TimesLemmas.{times-cons, times-insert, times-nil, times-other, times-remove, times-same, times-set, times-within}
 
 module _ {T : Type 0} where
   -- blocks are counted as before, and one line is set
@@ -385,3 +386,73 @@ module _ {T : Type 0} (old mid new : Shelf T) (lines new_lines : Numbers) (waiti
       (owned old lines waiting v h new new_lines numbers j has.1 has.2 own copies copies [] (still_free n own old mid out first shared free)
       (subst (λ m. 1 < names_at old m) place shared) is
       (subst (λ m. Turns (m ∷ []) (own ∷ []) copies [] old new) place (owned_turns n own old mid new copies out first none next)) line_set)
+
+-- ---- how often blocks of a line are named
+
+-- two places of a line have two blocks
+pub apart_at : (numbers : List ℕ) (j k : ℕ) → j < length numbers → k < length numbers → j ≢ k → ((b : ℕ) → times_named b numbers ≤ 1) → get_or numbers j 0 ≢ get_or numbers k 0
+apart_at [] j k within inside apart once same = omega (arith, within)
+apart_at (n ∷ ns) zero zero within inside apart once same = apart refl
+apart_at (n ∷ ns) zero (suc k) within inside apart once same =
+    let there : k < length ns = omega (arith, inside) in
+    let more : times_named n ns ≡ times_named (get_or ns k 0) ns = ap (λ x. times_named x ns) same in
+    omega (arith, times-within ns k 0 there, more, once n, times-cons n n ns, times-same n)
+apart_at (n ∷ ns) (suc j) zero within inside apart once same =
+    let there : j < length ns = omega (arith, within) in
+    let more : times_named n ns ≡ times_named (get_or ns j 0) ns = ap (λ x. times_named x ns) (sym same) in
+    omega (arith, times-within ns j 0 there, more, once n, times-cons n n ns, times-same n)
+apart_at (n ∷ ns) (suc j) (suc k) within inside apart once same =
+    apart_at ns j k (omega (arith, within)) (omega (arith, inside)) (λ e. apart (ap suc e)) (λ b. omega (arith, once b, times-cons b n ns)) same
+
+module _ {T : Type 0} (old new : Shelf T) (lines new_lines : Numbers) (waiting : List (List ℕ)) (v : ℕ) (h : AreBlocked old lines waiting) (numbers : List ℕ) (stands : numbers_at lines v ≡ Some numbers)
+    (j : ℕ) (within : j < length numbers) where
+  once_in : (b : ℕ) → times_named b numbers ≤ 1
+  once_in b =
+      let own : times_in b (numbers_at lines v) ≡ times_named b numbers = ap (times_in b) stands in
+      omega (arith, own, h.once v b)
+
+  -- one block is taken out, and those before it are named as often
+  pub taken_names : IsNamedAnew (get_or numbers j 0 ∷ []) [] old new → IsSlotSet v (Some (remove numbers j)) lines new_lines
+      → (k : ℕ) → k < j → names_at new (number_in new_lines v k) ≡ names_at old (number_in lines v k)
+  taken_names renames set_line k less =
+      let b = get_or numbers k 0 in
+      let now : number_in new_lines v k ≡ b =
+      number_now new_lines v k (remove numbers j) set_line.this
+      ∙ get_or_append_left (take j numbers) (drop (suc j) numbers) 0 k (omega (arith, less, length-take-le j numbers (omega (arith, within))))
+      ∙ get_or-take j numbers k 0 less in
+      let was : number_in lines v k ≡ b = number_now lines v k numbers stands in
+      let apart = apart_at numbers k j (omega (arith, less, within)) within (λ e. omega (arith, e, less)) once_in in
+      let same : names_at new b ≡ names_at old b = omega (arith, renames.counts b, times-other b (get_or numbers j 0) apart, times-nil b) in
+      ap (names_at new) now ∙ same ∙ sym (ap (names_at old) was)
+
+  -- one block is another, and all others are named as often
+  pub owned_names : (own : ℕ) → names_at old own ≡ 0 → IsNamedAnew (get_or numbers j 0 ∷ []) (own ∷ []) old new → IsSlotSet v (Some (set numbers j own)) lines new_lines
+      → (k : ℕ) → k < length numbers → k ≢ j → names_at new (number_in new_lines v k) ≡ names_at old (number_in lines v k)
+  owned_names own free renames set_line k inside other =
+      let b = get_or numbers k 0 in
+      let now : number_in new_lines v k ≡ b = number_now new_lines v k (set numbers j own) set_line.this ∙ get_or-set_other numbers j k own 0 other in
+      let was : number_in lines v k ≡ b = number_now lines v k numbers stands in
+      let apart = apart_at numbers k j inside within other once_in in
+      let same_times : times_in b (numbers_at lines v) ≡ times_named b numbers = ap (times_in b) stands in
+      let fresh : b ≢ own =
+      λ e. let none : names_at old b ≡ names_at old own = ap (names_at old) e in omega (arith, none, free, named_at old lines waiting v h b, same_times, times-within numbers k 0 inside) in
+      let same : names_at new b ≡ names_at old b = omega (arith, renames.counts b, times-other b (get_or numbers j 0) apart, times-other b own fresh) in
+      ap (names_at new) now ∙ same ∙ sym (ap (names_at old) was)
+
+module _ {T : Type 0} (old new : Shelf T) (lines new_lines : Numbers) (v : ℕ) (numbers : List ℕ) (j : ℕ) (within : j < length numbers) where
+  -- a block that is cut in two, of which no other line names either part
+  pub cut_names : (k : ℕ) (now : BlockState T) → block_at old k ≡ None → names_at old (get_or numbers j 0) ≡ 1 → now.names ≡ 1 → IsSlotSet k (Some now) old new
+      → IsSlotSet v (Some (insert numbers (j + 1) k)) lines new_lines → (names_at new (number_in new_lines v j) ≡ 1) × (names_at new (number_in new_lines v (j + 1)) ≡ 1)
+  cut_names k now vacant own one set_block set_line =
+      let n = get_or numbers j 0 in
+      let inside : j + 1 ≤ length numbers = omega (arith, within) in
+      let first : number_in new_lines v j ≡ n =
+      number_now new_lines v j (insert numbers (j + 1) k) set_line.this
+      ∙ get_or_append_left (take (j + 1) numbers) (k ∷ drop (j + 1) numbers) 0 j (omega (arith, length-take-le (j + 1) numbers inside))
+      ∙ get_or-take (j + 1) numbers j 0 (omega arith) in
+      let next : number_in new_lines v (j + 1) ≡ k = number_now new_lines v (j + 1) (insert numbers (j + 1) k) set_line.this ∙ get_or-insert_at numbers (j + 1) k 0 inside in
+      let apart : n ≢ k =
+      λ e. let none : names_at old n ≡ names_at old k = ap (names_at old) e in let free : names_at old k ≡ 0 = ap names_in vacant in omega (arith, none, free, own) in (
+        ap (names_at new) first ∙ ap names_in (set_block.others n apart) ∙ own,
+        ap (names_at new) next ∙ ap names_in set_block.this ∙ one,
+      )

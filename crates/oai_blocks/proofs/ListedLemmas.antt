@@ -1,9 +1,9 @@
 -- The elements of a line as one list, where a block is another.
-use Rattle.std.proofs.Common.{◌≡◌, ◌∙◌, ◌+◌, ◌<◌, ◌≤◌, ℕ, suc, zero, List, [], ◌∷◌, ◌++◌, get_or, length, take, drop, set, sym, ap, arith, append_assoc, append-nil}
+use Rattle.std.proofs.Common.{◌≡◌, ◌∙◌, ◌+◌, ◌<◌, ◌≤◌, ℕ, suc, List, [], ◌∷◌, ◌++◌, get_or, length, take, drop, set, sym, ap, arith, append_assoc, append-nil}
 use Rattle.std.specs.List.{insert}
-use Rattle.std.proofs.lemmas.List.{drop-append-le, drop-set-lt, drop_more, set_split, take-append-drop, take-append-le, take_more_set}
+use Rattle.std.proofs.lemmas.List.{drop-append-le, drop-set-lt, drop_more, set_split, take-append-drop, length-append, take-append-le, take-take, take_more, take_more_set}
 use Rattle.std.proofs.lemmas.List.Concat.{flat_map-append}
-use Rattle.oai_blocks.specs.Calls.{listed, place_of, spliced}
+use Rattle.oai_blocks.specs.Calls.{cut_at, listed, place_of, spliced}
 
 module _ {T : Type 0} where
   -- behind a front
@@ -38,7 +38,7 @@ module _ {T : Type 0} where
       ∙ ap (λ l. take (length front + i) (front ++ (block ++ back)) ++ (others ++ l)) (sym behind)
 
   -- a line around one of its blocks
-  listed_around : (blocks : List (List T)) (j : ℕ) → j < length blocks → listed blocks ≡ listed (take j blocks) ++ (get_or blocks j [] ++ listed (drop (j + 1) blocks))
+  pub listed_around : (blocks : List (List T)) (j : ℕ) → j < length blocks → listed blocks ≡ listed (take j blocks) ++ (get_or blocks j [] ++ listed (drop (j + 1) blocks))
   listed_around blocks j within =
       ap (λ l. listed l) (sym (take-append-drop j blocks) ∙ ap (λ l. take j blocks ++ l) (drop_more blocks j [] within))
       ∙ flat_map-append (λ b. b) (take j blocks) (get_or blocks j [] ∷ drop (j + 1) blocks)
@@ -58,19 +58,40 @@ module _ {T : Type 0} where
       ∙ ap (λ l. spliced (place_of blocks j i) len others l) (sym (listed_around blocks j inside))
 
   pub listed_cut : (blocks : List (List T)) (j i : ℕ) → j < length blocks
-      → listed (insert (set blocks j (take i (get_or blocks j []))) (j + 1) (drop i (get_or blocks j []))) ≡ listed blocks
+      → listed (cut_at blocks j i) ≡ listed blocks
   listed_cut blocks j i inside =
       let block = get_or blocks j [] in
       let a = take i block in
       let z = drop i block in
       let front = listed (take j blocks) in
       let back = listed (drop (j + 1) blocks) in
-      let both : insert (set blocks j a) (j + 1) z ≡ (take j blocks ++ a ∷ []) ++ z ∷ drop (j + 1) blocks =
-      ap (λ l. l ++ z ∷ drop (j + 1) (set blocks j a)) (take_more_set blocks j a inside)
-      ∙ ap (λ l. (take j blocks ++ a ∷ []) ++ z ∷ l) (drop-set-lt (j + 1) blocks j a (omega arith)) in
-      ap (λ l. listed l) both
-      ∙ flat_map-append (λ b. b) (take j blocks ++ a ∷ []) (z ∷ drop (j + 1) blocks)
-      ∙ ap (λ l. l ++ (z ++ back)) (flat_map-append (λ b. b) (take j blocks) (a ∷ []) ∙ ap (λ l. front ++ l) (append-nil a))
-      ∙ append_assoc front a (z ++ back)
+      flat_map-append (λ b. b) (take j blocks) (a ∷ z ∷ drop (j + 1) blocks)
       ∙ ap (λ l. front ++ l) (sym (append_assoc a z back) ∙ ap (λ l. l ++ back) (take-append-drop i block))
       ∙ sym (listed_around blocks j inside)
+
+  -- a block that is cut in two, by its numbers
+  pub cut_blocks : (blocks : List (List T)) (j i : ℕ) → j < length blocks
+      → insert (set blocks j (take i (get_or blocks j []))) (j + 1) (drop i (get_or blocks j [])) ≡ cut_at blocks j i
+  cut_blocks blocks j i inside =
+      let a = take i (get_or blocks j []) in
+      let z = drop i (get_or blocks j []) in
+      ap (λ l. l ++ z ∷ drop (j + 1) (set blocks j a)) (take_more_set blocks j a inside)
+      ∙ ap (λ l. (take j blocks ++ a ∷ []) ++ z ∷ l) (drop-set-lt (j + 1) blocks j a (omega arith))
+      ∙ append_assoc (take j blocks) (a ∷ []) (z ∷ drop (j + 1) blocks)
+
+  -- how many elements come before a block
+  pub count_more : (blocks : List (List T)) (k : ℕ) → k < length blocks → length (listed (take (k + 1) blocks)) ≡ length (listed (take k blocks)) + length (get_or blocks k [])
+  count_more blocks k within =
+      let block = get_or blocks k [] in
+      ap (λ (l : List (List T)). length (listed l)) (take_more blocks k [] within)
+      ∙ ap (λ (l : List T). length l) (flat_map-append (λ b. b) (take k blocks) (block ∷ []) ∙ ap (λ l. listed (take k blocks) ++ l) (append-nil block))
+      ∙ length-append (listed (take k blocks)) block
+
+  pub count_less : (blocks : List (List T)) (k j : ℕ) → k ≤ j → length (listed (take k blocks)) ≤ length (listed (take j blocks))
+  count_less blocks k j few =
+      let front = listed (take k blocks) in
+      let behind = listed (drop k (take j blocks)) in
+      let both : length (listed (take j blocks)) ≡ length (front ++ behind) =
+      ap (λ (l : List (List T)). length (listed l)) (sym (take-append-drop k (take j blocks)) ∙ ap (λ l. l ++ drop k (take j blocks)) (take-take k j blocks few))
+      ∙ ap (λ (l : List T). length l) (flat_map-append (λ b. b) (take k blocks) (drop k (take j blocks))) in
+      omega (arith, both, length-append front behind)

@@ -1,11 +1,11 @@
 -- Lines that were dropped and wait.
-use Rattle.std.proofs.Common.{◌≡◌, ◌≢◌, ◌∙◌, ◌+◌, ◌<◌, ◌≤◌, ℕ, suc, zero, List, [], ◌∷◌, ◌++◌, Option, None, Some, get_or, length, refl, sym, subst, ap, arith, inl, inr}
+use Rattle.std.proofs.Common.{◌≡◌, ◌∙◌, ◌+◌, ◌<◌, ◌≤◌, ℕ, suc, zero, List, [], ◌∷◌, ◌++◌, Option, None, Some, get_or, length, refl, ap, arith, inl, inr}
 use Rattle.std.specs.Prelude.{count_by, is_some, option_map, sum_by}
 use Rattle.std.proofs.lemmas.Bool.{cases_eq}
 use Rattle.std.proofs.lemmas.List.Sums.{sum_by-cons, sum_by_push}
-use Rattle.oai_blocks.specs.Blocks.{AreBlocked, Numbers, Shelf, blocks_of, lines_on, named_by, names_at, numbers_at, numbers_in, steps_for, times_named, times_in}
+use Rattle.oai_blocks.specs.Blocks.{AreBlocked, Numbers, Shelf, blocks_of, lines_on, named_by, names_at, numbers_at, steps_for, times_named, times_in}
 use Rattle.oai_blocks.specs.Calls.{IsLineSet}
-use Rattle.oai_blocks.specs.Naming.{IsSlotSet, IsNamedAnew, Turns}
+use Rattle.oai_blocks.specs.Naming.{IsSlotSet, Turns}
 use Rattle.oai_blocks.proofs.FrameLemmas.{same_blocks}
 use Rattle.oai_blocks.proofs.SlotLemmas.{sum-changed, sum-few, sum-part}
 use Rattle.oai_blocks.proofs.TimesLemmas.{times-append, times-nil}

@@ -1,14 +1,14 @@
 -- The elements of one line weigh no more than those of all blocks.
-use Rattle.std.proofs.Common.{◌≡◌, ◌≢◌, ◌∙◌, ◌+◌, ◌<◌, ◌≤◌, ℕ, List, [], ◌∷◌, ◌++◌, Option, None, Some, get_or, length, set, refl, sym, ap, arith, inl, inr}
+use Rattle.std.proofs.Common.{◌≡◌, ◌<◌, ◌≤◌, ℕ, List, [], ◌∷◌, Option, None, Some, length, set, ap, arith, inl, inr}
 use Rattle.std.specs.Prelude.{option_map, sum_by, unwrap_or}
 use Rattle.std.proofs.lemmas.Bool.{cases_eq, cases_lt}
-use Rattle.std.proofs.lemmas.List.{get_or-set_other, get_or-set_same, get_or_past, length-set, set_past}
+use Rattle.std.proofs.lemmas.List.{get_or-set_other, get_or-set_same, get_or_past, length-set}
 use Rattle.std.proofs.lemmas.List.Sums.{sum_by-append}
-use Rattle.oai_blocks.specs.Blocks.{AreBlocked, Numbers, Shelf, block_at, blocks_of, items_at, items_in, lines_on, numbers_at, numbers_in, times_named, times_in, weight, weight_in}
+use Rattle.oai_blocks.specs.Blocks.{AreBlocked, Numbers, Shelf, blocks_of, items_at, items_in, lines_on, numbers_at, times_named, times_in, weight}
 use Rattle.oai_blocks.specs.Calls.{listed}
 use Rattle.oai_blocks.specs.Naming.{IsSlotSet}
 use Rattle.oai_blocks.proofs.FrameLemmas.{same_blocks, weight_set}
-use Rattle.oai_blocks.proofs.TimesLemmas.{times-cons, times-other, times-same}
+use Rattle.oai_blocks.proofs.TimesLemmas.{times-cons, times-same}
 
 module _ {T : Type 0} where
   emptied : (shelf : Shelf T) (k : ℕ) → IsSlotSet k None shelf (set shelf k None)

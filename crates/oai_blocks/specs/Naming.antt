@@ -1,5 +1,6 @@
 -- What a step does to blocks, and to the numbers of lines. For private functions.
-use Rattle.std.specs.Prelude.{◌≡◌, ◌≢◌, ◌+◌, ◌<◌, ◌≤◌, ℕ, List, Option, None, Some, slice_index_or, sum_by}
+use Rattle.std.specs.Prelude.{◌≡◌, ◌≢◌, ◌+◌, ◌<◌, ◌≤◌, ℕ, List, Option, None, Some, Vec, slice_index_or, sum_by, vec_capacity}
+use Rattle.std.specs.declared.alloc.Global.{Global}
 use Rattle.oai_blocks.specs.Blocks.{BlockState, Shelf, block_at, items_at, names_at, room_at, times_named, weight}
 
 -- no slot is another than it was but one
@@ -23,6 +24,11 @@ pub record IsNamedAnew {T : Type 0} (before after : List ℕ) (old new : Shelf T
 pub record Turns {T : Type 0} (before after : List ℕ) (added gone : List T) (old new : Shelf T) : Type 0 where
   pub renames : IsNamedAnew before after old new
   pub weight : (weigh : T → ℕ) → weight weigh new + sum_by weigh gone ≡ weight weigh old + sum_by weigh added
+
+-- neither vector has memory for fewer elements
+pub record KeepsRoom {T : Type 0} (first new_first second new_second : Vec T Global) : Type 0 where
+  pub items : vec_capacity first ≤ vec_capacity new_first
+  pub others : vec_capacity second ≤ vec_capacity new_second
 
 -- the block at a number has these elements; it is named as often, and has memory for no fewer
 pub record Alters {T : Type 0} (k : ℕ) (items : List T) (old new : Shelf T) : Type 0 where

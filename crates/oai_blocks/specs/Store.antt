@@ -1,5 +1,6 @@
 -- What clauses see of lines.
-use Rattle.std.specs.Prelude.{◌≡◌, ◌+◌, ◌<◌, ◌≤◌, ℕ, List, [], Option, slice_index_or, sum_by, unwrap_or, length}
+use Rattle.std.specs.Prelude.{◌≡◌, ◌==◌, ◌+◌, ◌<◌, ◌≤◌, ℕ, List, [], Option, if◌then◌else◌, slice_index_or, sum_by, unwrap_or, length, Vec, vec_capacity, vec_len}
+use Rattle.std.specs.declared.alloc.Global.{Global}
 use Rattle.oai_blocks.specs.Calls.{IsLineSet}
 use Rattle.oai_blocks.specs.Blocks.{lines_on, names_at, numbers_at, numbers_in, room_at, steps_for, weight}
 use Rattle.oai_blocks.specs.declared.lines.BlockLines.{BlockLines}
@@ -37,6 +38,10 @@ module _ {T : Type 0} where
   abbrev pub steps_left : BlockLines T → ℕ
   steps_left store = steps_for store.waiting.items
 
+  -- the elements that are copied before the block at `j` of the line is changed: its own, if other lines name it too
+  abbrev pub copied_of : BlockLines T → ℕ → ℕ → List T
+  copied_of store v j = if names_of store v j == 1 then [] else block_of store v j
+
   -- the line has a block at `j`
   abbrev pub HasBlock : BlockLines T → ℕ → ℕ → Type 0
   HasBlock store v j = j < length (line_at store v)
@@ -56,6 +61,26 @@ pub record KeepsLines {T : Type 0} (old new : BlockLines T) : Type 0 where
   pub room : (v j : ℕ) → room_of old v j ≤ room_of new v j
   pub weight : (weigh : T → ℕ) → weight_of weigh new ≡ weight_of weigh old
   pub steps : steps_left new ≡ steps_left old
+
+-- the line has a block at `j`, and that an element at `i`
+pub record HasElement {T : Type 0} (store : BlockLines T) (v j i : ℕ) : Type 0 where
+  pub block : HasBlock store v j
+  pub within : i < length (block_of store v j)
+
+-- so many elements of the block at `j` of the line, from `i` on, can be exchanged for the others: no other line names it,
+-- it has memory for the others beside its own, and the others' vector for those that come out
+pub record CanExchange {T : Type 0} (v j i len : ℕ) (others : Vec T Global) (store : BlockLines T) : Type 0 where
+  pub block : HasBlock store v j
+  pub own : names_of store v j ≡ 1
+  pub within : i + len ≤ length (block_of store v j)
+  pub room : length (block_of store v j) + vec_len others ≤ room_of store v j
+  pub back : vec_len others + len ≤ vec_capacity others
+
+-- the block at `j` of the line and the one behind it can be joined: no other line names either
+pub record CanJoin {T : Type 0} (v j : ℕ) (store : BlockLines T) : Type 0 where
+  pub blocks : HasBlock store v (j + 1)
+  pub own : names_of store v j ≡ 1
+  pub next_own : names_of store v (j + 1) ≡ 1
 
 -- as many lines name each block as before, and no block has memory for fewer
 pub record KeepsSharing {T : Type 0} (old new : BlockLines T) : Type 0 where

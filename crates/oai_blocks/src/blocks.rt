@@ -22,7 +22,7 @@ impl<T> Model for Block<T> {
 /// The numbers of the blocks of a line, in their order.
 #[derive(Drop)]
 pub(crate) struct Line {
-    pub(crate) numbers: Vec<usize>,
+    pub(crate) numbers: Vec<u32>,
 }
 
 impl Model for Line {

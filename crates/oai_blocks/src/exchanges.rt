@@ -1,5 +1,6 @@
 //! Swaps elements of a block for others, in place.
-ghost use Rattle.std.specs.Prelude.{◌≡◌, ◌+◌, ◌-◌, ◌≤◌, ◌++◌, take, drop, vec_len, vec_capacity, OnOk};
+ghost use Rattle.std.specs.Prelude.{◌≡◌, ◌+◌, ◌-◌, ◌≤◌, ◌++◌, take, drop, reverse, vec_len, vec_capacity, OnOk};
+ghost use Rattle.oai_blocks.specs.Naming.{KeepsRoom};
 
 use std::alloc::AllocError;
 use std::mem;
@@ -34,8 +35,7 @@ pub(crate) fn exchange<T: Drop>(items: &mut Vec<T>, at: usize, len: usize, other
     ensures others { others.new.items ≡ take len (drop at items.old.items) }
     ensures len { vec_len items.new + len ≡ vec_len items.old + vec_len others.old }
     ensures others_len { vec_len others.new ≡ len }
-    ensures capacity { vec_capacity items.old ≤ vec_capacity items.new }
-    ensures others_capacity { vec_capacity others.old ≤ vec_capacity others.new }
+    ensures capacity { KeepsRoom items.old items.new others.old others.new }
 {
     let count = others.len();
     let both = count.min(len);
@@ -75,13 +75,11 @@ fn move_in<T: Drop>(items: &mut Vec<T>, at: usize, others: &mut Vec<T>, from: us
     ensures others { others.new.items ≡ take from others.old.items }
     ensures len { vec_len items.new ≡ vec_len items.old + (vec_len others.old - from) }
     ensures others_len { vec_len others.new ≡ from }
-    ensures capacity { vec_capacity items.old ≤ vec_capacity items.new }
-    ensures others_capacity { vec_capacity others.old ≤ vec_capacity others.new }
+    ensures capacity { KeepsRoom items.old items.new others.old others.new }
 {
-    'others: while others.len() > from {
-        let item = others.remove(others.len() - 1);
-        items.insert(at, item).unwrap();
-    }
+    let behind = items.len() - at;
+    move_last(others, from, items);
+    rotate_from(items, at, behind);
 }
 
 /// Removes `count` elements from `at` on, and appends them to the others.
@@ -95,8 +93,47 @@ fn move_out<T: Drop>(items: &mut Vec<T>, at: usize, count: usize, others: &mut V
     ensures capacity { vec_capacity items.old ≤ vec_capacity items.new }
     ensures others_capacity { vec_capacity others.old ≤ vec_capacity others.new }
 {
-    'moved: for i in 0..count {
-        let item = items.remove(at);
-        others.push(item).unwrap();
+    rotate_from(items, at, count);
+    let left = items.len() - count;
+    move_last(items, left, others);
+}
+
+/// Moves the elements from `from` on to the end of the others, in O(how many they are).
+pub(crate) fn move_last<T: Drop>(items: &mut Vec<T>, from: usize, others: &mut Vec<T>)
+    requires within { from ≤ vec_len items.old }
+    requires room { vec_len others.old + (vec_len items.old - from) ≤ vec_capacity others.old }
+    ensures items { items.new.items ≡ take from items.old.items }
+    ensures others { others.new.items ≡ others.old.items ++ drop from items.old.items }
+    ensures len { vec_len items.new ≡ from }
+    ensures others_len { vec_len others.new ≡ vec_len others.old + (vec_len items.old - from) }
+    ensures capacity { vec_capacity items.new ≡ vec_capacity items.old }
+    ensures others_capacity { vec_capacity others.new ≡ vec_capacity others.old }
+{
+    let start = others.len();
+    'moved: while items.len() > from {
+        let item = items.take_last();
+        others.push_reserved(item);
     }
+    reverse_from(others, start);
+}
+
+/// Reverses the order of the elements from `at` on.
+fn reverse_from<T: Drop>(items: &mut Vec<T>, at: usize)
+    requires within { at ≤ vec_len items.old }
+    ensures items { items.new.items ≡ take at items.old.items ++ reverse (drop at items.old.items) }
+    ensures len { vec_len items.new ≡ vec_len items.old }
+    ensures capacity { vec_capacity items.new ≡ vec_capacity items.old }
+{
+    items[at..].reverse();
+}
+
+/// Moves the `count` elements from `at` on behind all others, in O(elements from `at` on). It allocates nothing.
+fn rotate_from<T: Drop>(items: &mut Vec<T>, at: usize, count: usize)
+    requires within { at + count ≤ vec_len items.old }
+    ensures items { items.new.items
+        ≡ take at items.old.items ++ (drop (at + count) items.old.items ++ take count (drop at items.old.items)) }
+    ensures len { vec_len items.new ≡ vec_len items.old }
+    ensures capacity { vec_capacity items.new ≡ vec_capacity items.old }
+{
+    items[at..].rotate_left(count);
 }

@@ -3,8 +3,13 @@
 #![tactic(auto)]
 
 mod blocks;
+mod elements;
 mod exchanges;
 mod lines;
+mod searches;
 mod shelves;
+mod sizes;
 
 pub use lines::BlockLines;
+pub use searches::BlockPlace;
+pub use sizes::{MAX_BLOCK, MAX_JOINED};

@@ -1,23 +1,24 @@
 //! Lines of elements in blocks that they share.
-ghost use Rattle.std.specs.Prelude.{◌≡◌, ◌==◌, ◌+◌, ◌-◌, ◌<◌, ◌≤◌, ℕ, [], None, Some, IsSome, IfErr, IfOk, IfSome, OnErr, OnOk, drop, vec_capacity, vec_len, length, not, slice_set, sum_by, take};
+ghost use Rattle.std.specs.Prelude.{◌≡◌, ◌≢◌, ◌==◌, ◌+◌, ◌-◌, ◌<◌, ◌≤◌, ℕ, [], None, Some, IsFalse, IsSome, IfErr, IfOk, IfSome, OnErr, OnOk, drop, vec_capacity, vec_len, length, not, slice_set, sum_by, take};
 ghost use Rattle.std.specs.List.{insert, remove};
 ghost use Rattle.slab.specs.Slab.{slab_len};
 ghost use Rattle.oai_blocks.specs.Blocks.{AreBlocked, items_at, items_out, names_at};
-ghost use Rattle.oai_blocks.specs.Calls.{IsLineSet, listed, place_of, spliced};
+ghost use Rattle.oai_blocks.specs.Calls.{IsLineSet, cut_at, joined_at, listed, place_of, spliced};
 ghost use Rattle.oai_blocks.specs.Props.{blocked_props};
 
 use crate::blocks::{Block, Line};
 use crate::shelves::{
-    drop_name, exchange_items, insert_number, name_all, remove_number, reserve_items, reserve_line,
-    set_number,
+    cut_items, drop_name, exchange_items, insert_number, name_all, number_for, remove_number,
+    reserve_items, reserve_line, reserve_more, set_number,
 };
 use slab::Slab;
 use std::alloc::{AllocError, Global};
 
-/// Lines of elements, each kept as blocks that it may share with other lines.
+/// Lines of elements, each kept as blocks that it may share with other lines. There are at most 4,294,967,296 blocks: a
+/// call that needs one more fails as if memory ran out.
 #[derive(Drop)]
 pub struct BlockLines<T> {
-    alloc: Global,
+    pub(crate) alloc: Global,
     blocks: Slab<Block<T>>,
     lines: Slab<Line>,
     /// The lines that were dropped, and still have references to blocks.
@@ -27,7 +28,7 @@ pub struct BlockLines<T> {
 }
 
 impl<T: Drop> BlockLines<T> {
-    ghost use Rattle.oai_blocks.specs.Store.{HasBlock, KeepsLines, KeepsSharing, SetsLine, block_of, line_at, lines_of, names_of, number_of, room_of, steps_left, weight_of};
+    ghost use Rattle.oai_blocks.specs.Store.{CanExchange, CanJoin, HasBlock, KeepsLines, KeepsSharing, SetsLine, block_of, line_at, lines_of, names_of, number_of, room_of, steps_left, weight_of};
 
     /// No lines. Allocates nothing.
     pub fn new(alloc: Global) -> BlockLines<T>
@@ -95,10 +96,11 @@ impl<T: Drop> BlockLines<T> {
         block.items.as_slice()
     }
 
-    /// Whether no other line names the block at `j` of the line.
+    /// Whether no other line names the block at `j` of the line, one that was dropped and waits included.
     pub fn is_own(&self, v: usize, j: usize) -> bool
         requires { HasBlock self.now v j }
-        ensures { result ≡ (names_of self.now v j == 1) }
+        ensures own { result ≡ (names_of self.now v j == 1) }
+        ensures shared { IsFalse result → 1 < names_of self.now v j }
     {
         let number = self.number_of(v, j);
         let Some(block) = self.blocks.get(number) else {
@@ -117,7 +119,7 @@ impl<T: Drop> BlockLines<T> {
         let Some(line) = self.lines.get(v) else {
             unreachable!()
         };
-        line.numbers[j]
+        line.numbers[j] as usize
     }
 
     /// Puts a block of the elements in before the one at `j` of the line. If memory runs out, hands them back; nothing
@@ -133,7 +135,9 @@ impl<T: Drop> BlockLines<T> {
         if self.blocks.reserve(1).is_err() {
             return Err(items);
         }
-        let number = self.blocks.vacant_key();
+        let Ok(number) = number_for(self.blocks.vacant_key()) else {
+            return Err(items);
+        };
         if insert_number(&mut self.lines, v, j, number).is_err() {
             return Err(items);
         }
@@ -147,6 +151,7 @@ impl<T: Drop> BlockLines<T> {
         ensures line { SetsLine v (Some (remove (line_at self.old v) j)) [] (items_out result) self.old self.new }
         ensures out { IfSome result (λ out. out.items ≡ block_of self.old v j) }
         ensures last { (names_of self.old v j ≡ 1) → IsSome result }
+        ensures before { (k : ℕ) → k < j → names_of self.new v k ≡ names_of self.old v k }
     {
         let number = remove_number(&mut self.lines, v, j);
         drop_name(&mut self.blocks, number)
@@ -160,6 +165,7 @@ impl<T: Drop> BlockLines<T> {
         ensures line { OnOk result (SetsLine v (Some (slice_set (line_at self.old v) j copies.items)) copies.items [] self.old self.new) }
         ensures own { OnOk result (names_of self.new v j ≡ 1) }
         ensures room { OnOk result (room_of self.new v j ≡ vec_capacity copies) }
+        ensures others { OnOk result ((k : ℕ) → HasBlock self.old v k → k ≢ j → names_of self.new v k ≡ names_of self.old v k) }
         ensures back { IfErr result (λ back. back ≡ copies) }
         ensures err { OnErr result (KeepsLines self.old self.new) }
     {
@@ -167,8 +173,11 @@ impl<T: Drop> BlockLines<T> {
         if self.blocks.reserve(1).is_err() {
             return Err(copies);
         }
+        let Ok(own) = number_for(self.blocks.vacant_key()) else {
+            return Err(copies);
+        };
         drop_name(&mut self.blocks, shared);
-        let own = self.blocks.insert_reserved(Block {
+        self.blocks.insert_reserved(Block {
             items: copies,
             names: 1,
         });
@@ -198,11 +207,7 @@ impl<T: Drop> BlockLines<T> {
     /// Swaps `len` elements of the block at `j` of the line, from `i` on, for the others, which are the old ones then. It
     /// allocates nothing and cannot fail.
     pub fn exchange(&mut self, v: usize, j: usize, i: usize, len: usize, others: &mut Vec<T>)
-        requires block { HasBlock self.old v j }
-        requires own { names_of self.old v j ≡ 1 }
-        requires within { i + len ≤ length (block_of self.old v j) }
-        requires room { length (block_of self.old v j) + vec_len others.old ≤ room_of self.old v j }
-        requires back { vec_len others.old + len ≤ vec_capacity others.old }
+        requires { CanExchange v j i len others.old self.old }
         ensures line { SetsLine v (Some (slice_set (line_at self.old v) j (spliced i len others.old.items (block_of self.old v j)))) others.old.items others.new.items self.old self.new }
         ensures list { listed (line_at self.new v) ≡ spliced (place_of (line_at self.old v) j i) len others.old.items (listed (line_at self.old v)) }
         ensures gone { others.new.items ≡ take len (drop i (block_of self.old v j)) }
@@ -211,6 +216,66 @@ impl<T: Drop> BlockLines<T> {
     {
         let number = self.number_of(v, j);
         exchange_items(&mut self.blocks, number, i, len, others);
+    }
+
+    /// Reserves the space for that many more elements in the block at `j` of the line. The error is out of memory.
+    pub fn reserve_more(&mut self, v: usize, j: usize, more: usize) -> Result<(), AllocError>
+        requires { HasBlock self.old v j }
+        ensures keeps { KeepsLines self.old self.new }
+        ensures room { OnOk result (length (block_of self.old v j) + more ≤ room_of self.new v j) }
+    {
+        let number = self.number_of(v, j);
+        reserve_more(&mut self.blocks, number, more)
+    }
+
+    /// Cuts the block at `j` of the line, which no other line names, in two before its element at `i`. The error is out
+    /// of memory; nothing has changed then.
+    pub fn cut(&mut self, v: usize, j: usize, i: usize) -> Result<(), AllocError>
+        requires block { HasBlock self.old v j }
+        requires own { names_of self.old v j ≡ 1 }
+        requires within { i ≤ length (block_of self.old v j) }
+        ensures line { OnOk result (SetsLine v (Some (cut_at (line_at self.old v) j i)) [] [] self.old self.new) }
+        ensures list { OnOk result (listed (line_at self.new v) ≡ listed (line_at self.old v)) }
+        ensures names { OnOk result ((names_of self.new v j ≡ 1) × (names_of self.new v (j + 1) ≡ 1)) }
+        ensures err { OnErr result (KeepsLines self.old self.new) }
+    {
+        let number = self.number_of(v, j);
+        let _count = self.len(v);
+        let more = self.block(v, j).len() - i;
+        let mut tail = Vec::with_capacity(self.alloc, more)?;
+        self.blocks.reserve(1)?;
+        let next = number_for(self.blocks.vacant_key())?;
+        if insert_number(&mut self.lines, v, j + 1, next).is_err() {
+            return Err(AllocError);
+        }
+        cut_items(&mut self.blocks, number, i, &mut tail);
+        self.blocks.insert_reserved(Block {
+            items: tail,
+            names: 1,
+        });
+        Ok(())
+    }
+
+    /// Moves the elements of the block behind the one at `j` of the line to its end. No other line names either. The
+    /// error is out of memory; nothing has changed then.
+    pub fn join(&mut self, v: usize, j: usize) -> Result<(), AllocError>
+        requires { CanJoin v j self.old }
+        ensures line { OnOk result (SetsLine v (Some (joined_at (line_at self.old v) j)) [] [] self.old self.new) }
+        ensures list { OnOk result (listed (line_at self.new v) ≡ listed (line_at self.old v)) }
+        ensures names { OnOk result (names_of self.new v j ≡ 1) }
+        ensures err { OnErr result (KeepsLines self.old self.new) }
+    {
+        let _count = self.len(v);
+        let next = j + 1;
+        let len = self.block(v, j).len();
+        let more = self.block(v, next).len();
+        let mut others = Vec::new(self.alloc);
+        self.reserve(v, next, &mut others, more)?;
+        self.reserve_more(v, j, more)?;
+        self.exchange(v, next, 0, more, &mut others);
+        self.exchange(v, j, len, 0, &mut others);
+        self.take_out(v, next);
+        Ok(())
     }
 
     /// Drops the line. It keeps its references to blocks until `release` has dropped them.
@@ -238,7 +303,7 @@ impl<T: Drop> BlockLines<T> {
             return None;
         };
         self.waiting.push_reserved(line);
-        drop_name(&mut self.blocks, number)
+        drop_name(&mut self.blocks, number as usize)
     }
 
     /// Whether a step is left for the lines that were dropped.

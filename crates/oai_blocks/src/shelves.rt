@@ -1,5 +1,5 @@
 //! Steps on blocks, and on the numbers of lines.
-ghost use Rattle.std.specs.Prelude.{◌≡◌, ◌+◌, ◌^◌, ◌<◌, ◌≤◌, ℕ, [], ◌∷◌, Some, IfSome, IsSome, OnErr, OnOk, drop, length, slice_index_or, slice_set, take, vec_capacity, vec_len};
+ghost use Rattle.std.specs.Prelude.{◌≡◌, ◌+◌, ◌^◌, ◌<◌, ◌≤◌, ℕ, [], ◌∷◌, ◌++◌, Some, IfOk, IfSome, IsOk, IsSome, OnErr, OnOk, drop, length, slice_index_or, slice_set, take, vec_capacity, vec_len};
 ghost use Rattle.std.specs.List.{insert, remove};
 ghost use Rattle.slab.specs.Slab.{HasRoomFor, slab_len};
 ghost use Rattle.oai_blocks.specs.Blocks.{items_at, items_out, names_at, numbers_at, numbers_in, room_at, times_named};
@@ -7,7 +7,7 @@ ghost use Rattle.oai_blocks.specs.Calls.{spliced};
 ghost use Rattle.oai_blocks.specs.Naming.{Alters, IsSlotSet, Turns};
 
 use crate::blocks::{Block, Line};
-use crate::exchanges::{exchange, reserve};
+use crate::exchanges::{exchange, move_last, reserve};
 use slab::Slab;
 use std::alloc::AllocError;
 
@@ -24,14 +24,14 @@ pub(crate) fn name_again<T: Drop>(blocks: &mut Slab<Block<T>>, number: usize)
 }
 
 /// One line more names each of the blocks.
-pub(crate) fn name_all<T: Drop>(blocks: &mut Slab<Block<T>>, numbers: &[usize])
+pub(crate) fn name_all<T: Drop>(blocks: &mut Slab<Block<T>>, numbers: &[u32])
     requires stand { (b : ℕ) → 0 < times_named b numbers.now → 0 < names_at blocks.old.slots b }
     requires few { (b : ℕ) → names_at blocks.old.slots b + 1 < 2 ^ 64 }
     requires once { (b : ℕ) → times_named b numbers.now ≤ 1 }
     ensures { Turns [] numbers.now [] [] blocks.old.slots blocks.new.slots }
 {
     'named: for at in 0..numbers.len() {
-        name_again(blocks, numbers[at]);
+        name_again(blocks, numbers[at] as usize);
     }
 }
 
@@ -44,6 +44,7 @@ pub(crate) fn drop_name<T: Drop>(blocks: &mut Slab<Block<T>>, number: usize) -> 
     ensures none { 1 < names_at blocks.old.slots number → items_out result ≡ [] }
     ensures shared { 1 < names_at blocks.old.slots number → slab_len blocks.new ≡ slab_len blocks.old }
     ensures capacity { blocks.new.capacity ≡ blocks.old.capacity }
+    ensures vacant { 1 < names_at blocks.old.slots number → blocks.new.vacant_key ≡ blocks.old.vacant_key }
 {
     let Some(block) = blocks.get_mut(number) else {
         unreachable!()
@@ -55,8 +56,20 @@ pub(crate) fn drop_name<T: Drop>(blocks: &mut Slab<Block<T>>, number: usize) -> 
     Some(blocks.remove(number).items)
 }
 
+/// The number of the block at the key: 32 bits. The error is that they do not suffice, where there are 4,294,967,296
+/// blocks.
+pub(crate) fn number_for(key: usize) -> Result<u32, AllocError>
+    ensures number { IfOk result (λ number. number ≡ key) }
+    ensures succeeds { key < 2 ^ 32 → IsOk result }
+{
+    if key > u32::MAX as usize {
+        return Err(AllocError);
+    }
+    Ok(key as u32)
+}
+
 /// Puts the number in place of the one at `at`.
-pub(crate) fn set_number(lines: &mut Slab<Line>, v: usize, at: usize, number: usize)
+pub(crate) fn set_number(lines: &mut Slab<Line>, v: usize, at: usize, number: u32)
     requires within { at < length (numbers_in (numbers_at lines.old.slots v)) }
     ensures set { IsSlotSet v (Some (slice_set (numbers_in (numbers_at lines.old.slots v)) at number)) lines.old.slots lines.new.slots }
     ensures len { slab_len lines.new ≡ slab_len lines.old }
@@ -72,7 +85,7 @@ pub(crate) fn insert_number(
     lines: &mut Slab<Line>,
     v: usize,
     at: usize,
-    number: usize,
+    number: u32,
 ) -> Result<(), AllocError>
     requires stands { IsSome (numbers_at lines.old.slots v) }
     requires within { at ≤ length (numbers_in (numbers_at lines.old.slots v)) }
@@ -97,7 +110,7 @@ pub(crate) fn remove_number(lines: &mut Slab<Line>, v: usize, at: usize) -> usiz
     let Some(line) = lines.get_mut(v) else {
         unreachable!()
     };
-    line.numbers.remove(at)
+    line.numbers.remove(at) as usize
 }
 
 /// Reserves the space for one line more, in use or dropped. The error is out of memory.
@@ -138,6 +151,44 @@ pub(crate) fn reserve_items<T: Drop>(
         unreachable!()
     };
     reserve(&mut block.items, others, back)
+}
+
+/// Reserves the space for that many more elements in the block. The error is out of memory.
+pub(crate) fn reserve_more<T: Drop>(
+    blocks: &mut Slab<Block<T>>,
+    number: usize,
+    more: usize,
+) -> Result<(), AllocError>
+    requires { 0 < names_at blocks.old.slots number }
+    ensures alters { Alters number (items_at blocks.old.slots number) blocks.old.slots blocks.new.slots }
+    ensures room { OnOk result (length (items_at blocks.old.slots number) + more ≤ room_at blocks.new.slots number) }
+{
+    let Some(block) = blocks.get_mut(number) else {
+        unreachable!()
+    };
+    block.items.reserve(more)
+}
+
+/// Moves the elements of the block from `at` on to the tail.
+pub(crate) fn cut_items<T: Drop>(
+    blocks: &mut Slab<Block<T>>,
+    number: usize,
+    at: usize,
+    tail: &mut Vec<T>,
+)
+    requires stands { 0 < names_at blocks.old.slots number }
+    requires within { at ≤ length (items_at blocks.old.slots number) }
+    requires room { vec_len tail.old + length (items_at blocks.old.slots number) ≤ at + vec_capacity tail.old }
+    ensures alters { Alters number (take at (items_at blocks.old.slots number)) blocks.old.slots blocks.new.slots }
+    ensures tail { tail.new.items ≡ tail.old.items ++ drop at (items_at blocks.old.slots number) }
+    ensures len { slab_len blocks.new ≡ slab_len blocks.old }
+    ensures capacity { blocks.new.capacity ≡ blocks.old.capacity }
+    ensures vacant { blocks.new.vacant_key ≡ blocks.old.vacant_key }
+{
+    let Some(block) = blocks.get_mut(number) else {
+        unreachable!()
+    };
+    move_last(&mut block.items, at, tail);
 }
 
 /// Swaps `len` elements of the block from `at` on for the others, which are the old ones then.

@@ -1,4 +1,4 @@
-use Rattle.std.proofs.Common.{◌≡◌, ◌∙◌, ◌+◌, ◌∷◌, List, [], Some, sym, ap, subst, arith}
+use Rattle.std.proofs.Common.{◌≡◌, ◌∙◌, ◌∷◌, List, [], Some, sym, ap, subst, arith}
 use Rattle.oai_blocks.specs.Blocks.{BlockState, block_at, items_in, names_at, names_in}
 use Rattle.oai_blocks.specs.Naming.{Turns}
 use Rattle.oai_blocks.proofs.ShelfLemmas.{named_last, named_less, set_is}

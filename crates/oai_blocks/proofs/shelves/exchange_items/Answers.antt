@@ -1,6 +1,6 @@
-use Rattle.std.proofs.Common.{◌≡◌, ◌∙◌, ◌+◌, ◌≤◌, ◌<◌, List, Some, length, ap, drop, take, sym, subst, arith}
+use Rattle.std.proofs.Common.{◌≡◌, ◌∙◌, List, Some, length, ap, drop, take, sym, arith}
 use Rattle.std.specs.Prelude.{vec_capacity, vec_len}
-use Rattle.oai_blocks.specs.Blocks.{BlockState, block_at, items_at, items_in, names_in, room_at, room_in}
+use Rattle.oai_blocks.specs.Blocks.{BlockState, block_at, items_at, items_in, room_at, room_in}
 use Rattle.oai_blocks.specs.Calls.{spliced}
 use Rattle.oai_blocks.proofs.ShelfLemmas.{alters_set}
 use Rattle.oai_blocks.proofs.shelves.exchange_items.Goals as goal
@@ -45,7 +45,7 @@ returns-clause-alters g c =
     let room_is : room_at old k ≡ was.room = ap room_in stood in
     let long : length c.block.inside.items.items ≡ length (items_at old k) = ap (λ (l : List g.row.T.Denot). length l) items in
     let len : vec_len c.block.inside.items ≡ length c.block.inside.items.items = c.block.inside.items.ok.0 in
-    alters_set old k was _ _ stood (c.exchange.ensures.items ∙ ap (λ (l : List g.row.T.Denot). spliced c.args.at c.args.len c.args.others.now.items l) items) names (omega (arith, room, c.exchange.ensures.capacity))
+    alters_set old k was _ _ stood (c.exchange.ensures.items ∙ ap (λ (l : List g.row.T.Denot). spliced c.args.at c.args.len c.args.others.now.items l) items) names (omega (arith, room, c.exchange.ensures.capacity.items))
 
 pub returns-clause-gone : goal.returns-clause-gone
 returns-clause-gone g c =

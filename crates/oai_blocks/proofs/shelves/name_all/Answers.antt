@@ -1,4 +1,4 @@
-use Rattle.std.proofs.Common.{◌≡◌, ◌+◌, refl, arith, get_or}
+use Rattle.std.proofs.Common.{◌+◌, refl, arith, get_or}
 use Rattle.oai_blocks.proofs.ShelfLemmas.{turns_more}
 use Rattle.oai_blocks.proofs.TimesLemmas.{times-more, times-nil, times-same, times-take, times-within}
 use Rattle.oai_blocks.proofs.shelves.name_all.Goals as goal

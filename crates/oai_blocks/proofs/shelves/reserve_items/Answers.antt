@@ -1,6 +1,6 @@
-use Rattle.std.proofs.Common.{◌≡◌, ◌∙◌, ◌+◌, ◌≤◌, ◌<◌, List, Some, length, ap, drop, take, sym, subst, arith}
+use Rattle.std.proofs.Common.{◌≡◌, ◌∙◌, List, Some, length, ap, sym, arith}
 use Rattle.std.specs.Prelude.{vec_capacity, vec_len}
-use Rattle.oai_blocks.specs.Blocks.{BlockState, block_at, items_at, items_in, names_in, room_at, room_in}
+use Rattle.oai_blocks.specs.Blocks.{BlockState, block_at, items_at, items_in, room_at, room_in}
 use Rattle.oai_blocks.proofs.ShelfLemmas.{alters_set}
 use Rattle.oai_blocks.proofs.shelves.reserve_items.Goals as goal
 

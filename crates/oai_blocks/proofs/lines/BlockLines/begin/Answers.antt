@@ -1,6 +1,4 @@
-use Rattle.std.proofs.Common.{List, [], refl, arith, ap, sym, subst}
-use Rattle.oai_blocks.specs.Blocks.{AreBlocked, blocks_of}
-use Rattle.oai_blocks.specs.Naming.{IsSlotSet}
+use Rattle.std.proofs.Common.{[], refl, arith}
 use Rattle.oai_blocks.proofs.LineLemmas.{begun}
 use Rattle.oai_blocks.proofs.ShelfLemmas.{turns_none, updated, vacant_in}
 use Rattle.oai_blocks.proofs.TimesLemmas.{times-nil}

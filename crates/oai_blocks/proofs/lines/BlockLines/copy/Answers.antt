@@ -1,6 +1,6 @@
-use Rattle.std.proofs.Common.{◌≡◌, ◌∙◌, ◌+◌, ◌≤◌, ◌<◌, ℕ, List, [], ◌∷◌, Option, Some, length, refl, arith, ap, subst, sym}
-use Rattle.std.specs.Prelude.{count_by, is_some, vec_len}
-use Rattle.oai_blocks.specs.Blocks.{names_at, numbers_at, steps_for, times_named, times_in}
+use Rattle.std.proofs.Common.{◌≡◌, ◌∙◌, ℕ, List, Option, Some, refl, arith, ap, subst, sym}
+use Rattle.std.specs.Prelude.{count_by, is_some}
+use Rattle.oai_blocks.specs.Blocks.{numbers_at, steps_for, times_named, times_in}
 use Rattle.oai_blocks.specs.Naming.{IsSlotSet}
 use Rattle.oai_blocks.proofs.LineLemmas.{copied, named_at}
 use Rattle.oai_blocks.proofs.ShelfLemmas.{updated, vacant_in}

@@ -1,5 +1,4 @@
-use Rattle.std.proofs.Common.{◌≡◌, ◌∙◌, ◌+◌, Some, ap, sym, refl, arith}
-use Rattle.oai_blocks.specs.Naming.{IsSlotSet}
+use Rattle.std.proofs.Common.{refl, arith}
 use Rattle.oai_blocks.proofs.LineLemmas.{line_length}
 use Rattle.oai_blocks.proofs.ShelfLemmas.{updated}
 use Rattle.oai_blocks.proofs.WaitingLemmas.{gone_blocked, gone_lines, steps-push}

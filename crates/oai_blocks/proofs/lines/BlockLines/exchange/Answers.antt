@@ -1,5 +1,5 @@
-use Rattle.std.proofs.Common.{◌≡◌, ◌∙◌, ◌+◌, ◌≤◌, ◌<◌, List, [], Option, length, ap, drop, take, refl, sym, subst, arith}
-use Rattle.oai_blocks.specs.Blocks.{items_at, lines_on, names_at, room_at}
+use Rattle.std.proofs.Common.{◌≡◌, ◌∙◌, List, [], Option, length, ap, drop, take, refl, arith}
+use Rattle.oai_blocks.specs.Blocks.{items_at, lines_on, room_at}
 use Rattle.std.specs.Prelude.{unwrap_or}
 use Rattle.oai_blocks.specs.Calls.{listed}
 use Rattle.oai_blocks.proofs.ListedLemmas.{listed_spliced}

@@ -1,5 +1,5 @@
-use Rattle.std.proofs.Common.{◌≡◌, ◌∙◌, ap, sym}
-use Rattle.std.specs.Prelude.{not, ◌==◌, length}
+use Rattle.std.proofs.Common.{◌∙◌, ap}
+use Rattle.std.specs.Prelude.{not, ◌==◌}
 use Rattle.oai_blocks.proofs.LineLemmas.{steps-none}
 use Rattle.oai_blocks.proofs.lines.BlockLines.is_waiting.Goals as goal
 

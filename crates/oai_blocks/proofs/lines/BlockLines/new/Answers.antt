@@ -1,7 +1,6 @@
-use Rattle.std.proofs.Common.{◌≡◌, ◌<◌, ◌≤◌, ℕ, zero, suc, [], None, Some, refl, sym, subst, ◌∙◌, ap, arith}
-use Rattle.std.proofs.lemmas.Option.{none-some}
-use Rattle.oai_blocks.specs.Blocks.{AreBlocked, BlockState, named_by, times_named, steps_for, weight}
-use Rattle.oai_blocks.proofs.FrameLemmas.{blocked_none, turned}
+use Rattle.std.proofs.Common.{refl}
+use Rattle.oai_blocks.specs.Blocks.{steps_for, weight}
+use Rattle.oai_blocks.proofs.FrameLemmas.{blocked_none}
 use Rattle.oai_blocks.proofs.lines.BlockLines.new.Goals as goal
 
 pub invariant_of-result-clause-blocked : goal.invariant_of-result-clause-blocked

@@ -1,9 +1,8 @@
-use Rattle.std.proofs.Common.{◌≡◌, ◌∙◌, ◌+◌, ◌≤◌, ◌<◌, List, [], ◌∷◌, None, Some, refl, arith, ap, subst, sym}
-use Rattle.std.specs.Prelude.{slice_set, unwrap_or}
+use Rattle.std.proofs.Common.{◌≡◌, ◌∙◌, None, refl, arith, ap, subst, sym}
 use Rattle.std.specs.List.{insert}
 use Rattle.std.proofs.lemmas.List.Edits.{get_or-insert_at}
-use Rattle.oai_blocks.specs.Blocks.{AreBlocked, Shelf, blocks_of, items_in, names_at, names_in, numbers_at}
-use Rattle.oai_blocks.specs.Naming.{IsSlotSet, Turns}
+use Rattle.oai_blocks.specs.Blocks.{items_in, names_at, names_in, numbers_at}
+use Rattle.slab.specs.Slab.{get}
 use Rattle.oai_blocks.proofs.LineLemmas.{in_use, line_is, line_length, number_in, number_now, put, unset}
 use Rattle.oai_blocks.proofs.ShelfLemmas.{named_first, not_err, updated, vacant_in, was_err}
 use Rattle.oai_blocks.proofs.lines.BlockLines.put_in.Goals as goal
@@ -18,10 +17,11 @@ invariant_of-self-then-is_err-2-clause-blocked g c =
 pub invariant_of-self-2-clause-blocked : goal.invariant_of-self-2-clause-blocked
 invariant_of-self-2-clause-blocked g c =
     let self = c.args.self.now in
-    let k = c.vacant_key-number.result in
+    let k = c.in-Ok.number in
+    let is : k ≡ c.vacant_key.result = c.in-Ok.ensures.number in
     let same : c.reserve.new.self.slots ≡ self.blocks.slots = ap (λ s. s.slots) c.reserve.ensures.rest_kept in
-    let key : c.insert_reserved.result ≡ k = c.insert_reserved.ensures.key ∙ sym c.vacant_key-number.ensures.value in
-    let vacant = vacant_in self.blocks c.reserve.new.self k same c.vacant_key-number.ensures.vacant in
+    let key : c.insert_reserved.result ≡ k = c.insert_reserved.ensures.key ∙ sym c.vacant_key.ensures.value ∙ sym is in
+    let vacant = vacant_in self.blocks c.reserve.new.self k same (subst (λ x. get c.reserve.new.self x ≡ None) (sym is) c.vacant_key.ensures.vacant) in
     let set = updated self.blocks c.reserve.new.self c.insert_reserved.new.self k c.insert_reserved.result _ same key c.insert_reserved.ensures.updates in
     let turns = named_first self.blocks.slots c.insert_reserved.new.self.slots k _ vacant refl set in
     let numbers = in_use self.blocks.slots (numbers_at self.lines.slots c.args.v) c.requires.stands in
@@ -33,10 +33,11 @@ invariant_of-self-2-clause-blocked g c =
 pub returns-clause-line : goal.returns-clause-line
 returns-clause-line g c =
     let self = c.args.self.now in
-    let k = c.vacant_key-number.result in
+    let k = c.in-Ok.number in
+    let is : k ≡ c.vacant_key.result = c.in-Ok.ensures.number in
     let same : c.reserve.new.self.slots ≡ self.blocks.slots = ap (λ s. s.slots) c.reserve.ensures.rest_kept in
-    let key : c.insert_reserved.result ≡ k = c.insert_reserved.ensures.key ∙ sym c.vacant_key-number.ensures.value in
-    let vacant = vacant_in self.blocks c.reserve.new.self k same c.vacant_key-number.ensures.vacant in
+    let key : c.insert_reserved.result ≡ k = c.insert_reserved.ensures.key ∙ sym c.vacant_key.ensures.value ∙ sym is in
+    let vacant = vacant_in self.blocks c.reserve.new.self k same (subst (λ x. get c.reserve.new.self x ≡ None) (sym is) c.vacant_key.ensures.vacant) in
     let set = updated self.blocks c.reserve.new.self c.insert_reserved.new.self k c.insert_reserved.result _ same key c.insert_reserved.ensures.updates in
     let turns = named_first self.blocks.slots c.insert_reserved.new.self.slots k _ vacant refl set in
     let numbers = in_use self.blocks.slots (numbers_at self.lines.slots c.args.v) c.requires.stands in
@@ -54,10 +55,11 @@ returns-clause-line g c =
 pub returns-clause-own : goal.returns-clause-own
 returns-clause-own g c =
     let self = c.args.self.now in
-    let k = c.vacant_key-number.result in
+    let k = c.in-Ok.number in
+    let is : k ≡ c.vacant_key.result = c.in-Ok.ensures.number in
     let same : c.reserve.new.self.slots ≡ self.blocks.slots = ap (λ s. s.slots) c.reserve.ensures.rest_kept in
-    let key : c.insert_reserved.result ≡ k = c.insert_reserved.ensures.key ∙ sym c.vacant_key-number.ensures.value in
-    let vacant = vacant_in self.blocks c.reserve.new.self k same c.vacant_key-number.ensures.vacant in
+    let key : c.insert_reserved.result ≡ k = c.insert_reserved.ensures.key ∙ sym c.vacant_key.ensures.value ∙ sym is in
+    let vacant = vacant_in self.blocks c.reserve.new.self k same (subst (λ x. get c.reserve.new.self x ≡ None) (sym is) c.vacant_key.ensures.vacant) in
     let set = updated self.blocks c.reserve.new.self c.insert_reserved.new.self k c.insert_reserved.result _ same key c.insert_reserved.ensures.updates in
     let turns = named_first self.blocks.slots c.insert_reserved.new.self.slots k _ vacant refl set in
     let numbers = in_use self.blocks.slots (numbers_at self.lines.slots c.args.v) c.requires.stands in

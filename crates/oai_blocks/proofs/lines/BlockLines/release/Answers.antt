@@ -1,4 +1,4 @@
-use Rattle.std.proofs.Common.{◌≡◌, ◌∙◌, ◌+◌, ◌-◌, ◌≤◌, ◌<◌, ℕ, List, [], ◌∷◌, ◌++◌, Some, None, length, refl, arith, ap, subst, sym}
+use Rattle.std.proofs.Common.{◌≡◌, ◌∙◌, ℕ, List, [], ◌∷◌, ◌++◌, length, refl, arith, ap, subst, sym}
 use Rattle.std.proofs.lemmas.List.{length-append, nil_from_length}
 use Rattle.oai_blocks.specs.Blocks.{AreBlocked, steps_for}
 use Rattle.oai_blocks.proofs.TimesLemmas.{times-same}

@@ -1,5 +1,5 @@
-use Rattle.std.proofs.Common.{◌≡◌, ◌∙◌, ◌+◌, ◌≤◌, ◌<◌, List, length, ap, refl, sym, subst, arith}
-use Rattle.oai_blocks.specs.Blocks.{items_at, names_at, room_at}
+use Rattle.std.proofs.Common.{◌≡◌, List, length, ap, refl, arith}
+use Rattle.oai_blocks.specs.Blocks.{items_at, room_at}
 use Rattle.oai_blocks.proofs.LineLemmas.{kept_blocked, number_in, same_lines}
 use Rattle.oai_blocks.proofs.ShelfLemmas.{altered_kept, altered_names, altered_room, altered_same, on_ok_after}
 use Rattle.oai_blocks.proofs.lines.BlockLines.reserve.Goals as goal
