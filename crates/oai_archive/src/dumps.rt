@@ -159,12 +159,14 @@ impl<W: Write> Sink for Lines<'_, W> {
 }
 
 impl<W: Write> Lines<'_, W> {
-    /// Writes the lines of a part.
+    /// Writes the lines of a part. A state whose lists have ended has no item that is gone.
     fn write_part(&mut self, part: &Part<'_>) -> Result<(), ServerStop> {
         match part.kind {
             PartKind::Begin => Ok(()),
             PartKind::Set => self.write_set(part.bytes),
             PartKind::Item => self.write_item(part.bytes),
+            PartKind::List => Ok(()),
+            PartKind::Gone => Err(ServerStop::NotOurs),
         }
     }
 

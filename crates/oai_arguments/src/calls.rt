@@ -62,7 +62,7 @@ pub struct Serving<'a> {
     pub keys: Option<&'a str>,
     /// The address that it listens at.
     pub address: IpAddr,
-    /// Whether it reports neither progress nor notes.
+    /// Whether it reports neither progress nor notices.
     pub is_quiet: bool,
 }
 

@@ -117,10 +117,10 @@ fn keys_file<'a>(alloc: Global) -> Arg<'a> {
     )
 }
 
-/// The option that leaves out notes.
+/// The option that leaves out notices.
 fn quiet<'a>(alloc: Global) -> Arg<'a> {
     Arg::new(alloc, "quiet")
         .long("quiet")
         .action(ArgAction::SetTrue)
-        .help("Write no progress and no notes on standard error, only faults and warnings")
+        .help("Write no progress and no notices on standard error, only faults and warnings")
 }

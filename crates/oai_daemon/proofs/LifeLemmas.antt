@@ -3,7 +3,7 @@ use Rattle.std.proofs.Common.{◌≡◌, ◌∙◌, inl, inr, ℕ, ℤ, Bool, If
 use Rattle.oai_host.specs.Hosts.{HostState, begun}
 use Rattle.oai_serving.specs.Accepted.{Known, PassesNone, known_of}
 use Rattle.oai_serving.specs.Rounds.{IsService, Settles, World}
-use Rattle.oai_serving.specs.Wrappers.{Wraps, behind}
+use Rattle.oai_serving.specs.Wrappers.{Wraps, world_behind}
 use Rattle.oai_serving.specs.declared.faults.ServeFault.{ServeFault}
 use Rattle.oai_journal.specs.declared.file.FileJournal.{FileJournal}
 use Rattle.oai_journal.specs.declared.journals.Journal as journal
@@ -120,9 +120,9 @@ module _ {W H : Type 0} (stays : W → Type 0) (inner : W → H) (outer_step : S
 served_behind : {S H : Type 0} (rings : List Ring) (step : Steps H) (settled : Settles H) (contents remaining : S → Option (List ℕ)) (handler : H) (guard : Guard H)
     (known later : Known S) (result : Result (Unit {0}) ServeFault) (new : World S (Guard H)) → guard.handler ≡ handler → guard.rings ≡ rings
     → HasServed (Watches (IsGuarded step)) (IsGuardSettled settled) contents remaining guard known later result new
-    → HasServed (Watches (Guards rings step)) settled contents remaining handler known later result (behind unguarded new)
+    → HasServed (Watches (Guards rings step)) settled contents remaining handler known later result (world_behind unguarded new)
 served_behind {S} {H} rings step settled contents remaining handler guard known later result new same keys life = record {
-  old = behind unguarded life.old;
+  old = world_behind unguarded life.old;
   handles = ap (λ (g : Guard H). g.handler) life.handles ∙ same;
   unlinked = life.unlinked;
   none = life.none;
@@ -138,7 +138,7 @@ pub resumed : {S H D : Type 0} (h : Replaying H) (j : journal.Ghosts (FileJourna
     → ((begun : h.Kept) (first : Entry) (entries : List Entry) → HasRedone h.kept h.is_honest h.leaving seen may_leave begun handler recovery first entries
     → IsHeld h j begun parts entries (length entries))
     → HasServed (Watches (IsGuarded (IsExchange h j))) (IsGuardSettled (IsSettled j)) contents remaining served known later result new
-    → HasResumed h j seen may_leave contents remaining handler recovery rings known later result (behind unguarded new)
+    → HasResumed h j seen may_leave contents remaining handler recovery rings known later result (world_behind unguarded new)
 resumed {S} {H} {D} h j seen may_leave contents remaining handler recovery rings known later result new parts guard served same keys watched begins life = record {
   parts = parts;
   begins = begins;
@@ -154,7 +154,7 @@ pub resumed_over : {S H D A E : Type 0} (h : Replaying H) (j : journal.Ghosts (F
     → ((begun : h.Kept) (first : Entry) (entries : List Entry) → HasRedone h.kept h.is_honest h.leaving seen may_leave begun handler recovery first entries
     → IsHeld h j begun parts entries (length entries))
     → IfOk result (λ (a : A). HasServed (Watches (IsGuarded (IsExchange h j))) (IsGuardSettled (IsSettled j)) contents remaining served known (later a) (ended a) (new a))
-    → IfOk result (λ (a : A). HasResumed h j seen may_leave contents remaining handler recovery rings known (later a) (ended a) (behind unguarded (new a)))
+    → IfOk result (λ (a : A). HasResumed h j seen may_leave contents remaining handler recovery rings known (later a) (ended a) (world_behind unguarded (new a)))
 resumed_over h j seen may_leave contents remaining handler recovery rings known later ended new parts guard served (Ok a) same keys watched begins life =
     resumed h j seen may_leave contents remaining handler recovery rings known (later a) (ended a) (new a) parts guard served same keys watched begins life
 resumed_over h j seen may_leave contents remaining handler recovery rings known later ended new parts guard served (Err e) same keys watched begins none = none

@@ -6,7 +6,7 @@ use Rattle.oai_config.specs.Configs.{HostConfig}
 use Rattle.oai_config.specs.Reading.{IsRead}
 use Rattle.oai_archive.specs.Firsts.{IsOf}
 use Rattle.oai_journal.specs.Files.{IsJournalFile}
-use Rattle.oai_journal.specs.Kept.{HoldsRecords}
+use Rattle.oai_journal.specs.Kept.{HoldsRecords, disk_in}
 use Rattle.oai_journal.specs.Records.{Entry}
 use Rattle.oai_journal.specs.declared.file.FileJournal.{FileJournal}
 use Rattle.oai_journal.specs.Recovered.{disk_of}
@@ -30,7 +30,7 @@ renewed_over R came origin (Err e) renewed nothing = nothing
 -- a crash leaves all records of a checkpoint, and no others
 pub checkpoint_left : {K D : Type 0} (s : Saving K) (seen : D → List ℕ) (may_leave : D → List ℕ → Type 0) (kept : K) (raise : ℕ) (written : FileJournal D) (records : List Entry)
     → IsCheckpoint s kept raise records → HoldsRecords seen may_leave written records (length records)
-    → (file : List ℕ) (first : Entry) (found : List Entry) → may_leave written.disk file → IsJournalFile file first found → IsCheckpoint s kept raise found
+    → (file : List ℕ) (first : Entry) (found : List Entry) → may_leave (disk_in written) file → IsJournalFile file first found → IsCheckpoint s kept raise found
 checkpoint_left s seen may_leave kept raise written records is held file first found left ends =
     let survives = (held.1).survives file left in
     let whole : take survives.count records ≡ records = take_all survives.count records survives.enough in

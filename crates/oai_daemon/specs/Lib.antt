@@ -1,4 +1,4 @@
-pub mod Notes
+pub mod Notices
 pub mod Archives
 pub mod Watches
 pub mod Ends

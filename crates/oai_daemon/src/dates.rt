@@ -7,7 +7,7 @@ use oai_journal::{Kind, LogRecord};
 pub(crate) struct Dates {
     /// Their latest moment, in seconds from 1970 on.
     pub(crate) last: Option<i64>,
-    /// The latest moment of those up to the last that may have begun or continued a list.
+    /// The latest moment of those up to the last that may have begun or continued a list, or has an open list.
     pub(crate) listed: Option<i64>,
     /// The length in bytes of the parts of a checkpoint.
     pub(crate) saved: usize,
@@ -61,6 +61,12 @@ impl Progress for Dates {
             }
             Kind::Set => self.save(entry.body.len()),
             Kind::Item => self.save(entry.body.len()),
+            Kind::List => {
+                self.save(entry.body.len());
+                self.see(entry.moment);
+                self.listed = self.last;
+            }
+            Kind::Gone => self.save(entry.body.len()),
         }
     }
 }

@@ -3,7 +3,7 @@ ghost use Rattle.oai_archive.specs.Readings.{IsReadBack};
 ghost use Rattle.oai_journal.specs.Recovered.{disk_of};
 ghost use Rattle.std.specs.Prelude.{◌≡◌, IfOk, IsTrue};
 
-use crate::notes::Note;
+use crate::notices::Notice;
 use crate::places::Place;
 use oai_archive::ServerStop;
 use oai_device::FileDevice;
@@ -270,9 +270,9 @@ impl<S: Start> Place for HostPlace<'_, S> {
         }
     }
 
-    fn tell(&mut self, note: Note) {
+    fn tell(&mut self, notice: Notice) {
         if !self.is_quiet {
-            let _ = eprintln!(self.rt; "{note}");
+            let _ = eprintln!(self.rt; "{notice}");
         }
     }
 

@@ -7,7 +7,7 @@ ghost use Rattle.std.specs.Prelude.{◌≡◌, IfOk, IsTrue, OnOk};
 
 use crate::clocks::moment_of;
 use crate::dates::Dates;
-use crate::notes::Note;
+use crate::notices::Notice;
 use crate::origins::Origin;
 use crate::places::Place;
 use crate::renewals::{Renewal, renew};
@@ -25,7 +25,7 @@ const MAX_TAIL: usize = 67_108_864;
 
 /// A journal with which a server starts.
 #[derive(Clone, Copy)]
-pub(crate) struct Found {
+pub(crate) struct Prepared {
     /// Where it comes from.
     pub(crate) origin: Origin,
     /// Which forms its records may have.
@@ -42,7 +42,7 @@ pub(crate) fn prepare<P: Place, C: Clock>(
     clock: &C,
     text: &[u8],
     config: &Config,
-) -> Result<Found, ServerStop>
+) -> Result<Prepared, ServerStop>
     ensures { IfOk result (λ found. IsTrue (is_checkpoint found.origin)
         → HasRenewed P.OldDisk.Disk.seen P.OldDisk.Disk.is_clean ⟦<FileJournal<P::NewDisk> as Journal>⟧ P.is_honest 0) }
 {
@@ -68,10 +68,10 @@ pub(crate) fn prepare<P: Place, C: Clock>(
 }
 
 /// A journal that this program wrote for the startup: its records may be elements.
-fn written(origin: Origin) -> Found
+fn written(origin: Origin) -> Prepared
     ensures { result.origin ≡ origin }
 {
-    Found {
+    Prepared {
         origin,
         forms: Forms::Elements,
     }
@@ -84,7 +84,7 @@ fn found_of<D: Disk + Drop, C: Clock>(
     clock: &C,
     renewal: &Renewal<'_>,
     journal: &mut Recovery<D>,
-) -> Result<Found, ServerStop>
+) -> Result<Prepared, ServerStop>
     ensures { OnOk result ((IsTrue (D.Disk.is_clean (disk_of journal.old)) → HasBegun D.Disk.seen D.Disk.may_leave journal.old)
         → IsTrue (D.Disk.is_clean (disk_of journal.new)) → HasBegun D.Disk.seen D.Disk.may_leave journal.new) }
 {
@@ -94,7 +94,7 @@ fn found_of<D: Disk + Drop, C: Clock>(
     if is_due(clock, renewal.config, journal)? {
         return Ok(written(Origin::Shortened));
     }
-    Ok(Found {
+    Ok(Prepared {
         origin: Origin::Found,
         forms,
     })
@@ -152,7 +152,7 @@ pub(crate) fn keep<P: Place>(
         (Origin::Shortened, _) => place.keep_journal(begun),
         (Origin::Reconfigured, _) => {
             place.keep_journal(begun)?;
-            place.tell(Note::OtherConfig);
+            place.tell(Notice::OtherConfig);
             Ok(())
         }
     }

@@ -9,6 +9,7 @@ ghost use Rattle.oai_durable.specs.Journaled.{Parts};
 ghost use Rattle.oai_host.specs.Hosts.{HostState, Repository};
 ghost use Rattle.oai_host.specs.Saved.{emptied_in};
 ghost use Rattle.oai_journal.specs.Files.{IsJournalFile};
+ghost use Rattle.oai_journal.specs.Kept.{disk_in};
 ghost use Rattle.oai_journal.specs.Records.{Entry};
 ghost use Rattle.oai_journal.specs.Recovered.{disk_of};
 ghost use Rattle.oai_journal.specs.declared.file.FileJournal.{FileJournal as Filed};
@@ -52,6 +53,6 @@ pub fn whole_file_law<L: Stream, S: Start>()
 pub fn checkpoint_law<D: Disk + Drop>()
     ensures { (old : List ℕ) (raise : ℕ) (written : Filed D) (renewed : IsRenewed ⟦<FileJournal<D> as Journal>⟧ old raise written)
         (file : List ℕ) (first : Entry) (found : List Entry)
-        → D.Disk.may_leave written.disk file → IsJournalFile file first found
+        → D.Disk.may_leave (disk_in written) file → IsJournalFile file first found
         → IsCheckpoint archive (state_before renewed) raise found }
 {}

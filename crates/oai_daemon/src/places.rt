@@ -4,7 +4,7 @@ ghost use Rattle.oai_journal.specs.Recovered.{disk_of};
 ghost use Rattle.oai_serving.specs.Accepted.{PassesNone, known_of};
 ghost use Rattle.std.specs.Prelude.{◌≡◌, ℕ, Bool, false, IfOk, IfSome, IsTrue, List, None, Option};
 
-use crate::notes::Note;
+use crate::notices::Notice;
 use oai_archive::ServerStop;
 use oai_device::PageDevice;
 use oai_journal::Recovery;
@@ -76,7 +76,7 @@ pub trait Place {
     fn announce(&mut self, port: &Self::Port) -> Result<(), ServerStop>;
 
     /// Reports to the operator what the server does. A report that cannot be written ends nothing.
-    fn tell(&mut self, note: Note);
+    fn tell(&mut self, notice: Notice);
 
     /// Reports the figures of the server to the operator, each hour, as a line. One that cannot be written ends nothing.
     fn tell_figures(&mut self, line: &str);

@@ -6,7 +6,7 @@ ghost use Rattle.std.specs.Prelude.{◌≡◌, [], IfOk, IsTrue};
 
 use crate::clocks::{moment_of, second_of};
 use crate::dates::Dates;
-use crate::notes::Note;
+use crate::notices::Notice;
 use crate::origins::Origin;
 use crate::places::Place;
 use crate::startups::RecoveryFigures;
@@ -43,7 +43,7 @@ impl<P: Place, C: Clock> Progress for Meter<'_, P, C> {
         let second = second_of(self.clock);
         if second > self.last {
             self.last = second;
-            self.place.tell(Note::Recovering(position, len, number));
+            self.place.tell(Notice::Recovering(position, len, number));
         }
     }
 }
@@ -67,10 +67,11 @@ impl<'a, P: Place, C: Clock> Meter<'a, P, C> {
         ensures { IfOk result (λ replay. replay.records ≡ records) }
     {
         let seconds = second_of(self.clock).saturating_sub(self.begun);
-        self.place.tell(Note::Recovered(records, position, seconds));
+        self.place
+            .tell(Notice::Recovered(records, position, seconds));
         let moment = moment_of(self.clock)?;
         match self.dates.last {
-            Some(last) if is_far(moment, last) => self.place.tell(Note::Clock(moment, last)),
+            Some(last) if is_far(moment, last) => self.place.tell(Notice::Clock(moment, last)),
             _ => {}
         }
         Ok(RecoveryFigures {

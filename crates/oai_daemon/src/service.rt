@@ -5,7 +5,7 @@ ghost use Rattle.oai_daemon.specs.Renewals.{HasRenewed, is_checkpoint};
 ghost use Rattle.oai_daemon.specs.Starts.{HasResumed, HasServed};
 ghost use Rattle.oai_keys.specs.Guards.{unguarded};
 ghost use Rattle.oai_serving.specs.Accepted.{PassesNone, known_of};
-ghost use Rattle.oai_serving.specs.Wrappers.{behind};
+ghost use Rattle.oai_serving.specs.Wrappers.{world_behind};
 ghost use Rattle.std.specs.Prelude.{◌≡◌, IfOk, IsTrue, MatchResult};
 
 use crate::clocks::{GuardedClock, second_of, to_moment};
@@ -31,6 +31,13 @@ use oai_startup::{Stop, config_in};
 use std::alloc::Global;
 use std::rc::Rc;
 use std::rt::Clock;
+
+/// A port at which a server listens, and what it counts there.
+#[derive(Drop)]
+struct Listening<K> {
+    port: K,
+    counts: Counts,
+}
 
 /// A service that has ended.
 #[derive(Drop)]
@@ -97,23 +104,25 @@ pub fn serve<'a, P: Place, C: Clock>(
 ) -> Result<Ended<P::Link, P::Port, Hosting<'a, P>>, ServerStop>
     ensures lived { IfOk result (λ ended. HasLived ⟦<FileJournal<P::Disk> as Journal>⟧ P.Disk.Disk.seen P.Disk.Disk.is_clean
         P.Link.Stream.contents P.Link.Stream.remaining P.held text.now rings ended.origin
-        (known_of (P.Port.Sockets.accepted ended.port) (P.Port.Sockets.gone ended.port)) ended.result (behind unguarded ended.server)) }
+        (known_of (P.Port.Sockets.accepted ended.port) (P.Port.Sockets.gone ended.port)) ended.result (world_behind unguarded ended.server)) }
     ensures renewed { IfOk result (λ ended. IsTrue (is_checkpoint ended.origin)
         → HasRenewed P.OldDisk.Disk.seen P.OldDisk.Disk.is_clean ⟦<FileJournal<P::NewDisk> as Journal>⟧ P.is_honest 0) }
 {
     let config = config_in(alloc, Forms::Elements, text)?;
     let counts = Counts::new(alloc, &config, second_of(clock))?;
-    let port = open(place)?;
+    let listening = open(place, counts)?;
     let started = start(alloc, place, clock, text, config)?;
-    serve_over(alloc, place, clock, started, rings, port, counts)
+    serve_over(alloc, place, clock, started, rings, listening)
 }
 
 /// Opens the folder, and listens.
-fn open<P: Place>(place: &mut P) -> Result<P::Port, ServerStop>
-    ensures { IfOk result (λ port. PassesNone (known_of (P.Port.Sockets.accepted port) (P.Port.Sockets.gone port))) }
+fn open<P: Place>(place: &mut P, counts: Counts) -> Result<Listening<P::Port>, ServerStop>
+    ensures { IfOk result (λ listening. PassesNone
+        (known_of (P.Port.Sockets.accepted listening.port) (P.Port.Sockets.gone listening.port))) }
 {
     place.lock()?;
-    place.listen()
+    let port = place.listen()?;
+    Ok(Listening { port, counts })
 }
 
 /// Serves the handler, which has replayed the whole journal, behind the keys.
@@ -123,8 +132,7 @@ fn serve_over<'a, P: Place, H: Replayed + Figures + Drop, C: Clock>(
     clock: &C,
     started: Started<P::Disk, H>,
     rings: Sequence<Ring>,
-    port: P::Port,
-    counts: Counts,
+    listening: Listening<P::Port>,
 ) -> Result<
     Ended<P::Link, P::Port, Watched<'a, Guarded<Journaled<H, FileJournal<P::Disk>>>, P>>,
     ServerStop,
@@ -138,8 +146,8 @@ fn serve_over<'a, P: Place, H: Replayed + Figures + Drop, C: Clock>(
       reply = H.reply;
     }) ⟦<FileJournal<P::Disk> as Journal>⟧ P.Disk.Disk.seen P.Disk.Disk.may_leave
         P.Link.Stream.contents P.Link.Stream.remaining started.handler started.recovery rings
-        (known_of (P.Port.Sockets.accepted port) (P.Port.Sockets.gone port))
-        (known_of (P.Port.Sockets.accepted ended.port) (P.Port.Sockets.gone ended.port)) ended.result (behind unguarded ended.server)) }
+        (known_of (P.Port.Sockets.accepted listening.port) (P.Port.Sockets.gone listening.port))
+        (known_of (P.Port.Sockets.accepted ended.port) (P.Port.Sockets.gone ended.port)) ended.result (world_behind unguarded ended.server)) }
     ensures origin { IfOk result (λ ended. ended.origin ≡ started.origin) }
 {
     let Started {
@@ -149,6 +157,7 @@ fn serve_over<'a, P: Place, H: Replayed + Figures + Drop, C: Clock>(
         startup,
         origin,
     } = started;
+    let Listening { port, counts } = listening;
     let Some(journaled) = resume(alloc, handler, recovery, records) else {
         return Err(ServerStop::Common(Stop::InputFault));
     };

@@ -7,8 +7,8 @@ ghost use Rattle.oai_host.specs.Hosts.{begun};
 ghost use Rattle.oai_item.specs.declared.forms.Forms.TheVariants.{Elements};
 ghost use Rattle.std.specs.Prelude.{◌≡◌, IfOk, IfSome, IsTrue, Ok, OnOk, map};
 
-use crate::journals::{Found, keep, prepare};
-use crate::notes::Note;
+use crate::journals::{Prepared, keep, prepare};
+use crate::notices::Notice;
 use crate::origins::Origin;
 use crate::places::Place;
 use crate::recoveries::recover_all;
@@ -80,7 +80,7 @@ fn config_for<P: Place>(
     match forms {
         Forms::Elements => Ok(config),
         Forms::Fields => {
-            place.tell(Note::OldVersion);
+            place.tell(Notice::OldVersion);
             Ok(config_in(alloc, Forms::Fields, text)?)
         }
     }
@@ -93,7 +93,7 @@ fn start_by<P: Place, H: Replayed + Drop, C: Clock>(
     place: &mut P,
     clock: &C,
     text: &[u8],
-    found: Found,
+    found: Prepared,
     mut handler: H,
 ) -> Result<Started<P::Disk, H>, ServerStop>
     ensures replayed { IfOk result (λ started. HasReplayed H.kept H.is_honest (record { redone = H.redone; restored = H.restored })
@@ -149,7 +149,7 @@ pub(crate) fn keep_checkpoint<P: Place, C: Clock>(
         (map begun config.repositories)) }
 {
     let host = host_in(alloc, place, config)?;
-    let found = Found {
+    let found = Prepared {
         origin: Origin::Shortened,
         forms: Forms::Elements,
     };

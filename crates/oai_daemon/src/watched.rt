@@ -5,7 +5,7 @@ ghost use Rattle.oai_daemon.specs.Watches.{IsStatusAnswer};
 ghost use Rattle.oai_host.specs.Tasks.{is_get};
 
 use crate::counts::Counts;
-use crate::notes::Note;
+use crate::notices::Notice;
 use crate::places::Place;
 use oai_figures::{Exposition, Figures};
 use oai_http::{Answer, Exchange, Handler, SettleFault, Settled, Status};
@@ -81,13 +81,13 @@ impl<'a, H: Figures, P: Place> Watched<'a, H, P> {
         }
         match self.told {
             Some((before, _)) if self.untold > 0 => {
-                self.place.tell(Note::Failed(self.untold, before));
+                self.place.tell(Notice::Failed(self.untold, before));
             }
             _ => {}
         }
         self.untold = 0;
         self.told = Some((fault, moment));
-        self.place.tell(Note::Failed(1, fault));
+        self.place.tell(Notice::Failed(1, fault));
     }
 
     /// All figures.

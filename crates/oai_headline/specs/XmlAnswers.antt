@@ -45,9 +45,10 @@ pub record HasUtf8Texts (format : Format) : Type 0 where
 
 -- ---- an answer
 
--- the bytes are an XML document: the XML declaration and one element, whose tree is whole, in UTF-8, of XML's
--- characters; and an XML parser reads that tree. It has the elements that the schema of OAI-PMH asks for, if no format
--- of the repository has OAI-PMH's own namespace, and no element about a record. Whole is what has room in a document
+-- the bytes are an XML document: the XML declaration and one element, in UTF-8, of XML's characters. If no element that
+-- it shows is too large (`HasFittingElements`), its tree is whole, so its names and namespaces are legal, and an XML
+-- parser reads that tree. If each format of the repository, each description and each element about a record has a
+-- namespace, and not OAI-PMH's own, it has the elements that the schema of OAI-PMH asks for
 pub record IsXmlDocument (config : RepositoryConfig) (body : List ℕ) : Type 0 where
   pub document : Document
   pub tree : Tree

@@ -20,10 +20,10 @@ ghost use Rattle.oai_headline.specs.XmlAnswers.{AreAnsweredInXml, HasLegalTexts,
 /// ([`throughout_law`](crate::throughout_law)), and over eras, between which a checkpoint ends all open lists (`over`).
 ///
 /// The texts of the configuration are UTF-8 of such characters, as those of each accepted one are
-/// ([`texts_law`](crate::texts_law)). None of the repository's formats, nor of the elements that describe it or its sets,
-/// has one of the two namespaces that Namespaces in XML reserves; and for the schema, each has a namespace, and none has
-/// that of OAI-PMH; the elements about a record that was deposited neither (`HasAboutIn`). Of records that are elements,
-/// of those about records, and of descriptions: each has at most 124 levels, with at most 126 declarations in force
+/// ([`texts_law`](crate::texts_law)). No format of the repository, and no element that describes it or a set, has one
+/// of the two namespaces that Namespaces in XML reserves. For the schema, each of these has a namespace, which is not
+/// that of OAI-PMH, and so has each element about a record (`HasAboutIn`). For the tree, each element that was
+/// deposited or configured has at most 124 levels, with at most 126 declarations of namespaces in force
 /// (`HasFittingElements`). The function is empty.
 pub fn documents_law()
     ensures answered { (calls : List Call) (answers : List Answer) (entry : NamedConfig) (left : RepoState)

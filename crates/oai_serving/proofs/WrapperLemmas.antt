@@ -5,7 +5,7 @@ use Rattle.oai_front.specs.Performing.{Steps}
 use Rattle.oai_front.specs.Runs.{Served, Serves}
 use Rattle.oai_serving.specs.Accepted.{Known}
 use Rattle.oai_serving.specs.Rounds.{AreSettled, EndsService, IsRoundSettled, IsService, Settles, World}
-use Rattle.oai_serving.specs.Wrappers.{Wraps, behind}
+use Rattle.oai_serving.specs.Wrappers.{Wraps, world_behind}
 use Rattle.oai_serving.specs.declared.faults.ServeFault.{ServeFault}
 use Rattle.oai_serving.specs.declared.faults.ServeFault.TheVariants.{Clock, Unsettled, Wait}
 
@@ -52,7 +52,7 @@ module _ {W H : Type 0} (stays : W → Type 0) (inner : W → H) (outer_step : S
   -- a service, seen inside; and what stays still stands at its end
   pub service_behind : {S : Type 0} (contents remaining : S → Option (List ℕ)) (known later : Known S) (old : World S W) (result : Result Unit ServeFault) (new : World S W)
       → stays old.handler → IsService outer_step outer_settled contents remaining known later old result new
-      → stays new.handler × IsService step settled contents remaining known later (behind inner old) result (behind inner new)
+      → stays new.handler × IsService step settled contents remaining known later (world_behind inner old) result (world_behind inner new)
   service_behind contents remaining known later old result new stay serves =
       let all = settled_behind serves.rounds old.handler serves.mid stay serves.settles in
       let last = ends_behind serves.mid result new.handler all.0 serves.ends in (

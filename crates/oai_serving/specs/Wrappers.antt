@@ -15,5 +15,5 @@ pub record Wraps {W H : Type 0} (stays : W → Type 0) (inner : W → H) (outer_
       → stays after × settled (inner before) result (inner after)
 
 -- a server with the inner handler in place of the outer one
-abbrev pub behind : {S W H : Type 0} → (W → H) → World S W → World S H
-behind inner world = record { handler = inner world.handler; links = world.links; last = world.last }
+abbrev pub world_behind : {S W H : Type 0} → (W → H) → World S W → World S H
+world_behind inner world = record { handler = inner world.handler; links = world.links; last = world.last }

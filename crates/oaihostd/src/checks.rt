@@ -1,9 +1,9 @@
 //! The check of a configuration, and of a file of deposit lines for one of its repositories.
-use crate::configurations::{Failure, read_checked};
+use crate::configurations::{Checked, Failure, read_checked};
 use oai_config::{Config, NamedConfig};
 use oai_item::Forms;
 use oai_reports::LineFile;
-use oai_startup::{Stop, check_config, config_in, read_file, warnings_in};
+use oai_startup::{Stop, check_config, read_file, warnings_in};
 use std::io;
 
 /// Writes how many repositories the configuration in the file has, and its warnings on standard error. If there is a
@@ -14,13 +14,13 @@ pub(crate) fn run_check(
     lines: Option<&str>,
     repository: Option<&str>,
 ) -> Result<(), Failure> {
-    let text = read_checked(rt, path)?;
+    let Checked { text, config } = read_checked(rt, path)?;
     check_config(rt.alloc(), Forms::Elements, &text, &mut io::writer(rt))?;
     if let Ok(warnings) = warnings_in(rt.alloc(), Forms::Elements, &text) {
         let _ = eprint!(rt; "{warnings}");
     }
     match lines {
-        Some(lines) => check_lines(rt, &text, lines, repository),
+        Some(lines) => check_lines(rt, &config, lines, repository),
         None => Ok(()),
     }
 }
@@ -28,12 +28,11 @@ pub(crate) fn run_check(
 /// Checks the lines in the file, for the repository with that name, or for the first one.
 fn check_lines(
     rt: &HostRuntime,
-    text: &[u8],
+    config: &Config,
     path: &str,
     repository: Option<&str>,
 ) -> Result<(), Failure> {
-    let config = config_in(rt.alloc(), Forms::Elements, text)?;
-    let Some(named) = named_in(&config, repository) else {
+    let Some(named) = named_in(config, repository) else {
         return Err(Failure::NoRepository);
     };
     let bytes = match read_file(rt, path) {

@@ -1,10 +1,19 @@
 //! The configuration that a command is called with, and why a command ends.
 use oai_archive::ServerStop;
-use oai_config::ReadFault;
+use oai_config::{Config, ReadFault};
 use oai_item::Forms;
 use oai_keys::KeysFault;
 use oai_startup::{Stop, config_in, read_file};
 use std::rt::Files;
+
+/// A configuration that was read from a file.
+#[derive(Drop)]
+pub(crate) struct Checked {
+    /// The bytes of the file.
+    pub(crate) text: Vec<u8>,
+    /// The configuration in them.
+    pub(crate) config: Config,
+}
 
 /// Why a command ends before it is done.
 #[derive(Drop)]
@@ -48,14 +57,14 @@ impl From<Stop> for Failure {
     }
 }
 
-/// The bytes of the file, which are a configuration of repositories whose records may be elements.
+/// The configuration in the file, of repositories whose records may be elements.
 pub(crate) fn read_checked(
     rt: &(impl Files + AllocGlobal),
     path: &str,
-) -> Result<Vec<u8>, Failure> {
+) -> Result<Checked, Failure> {
     let text = read_file(rt, path)?;
     match config_in(rt.alloc(), Forms::Elements, &text) {
-        Ok(_) => Ok(text),
+        Ok(config) => Ok(Checked { text, config }),
         Err(Stop::BadConfig(fault)) => Err(Failure::Config(fault, text)),
         Err(stop) => Err(Failure::from(stop)),
     }

@@ -1,15 +1,13 @@
 //! The keys of depositors in a file.
 use crate::configurations::{Failure, read_checked};
 use oai_config::Config;
-use oai_item::Forms;
 use oai_keys::{Ring, read_keys, write_warnings};
 use oai_names::Sequence;
-use oai_startup::{Stop, config_in, read_file};
+use oai_startup::{Stop, read_file};
 
 /// Writes how many repositories of the configuration have keys in the file, and on standard error which have none.
 pub(crate) fn run_keys(rt: &HostRuntime, config: &str, path: &str) -> Result<(), Failure> {
-    let text = read_checked(rt, config)?;
-    let config = config_in(rt.alloc(), Forms::Elements, &text)?;
+    let config = read_checked(rt, config)?.config;
     let rings = rings_in(rt, path, &config)?;
     if println!(rt; "ok {}", rings.len()).is_err() {
         return Err(Failure::from(Stop::OutputFault));
@@ -18,19 +16,18 @@ pub(crate) fn run_keys(rt: &HostRuntime, config: &str, path: &str) -> Result<(),
     Ok(())
 }
 
-/// The keys in the file, for the configuration in the text; none without a file. Each repository that has none in the
-/// file gets a warning on standard error.
+/// The keys in the file, for that configuration; none without a file. Each repository that has none in the file gets a
+/// warning on standard error.
 pub(crate) fn read_rings(
     rt: &HostRuntime,
     path: Option<&str>,
-    text: &[u8],
+    config: &Config,
 ) -> Result<Sequence<Ring>, Failure> {
     let Some(path) = path else {
         return Ok(Sequence::new(Vec::new(rt.alloc())));
     };
-    let config = config_in(rt.alloc(), Forms::Elements, text)?;
-    let rings = rings_in(rt, path, &config)?;
-    warn_of_open(rt, &config, &rings);
+    let rings = rings_in(rt, path, config)?;
+    warn_of_open(rt, config, &rings);
     Ok(rings)
 }
 

@@ -13,7 +13,7 @@ mod keys;
 
 use checks::run_check;
 use clap::Error;
-use configurations::{Failure, read_checked};
+use configurations::{Checked, Failure, read_checked};
 use elements::run_xml;
 use keys::{read_rings, run_keys};
 use oai_archive::{ReadFile, ServerStop, VERSION, dump_repository, verify_journal};
@@ -84,8 +84,9 @@ fn run(rt: &HostRuntime, called: Called<'_>) -> Result<(), Failure> {
 
 /// Serves the configuration in the file on the port, with the journal in the folder, and behind the keys in a file.
 fn run_serve(rt: &HostRuntime, serving: Serving<'_>) -> Result<(), Failure> {
-    let text = read_checked(rt, serving.config)?;
-    let rings = read_rings(rt, serving.keys, &text)?;
+    let Checked { text, config } = read_checked(rt, serving.config)?;
+    let rings = read_rings(rt, serving.keys, &config)?;
+    drop(config);
     warn_of(rt, &serving);
     let mut place = HostPlace::new(rt, serving.folder, serving.port, Wary)
         .listening_at(serving.address)
@@ -155,7 +156,7 @@ fn run_checkpoint(
     folder: &str,
     is_quiet: bool,
 ) -> Result<(), Failure> {
-    let text = read_checked(rt, path)?;
+    let text = read_checked(rt, path)?.text;
     let mut place = HostPlace::new(rt, folder, 0, Wary).quiet(is_quiet);
     Ok(checkpoint_folder(rt.alloc(), &mut place, rt, &text, &mut io::writer(rt))?)
 }

@@ -1,6 +1,6 @@
 //! The messages of a server while it runs.
 ghost use Rattle.std.specs.Prelude.{◌≡◌};
-ghost use Rattle.oai_daemon.specs.Notes as spec;
+ghost use Rattle.oai_daemon.specs.Notices as spec;
 
 use oai_archive::{Second, fault_word};
 use oai_item::Fault;
@@ -8,7 +8,7 @@ use std::fmt;
 
 /// A message of a server about its work.
 #[derive(Clone, Copy, Debug, PartialEq, Eq)]
-pub enum Note {
+pub enum Notice {
     /// The progress of a recovery: bytes read, bytes of the journal, and records replayed.
     Recovering(usize, usize, u64),
     /// A recovery is done: the records and bytes of the journal, and the seconds that it took.
@@ -24,30 +24,33 @@ pub enum Note {
     Failed(u64, Fault),
 }
 
-impl fmt::Display for Note {
+impl fmt::Display for Notice {
     ghost use Rattle.std.specs.Prelude.{Some};
-    ghost use Rattle.oai_daemon.specs.Notes.{note_text};
+    ghost use Rattle.oai_daemon.specs.Notices.{notice_text};
 
-    ghost output = { λ note. Some (note_text note) };
+    ghost output = { λ notice. Some (notice_text notice) };
 
     fn fmt<W: fmt::Write>(&self, f: &mut fmt::Formatter<W>) -> fmt::Result {
         match self {
-            Note::Recovering(bytes, all, records) => {
+            Notice::Recovering(bytes, all, records) => {
                 write!(f, "recovering: {bytes} of {all} bytes, {records} records")
             }
-            Note::Recovered(records, bytes, seconds) => {
+            Notice::Recovered(records, bytes, seconds) => {
                 write!(
                     f,
                     "recovered: {records} records, {bytes} bytes, {seconds} s"
                 )
             }
-            Note::Clock(now, last) => {
+            Notice::Clock(now, last) => {
                 let behind = last_record();
                 write!(f, "clock: at {}{behind}{}", Second(*now), Second(*last))
             }
-            Note::OtherConfig => write!(f, "config: another one: the open lists have ended"),
-            Note::OldVersion => write!(f, "journal: of version 1: no elements until a checkpoint"),
-            Note::Failed(count, fault) => {
+            Notice::OtherConfig => write!(f, "config: another one: the open lists have ended"),
+            Notice::OldVersion => write!(
+                f,
+                "journal: of version 1: no elements until a checkpoint"
+            ),
+            Notice::Failed(count, fault) => {
                 let cause = fault_word(*fault);
                 write!(f, "answered 500: {count} times: {cause}")
             }
@@ -56,7 +59,7 @@ impl fmt::Display for Note {
 }
 
 /// The words between the time of a clock and that of a record.
-#[tactic(auto, unfolding(crate::specs::Notes::last_record))]
+#[tactic(auto, unfolding(crate::specs::Notices::last_record))]
 fn last_record() -> &'static str
     ensures { result.now ≡ spec.last_record }
 {
