@@ -4,7 +4,7 @@ ghost use Rattle.oai_journal.specs.Recovered.{disk_of};
 ghost use Rattle.std.specs.Prelude.{IsTrue};
 
 use oai_archive::ServerStop;
-use oai_daemon::{Ended, Note, Place, serve};
+use oai_daemon::{Ended, Notice, Place, serve};
 use oai_device::MemoryDevice;
 use oai_journal::{FileJournal, Journal, Kind, LogRecord, Recovery};
 use oai_names::Sequence;
@@ -268,14 +268,14 @@ impl Place for MemoryPlace {
         self.call("announce")
     }
 
-    fn tell(&mut self, note: Note) {
-        match note {
-            Note::Recovering(_, _, _) => drop(self.call("recovering")),
-            Note::Recovered(_, _, _) => drop(self.call("recovered")),
-            Note::Clock(_, _) => drop(self.call("clock")),
-            Note::OtherConfig => drop(self.call("other")),
-            Note::OldVersion => drop(self.call("old")),
-            Note::Failed(_, _) => drop(self.call("failed")),
+    fn tell(&mut self, notice: Notice) {
+        match notice {
+            Notice::Recovering(_, _, _) => drop(self.call("recovering")),
+            Notice::Recovered(_, _, _) => drop(self.call("recovered")),
+            Notice::Clock(_, _) => drop(self.call("clock")),
+            Notice::OtherConfig => drop(self.call("other")),
+            Notice::OldVersion => drop(self.call("old")),
+            Notice::Failed(_, _) => drop(self.call("failed")),
         }
     }
 

@@ -1,6 +1,6 @@
 //! What a server says where it stops, and with which status.
 use oai_archive::{Aspect, Difference, ServerStop};
-use oai_daemon::Note;
+use oai_daemon::Notice;
 use oai_item::Fault;
 use oai_startup::Stop;
 use std::alloc::Global;
@@ -118,18 +118,23 @@ fn journals(rt: HostRuntime) {
 }
 
 #[test]
-fn notes(rt: HostRuntime) {
+fn notices(rt: HostRuntime) {
     let alloc = rt.alloc();
     let on = "recovering: 100 of 975 bytes, 7 records";
-    assert_shown(&rt, alloc, &Note::Recovering(100, 975, 7), on);
+    assert_shown(&rt, alloc, &Notice::Recovering(100, 975, 7), on);
     let done = "recovered: 7 records, 975 bytes, 2 s";
-    assert_shown(&rt, alloc, &Note::Recovered(7, 975, 2), done);
+    assert_shown(&rt, alloc, &Notice::Recovered(7, 975, 2), done);
     let far = "clock: at 2024-01-02T00:00:01Z, and the last record is of 2024-01-01T00:00:00Z";
-    assert_shown(&rt, alloc, &Note::Clock(1_704_153_601, 1_704_067_200), far);
+    assert_shown(
+        &rt,
+        alloc,
+        &Notice::Clock(1_704_153_601, 1_704_067_200),
+        far,
+    );
     let other = "config: another one: the open lists have ended";
-    assert_shown(&rt, alloc, &Note::OtherConfig, other);
+    assert_shown(&rt, alloc, &Notice::OtherConfig, other);
     let old = "journal: of version 1: no elements until a checkpoint";
-    assert_shown(&rt, alloc, &Note::OldVersion, old);
+    assert_shown(&rt, alloc, &Notice::OldVersion, old);
     let failed = "answered 500: 3 times: the device failed";
-    assert_shown(&rt, alloc, &Note::Failed(3, Fault::Device), failed);
+    assert_shown(&rt, alloc, &Notice::Failed(3, Fault::Device), failed);
 }

@@ -31,6 +31,8 @@ mod sample_host;
 #[cfg(test)]
 mod saved;
 #[cfg(test)]
+mod saved_lists;
+#[cfg(test)]
 mod script_failures;
 #[cfg(test)]
 mod script_faults;

@@ -4,14 +4,15 @@ ghost use Rattle.oai_repo.specs.Fields.{Owns};
 
 use crate::assertions::{assert_same, assert_same_at};
 use crate::samples::{BEGIN, change_in};
-use oai_catalogue::{PlainVersions, Versions};
+use oai_catalogue::{Filter, PlainVersions, Versions};
 use oai_device::MemoryDevice;
 use oai_item::{Fault, Field, Item};
-use oai_names::{Identifier, Prefix, Sequence, SetSpec, Text};
+use oai_names::{Identifier, ListVerb, Prefix, Sequence, SetSpec, Text};
 use oai_paged::PagedVersions;
 use oai_pool::Pool;
-use oai_repo::{Reply, Repo, SavedPart};
+use oai_repo::{Reply, Repo, SavedList, SavedPart};
 use oai_settings::RepoConfig;
+use oai_time::{FIRST_SECOND, LAST_SECOND};
 use std::alloc::Global;
 use std::panic::Expect;
 use std::process::Abort;
@@ -511,4 +512,121 @@ fn fault_of_the_store_reads_nothing(rt: HostRuntime) {
     let store = failing(PlainVersions::new(rt.alloc()), 3);
     let mut archive = Archive::new(&rt, rt.alloc(), archive_b(), store);
     assert_unread_once(&rt, rt.alloc(), &mut archive);
+}
+
+/// The item of that identifier goes, or that is refused, and there are so many then.
+fn assert_gone<V: Versions + Drop>(
+    rt: &impl Abort,
+    archive: &mut Archive<V>,
+    identifier: &str,
+    wanted: (Result<(), Fault>, usize),
+) {
+    let restored = archive.restore(&SavedPart::Goes { identifier });
+    assert_same(rt, restored, wanted.0);
+    let items = archive.items_behind(None, 9).expect(rt, "items_behind");
+    assert_same(rt, items.len(), wanted.1);
+}
+
+/// An item goes once, where it is there.
+fn assert_goes_once<V: Versions + Drop>(rt: &impl Abort, alloc: Global, archive: &mut Archive<V>) {
+    assert_gone(rt, archive, "oai:b:1", (Err(Fault::Damaged), 0));
+    assert_named(rt, alloc, archive, "oai:b:1", (Ok(()), 1));
+    assert_gone(rt, archive, "oai:b:2", (Err(Fault::Damaged), 1));
+    assert_gone(rt, archive, "oai:b:1", (Ok(()), 0));
+    assert_gone(rt, archive, "oai:b:1", (Err(Fault::Damaged), 0));
+}
+
+#[test]
+fn item_that_is_not_there_cannot_go(rt: HostRuntime) {
+    let mut archive = plain(&rt, rt.alloc());
+    assert_goes_once(&rt, rt.alloc(), &mut archive);
+}
+
+/// The filter of all records of that format.
+fn filter_of(rt: &impl Abort, alloc: Global, prefix: &str) -> Filter {
+    let prefix = Prefix::read(alloc, prefix).expect(rt, "Prefix::read");
+    Filter::new(prefix, FIRST_SECOND, LAST_SECOND, None)
+}
+
+/// The list of that number and end is restored, or is refused, and so many are held then.
+fn assert_list<V: Versions + Drop>(
+    rt: &impl Abort,
+    archive: &mut Archive<V>,
+    filter: &Filter,
+    (number, end): (u64, i64),
+    wanted: (Result<(), Fault>, usize),
+) {
+    let list = SavedList {
+        number,
+        verb: ListVerb::Records,
+        filter,
+        end,
+        given: 2,
+    };
+    let restored = archive.restore(&SavedPart::HasList { list });
+    assert_same(rt, restored, wanted.0);
+    assert_same(rt, archive.repo.open_lists(), wanted.1);
+}
+
+/// The list that the first has begun is restored in the second, from which an item of it goes then; both continue it
+/// alike.
+fn assert_goes_on<V: Versions + Drop, W: Versions + Drop>(
+    rt: &impl Abort,
+    alloc: Global,
+    from: &mut Archive<V>,
+    to: &mut Archive<W>,
+) {
+    let filter = filter_of(rt, alloc, "oai_dc");
+    assert_list(rt, to, &filter, (1, BEGIN + 60), (Ok(()), 1));
+    assert_gone(rt, to, "oai:a:3", (Ok(()), 3));
+    let query = "verb=ListRecords&resumptionToken=1.2";
+    let wanted = from.page(rt, BEGIN + 4, query);
+    let page = to.page(rt, BEGIN + 4, query);
+    assert_same_at(rt, page.as_slice(), wanted.as_slice(), query);
+}
+
+#[test]
+fn open_list_goes_on_where_it_is_restored(rt: HostRuntime) {
+    let mut from = filled(&rt, rt.alloc());
+    let mut to = paged(&rt, rt.alloc());
+    restore_all(&rt, &mut from, &mut to);
+    assert_goes_on(&rt, rt.alloc(), &mut from, &mut to);
+}
+
+/// A number that is not below the next one, or not above the last one; an end that is not above the clock, or is after
+/// the year 9999; a format that the repository lacks.
+fn assert_lists<V: Versions + Drop>(rt: &impl Abort, alloc: Global, archive: &mut Archive<V>) {
+    assert_begin(rt, archive, BEGIN, Ok(()));
+    let filter = filter_of(rt, alloc, "oai_dc");
+    for (list, wanted) in [
+        ((5, BEGIN + 1), (Err(Fault::Damaged), 0)),
+        ((3, BEGIN), (Err(Fault::Damaged), 0)),
+        ((3, LAST_SECOND + 1), (Err(Fault::Damaged), 0)),
+        ((3, BEGIN + 1), (Ok(()), 1)),
+        ((3, BEGIN + 1), (Err(Fault::Damaged), 1)),
+        ((4, LAST_SECOND), (Ok(()), 2)),
+    ] {
+        assert_list(rt, archive, &filter, list, wanted);
+    }
+}
+
+#[test]
+fn list_out_of_order_is_damage(rt: HostRuntime) {
+    let mut archive = plain(&rt, rt.alloc());
+    assert_lists(&rt, rt.alloc(), &mut archive);
+}
+
+/// Archive B lacks the format of journals.
+#[test]
+fn list_of_another_format_is_damage(rt: HostRuntime) {
+    let mut archive = plain(&rt, rt.alloc());
+    assert_begin(&rt, &mut archive, BEGIN, Ok(()));
+    let filter = filter_of(&rt, rt.alloc(), "jnl");
+    assert_list(
+        &rt,
+        &mut archive,
+        &filter,
+        (3, BEGIN + 1),
+        (Err(Fault::Damaged), 0),
+    );
 }

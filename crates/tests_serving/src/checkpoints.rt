@@ -136,6 +136,57 @@ fn checkpoint_is_restored(rt: HostRuntime) {
     );
 }
 
+/// The parts of a repository with an open list of an item that is gone.
+fn listed_parts() -> [Part<'static>; 4] {
+    let begin = part_of_a(PartKind::Begin, 1_767_225_603, b"8");
+    let item = part_of_a(PartKind::Item, 1_704_067_200, ITEM);
+    let list = part_of_a(PartKind::List, 1_767_225_603, LIST);
+    let gone = part_of_a(PartKind::Gone, 1_767_225_603, b"oai:a:1");
+    [begin, item, list, gone]
+}
+
+/// The bytes of the list.
+const LIST: &[u8] = b"7 ListRecords 1767225663 200 oai_dc -62135596800 1767225603 m:x";
+
+/// The journal of these parts. Its digests were computed by another program.
+const LISTED: [&[u8]; 9] = [
+    b"+1767225600 journal oaihostd 4 5eb653a2147061dd\n1\n{}\n",
+    b"+1767225603 begin a 1 57656ce14558ee75\n8\n",
+    b"&1704067200 item a 56 f6b0eb437797e2bd\n",
+    ITEM,
+    b"\n&1767225603 list a 63 f1d4afbb428eb6c2\n",
+    LIST,
+    b"\n&1767225603 gone a 7 fa3789c6e08e4466\noai:a:1\n",
+    b"-",
+    b"",
+];
+
+#[test]
+fn lists_have_these_bytes(rt: HostRuntime) {
+    let disk = written(&rt, rt.alloc(), &listed_parts()).into_disk();
+    assert_pieces(&rt, disk.bytes(), &LISTED);
+}
+
+#[test]
+fn lists_are_restored(rt: HostRuntime) {
+    let alloc = rt.alloc();
+    let mut shelf = Shelf::new(alloc, &[], None);
+    let count = recovered(&rt, alloc, written(&rt, alloc, &listed_parts()), &mut shelf);
+    assert!(&rt; count == Ok(4));
+    assert_pieces(
+        &rt,
+        shelf.notes(),
+        &[
+            b"B\x00\x00\x00\x00\x69\x55\xb9\x03a 8\n",
+            b"I\x00\x00\x00\x00\x65\x92\x00\x80a ",
+            ITEM,
+            b"\nL\x00\x00\x00\x00\x69\x55\xb9\x03a ",
+            LIST,
+            b"\nG\x00\x00\x00\x00\x69\x55\xb9\x03a oai:a:1\n",
+        ],
+    );
+}
+
 /// A part that the handler does not restore ends the recovery, with the number of its record.
 #[test]
 fn part_that_does_not_fit(rt: HostRuntime) {

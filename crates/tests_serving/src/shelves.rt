@@ -63,6 +63,8 @@ fn letter_of(kind: PartKind) -> &'static [u8] {
         PartKind::Begin => b"B",
         PartKind::Set => b"S",
         PartKind::Item => b"I",
+        PartKind::List => b"L",
+        PartKind::Gone => b"G",
     }
 }
 

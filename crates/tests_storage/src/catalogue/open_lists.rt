@@ -1,11 +1,29 @@
 //! The texts of resumption tokens, and the table of the lists that are open.
 use crate::assertions::{assert_same, assert_shown};
 use oai_catalogue::Filter;
-use oai_lists::{LAST_NUMBER, Lists, Mark, OpenList, OpenListFault, Token};
+use oai_lists::{LAST_NUMBER, Lists, Mark, NewList, OpenList, OpenListFault, ReopenFault, Token};
 use oai_names::{Identifier, ListVerb, Prefix};
 use std::alloc::Global;
 use std::panic::Expect;
 use std::process::Abort;
+
+/// A list of that version, size and end, to be opened; the cursor 2 was given.
+fn new_list(rt: &impl Abort, alloc: Global, version: u64, size: u64, end: i64) -> NewList {
+    NewList {
+        verb: ListVerb::Records,
+        filter: filter_of_dc(rt, alloc),
+        version,
+        size,
+        end,
+        given: 2,
+    }
+}
+
+/// The filter of all records in oai_dc.
+fn filter_of_dc(rt: &impl Abort, alloc: Global) -> Filter {
+    let prefix = Prefix::read(alloc, "oai_dc").expect(rt, "Prefix::read");
+    Filter::new(prefix, 0, 9, None)
+}
 
 /// A list of that version and end is opened at `now`, or not.
 fn assert_opened(
@@ -17,13 +35,7 @@ fn assert_opened(
     version: u64,
     answer: Result<u64, OpenListFault>,
 ) {
-    let filter = Filter::new(
-        Prefix::read(alloc, "oai_dc").expect(rt, "Prefix::read"),
-        0,
-        9,
-        None,
-    );
-    let opened = lists.open(now, ListVerb::Records, filter, version, 3, end, 2);
+    let opened = lists.open(now, new_list(rt, alloc, version, 3, end));
     assert_same(rt, opened, answer);
 }
 
@@ -92,14 +104,46 @@ fn texts_that_are_no_tokens(rt: HostRuntime) {
 #[test]
 fn empty_list_is_opened(rt: HostRuntime) {
     let mut lists = Lists::new(rt.alloc(), 1, 1);
-    let filter = Filter::new(
-        Prefix::read(rt.alloc(), "oai_dc").expect(&rt, "Prefix::read"),
-        0,
-        9,
-        None,
-    );
-    let opened = lists.open(0, ListVerb::Records, filter, 1, 0, 60, 2);
+    let opened = lists.open(0, new_list(&rt, rt.alloc(), 1, 0, 60));
     assert_same(&rt, opened, Ok(1));
+}
+
+/// A list that was open is put back where its number is above those of the lists that are held, and below the next one.
+#[test]
+fn list_is_put_back(rt: HostRuntime) {
+    let alloc = rt.alloc();
+    let mut lists = Lists::new(alloc, 1, 7);
+    assert_reopened(&rt, alloc, &mut lists, 7, Err(ReopenFault::OutOfOrder));
+    assert_reopened(&rt, alloc, &mut lists, 3, Ok(()));
+    assert_reopened(&rt, alloc, &mut lists, 3, Err(ReopenFault::OutOfOrder));
+    assert_reopened(&rt, alloc, &mut lists, 2, Err(ReopenFault::OutOfOrder));
+    assert_reopened(&rt, alloc, &mut lists, 6, Ok(()));
+    assert_same(&rt, (lists.len(), lists.next_number()), (2, 7));
+    assert_same(&rt, lists.next(59), Err(OpenListFault::Full));
+    assert_same(&rt, lists.expire(60), Some(3));
+    assert_same(&rt, lists.expire(60), Some(6));
+    assert_same(&rt, lists.next(60), Ok(7));
+}
+
+/// A list of that number, which is the number of its version too, and which ends at 60, is put back, or not.
+fn assert_reopened(
+    rt: &impl Abort,
+    alloc: Global,
+    lists: &mut Lists,
+    number: u64,
+    answer: Result<(), ReopenFault>,
+) {
+    let list = OpenList {
+        number,
+        verb: ListVerb::Identifiers,
+        filter: filter_of_dc(rt, alloc),
+        version: number,
+        size: 3,
+        end: 60,
+        given: 2,
+        mark: None,
+    };
+    assert_same(rt, lists.reopen(list), answer);
 }
 
 /// An empty table of one opens a list, and no other beside it.

@@ -99,6 +99,8 @@ fn words_of_kinds(rt: HostRuntime) {
     assert_kind(&rt, Kind::Begin, "begin", 2_097_152);
     assert_kind(&rt, Kind::Set, "set", 2_097_152);
     assert_kind(&rt, Kind::Item, "item", 2_097_152);
+    assert_kind(&rt, Kind::List, "list", 2_097_152);
+    assert_kind(&rt, Kind::Gone, "gone", 2_097_152);
 }
 
 fn assert_kind(rt: &impl Abort, kind: Kind, word: &str, most: usize) {
