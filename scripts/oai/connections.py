@@ -16,10 +16,10 @@ from oai.programs import needs
 from oai.servers import Process, Server
 
 
-def by_wrk(port, target, clients, seconds):
+def by_wrk(port, target, clients, seconds, scheme="http"):
     """Answers a second, where each of the clients asks again once it is answered."""
     threads = "1" if clients == 1 else "2"
-    command = ["wrk", f"-t{threads}", f"-c{clients}", f"-d{seconds}", f"http://127.0.0.1:{port}{target}"]
+    command = ["wrk", f"-t{threads}", f"-c{clients}", f"-d{seconds}", f"{scheme}://127.0.0.1:{port}{target}"]
     said = subprocess.run(command, capture_output=True, text=True, check=True).stdout
     return float(re.search(r"Requests/sec:\s+([\d.]+)", said)[1])
 

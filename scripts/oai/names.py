@@ -22,6 +22,7 @@ GROUPS = {
         "reports": "reports",
         "keys": "keys",
         "status": "status",
+        "shards": "shards",
         "fuzz": "fuzz",
         "fuzz-elements": "fuzz_elements",
         "elements": "elements",

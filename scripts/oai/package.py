@@ -13,6 +13,10 @@ from oai.programs import TOP, needs, oaihost, oaihostd
 from oai.trials import Trial
 
 UNIT = "oaihostd.service"
+
+# One of several servers, the folder of its configuration, and its port.
+SERVER, SERVER_FOLDER, SERVER_PORT = "oaihostd@letters.service", "/etc/oaihost/letters", 8481
+
 ITEM = '{"deposit":"oai:a:1","sets":[],"records":{"oai_dc":[["title","On Sets"]]}}'
 EXAMPLE = "/usr/share/doc/oaihost/examples/archive.example"
 
@@ -52,11 +56,12 @@ class Machine:
         """Has apt-get do that; it waits where the timers of a fresh root have it at work."""
         self.said(f"apt-get -o DPkg::Lock::Timeout={PATIENCE} {command} -y {name}")
 
-    def ask(self, path, body=None):
+    def ask(self, path, body=None, port=8480, fields=()):
         """What the server in it answers, by a client beside it in its network."""
         data = [] if body is None else ["--data-binary", body]
+        data += [it for field in fields for it in ("-H", field)]
         command = ["nsenter", "-t", self.leader, "-n", "curl", "-sS", "--retry", "20", "--retry-connrefused", "--retry-delay", "1", *data]
-        return subprocess.run([*command, f"http://127.0.0.1:8480{path}"], capture_output=True, text=True).stdout.strip()
+        return subprocess.run([*command, f"http://127.0.0.1:{port}{path}"], capture_output=True, text=True).stdout.strip()
 
     def stop(self, command="systemctl poweroff"):
         """Ends it, as its own command does."""
@@ -132,15 +137,15 @@ def begin(trial, machine):
     return answer.split()[1]
 
 
-def has_item(trial, machine, when, stamp):
+def has_item(trial, machine, when, stamp, name="a", port=8480):
     """The item is there, with its datestamp."""
-    answer = machine.ask("/oai/a?verb=GetRecord&identifier=oai:a:1&metadataPrefix=oai_dc")
+    answer = machine.ask(f"/oai/{name}?verb=GetRecord&identifier=oai:a:1&metadataPrefix=oai_dc", port=port)
     found = re.search("<header>.*</header>", answer)
     trial.check(f"the item {when}", found and found[0], f"<header><identifier>oai:a:1</identifier><datestamp>{stamp}</datestamp></header>")
 
 
-def property_of(machine, name):
-    return machine.said(f"systemctl show --value -p {name} {UNIT}")
+def property_of(machine, name, unit=UNIT):
+    return machine.said(f"systemctl show --value -p {name} {unit}")
 
 
 def look_at_service(trial, machine):
@@ -163,6 +168,33 @@ def look_at_service(trial, machine):
 def machine_sockets(machine):
     """The sockets that listen in its network."""
     return subprocess.run(["nsenter", "-t", machine.leader, "-n", "ss", "-Htln"], capture_output=True, text=True).stdout.splitlines()
+
+
+def begin_server(trial, machine):
+    """A second server is begun as README.Debian says, with keys; comes back with what was answered to a deposit, or None."""
+    machine.said(f"mkdir {SERVER_FOLDER}; sed 's/\"a\"/\"letters\"/' /etc/oaihost/archive.json >{SERVER_FOLDER}/archive.json")
+    machine.said(f"systemctl enable --now {SERVER}")
+    trial.check("a server without a port", property_of(machine, "ActiveState", SERVER), "inactive")
+    digest = machine.said("printf key | sha256sum").split()[0]
+    machine.said(f"""echo '{{"keys":[{{"name":"letters","digests":["{digest}"]}}]}}' >{SERVER_FOLDER}/keys.json""")
+    machine.said(f"printf 'PORT={SERVER_PORT}\\nKEYS={SERVER_FOLDER}/keys.json\\n' >{SERVER_FOLDER}/server.env")
+    machine.said(f"systemctl start {SERVER}")
+    trial.check("a deposit without its key", machine.ask("/deposit/letters", ITEM, SERVER_PORT), "")
+    found = re.fullmatch(r"ok (\S+)", machine.ask("/deposit/letters", ITEM, SERVER_PORT, ["Authorization: Bearer key"]))
+    trial.check("a deposit with its key", bool(found), True)
+    trial.check("the ports", sorted(it.split()[3] for it in machine_sockets(machine)), ["127.0.0.1:8480", f"127.0.0.1:{SERVER_PORT}"])
+    trial.check("its folder", machine.said("stat -c '%U:%G %a' /var/lib/oaihostd@letters"), "oaihost:oaihost 750")
+    trial.check("whether it can write into another's", machine.run(f"nsenter -t {property_of(machine, 'MainPID', SERVER)} -m touch /var/lib/oaihostd/none").returncode, 1)
+    texts = [machine.said(f"systemctl cat {unit} | tail -n +2").splitlines() for unit in (UNIT, SERVER)]
+    other = sorted({it.partition("=")[0] for it in set(texts[0]) ^ set(texts[1]) if not it.startswith("#")})
+    trial.check("where the units differ", other, ["ConditionPathExists", "Description", "EnvironmentFile", "ExecStart", "StateDirectory"])
+    return found and found[1]
+
+
+def has_both(trial, machine, when, stamps):
+    """Each server has its item."""
+    has_item(trial, machine, when, stamps[0])
+    has_item(trial, machine, f"of the second server {when}", stamps[1], "letters", SERVER_PORT)
 
 
 def kill(trial, machine, stamp):
@@ -190,23 +222,25 @@ def change_configuration(trial, machine, stamp):
     has_item(trial, machine, "behind another configuration", stamp)
 
 
-def upgrade(trial, machine, package, stamp):
+def upgrade(trial, machine, package, stamps):
     """A later package is installed over the running archive, which goes on with it."""
-    before = property_of(machine, "MainPID")
+    before = [property_of(machine, "MainPID", it) for it in (UNIT, SERVER)]
     machine.apt("install", f"/srv/{package.name}")
     trial.check("the later package", machine.said("dpkg-query -W -f '${Version}' oaihost"), package.name.split("_")[1])
-    trial.check("it was started anew", property_of(machine, "MainPID") not in (before, "0"), True)
-    has_item(trial, machine, "behind an upgrade", stamp)
+    for unit in (UNIT, SERVER):
+        trial.check(f"{unit} was started anew", property_of(machine, "MainPID", unit) not in (*before, "0"), True)
+    has_both(trial, machine, "behind an upgrade", stamps)
 
 
-def remove(trial, machine, package, stamp):
+def remove(trial, machine, package, stamps):
     """Removed, it leaves the archive, with which it goes on once it is installed again; purged, it leaves nothing."""
     machine.apt("remove", "oaihost")
-    trial.check("removed", machine.run(f"ls /usr/sbin/oaihostd /usr/bin/oaihost /usr/share/oaihost /lib/systemd/system/{UNIT} 2>/dev/null").stdout, "")
+    trial.check("removed", machine.run(f"ls /usr/sbin/oaihostd /usr/bin/oaihost /usr/share/oaihost /lib/systemd/system/oaihostd* 2>/dev/null").stdout, "")
     trial.check("it listens no more", machine_sockets(machine), [])
-    trial.check("what stays", machine.said("cd / && ls etc/oaihost/* var/lib/oaihostd/journal"), "etc/oaihost/archive.json\nvar/lib/oaihostd/journal")
+    stays = "etc/oaihost/archive.json etc/oaihost/letters/archive.json var/lib/oaihostd/journal var/lib/oaihostd@letters/journal"
+    trial.check("what stays", machine.said("cd / && ls etc/oaihost/archive.json etc/oaihost/*/archive.json var/lib/oaihostd*/journal").split(), stays.split())
     machine.apt("install", f"/srv/{package.name}")
-    has_item(trial, machine, "once it is installed again", stamp)
+    has_both(trial, machine, "once it is installed again", stamps)
 
 
 def files(machine):
@@ -244,12 +278,14 @@ def try_all(trial, folder):
         look_at_service(trial, machine)
         kill(trial, machine, stamp)
         change_configuration(trial, machine, stamp)
-        upgrade(trial, machine, second, stamp)
+        stamps = stamp, begin_server(trial, machine)
+        upgrade(trial, machine, second, stamps)
         machine.stop()
         machine.boot()
-        trial.check("started by the boot", machine.said(f"systemctl is-active {UNIT}"), "active")
-        has_item(trial, machine, "behind a boot", stamp)
-        remove(trial, machine, second, stamp)
+        for unit in (UNIT, SERVER):
+            trial.check(f"{unit} started by the boot", machine.said(f"systemctl is-active {unit}"), "active")
+        has_both(trial, machine, "behind a boot", stamps)
+        remove(trial, machine, second, stamps)
         purge(trial, machine, before)
         machine.stop()
     finally:
@@ -260,12 +296,13 @@ def package():
     """Makes the Debian package, and tries it in a fresh root that systemd-nspawn boots.
 
     packaging/build.sh makes it, and lintian looks at it. It is installed, its unit is looked at with systemd-analyze,
-    an archive is begun as README.Debian says, items are deposited, the server is killed, a later package is installed
-    over the running archive, the machine is started again, the package is removed (the archive stays), installed again,
-    and purged. Each time the item is asked for, which has to be there with its datestamp. It names what differs; the
-    last line is `N checked, M differ`, and the status is 0 where M is 0. ROOT is a folder in which debootstrap made a
-    fresh root, of which a copy is used; where it is not set one is made, which asks a mirror of Debian. It needs root,
-    and packages of Debian: apt-get install curl debhelper debootstrap lintian systemd-container
+    an archive is begun as README.Debian says, items are deposited, the server is killed, a second server is begun, a
+    later package is installed over the running archive, the machine is started again, the package is removed (the
+    archive stays), installed again, and purged. Each time the item of each server is asked for, which has to be there
+    with its datestamp. It names what differs; the last line is `N checked, M differ`, and the status is 0 where M is 0.
+    ROOT is a folder in which debootstrap made a fresh root, of which a copy is used; where it is not set one is made,
+    which asks a mirror of Debian. It needs root, and packages of Debian: apt-get install curl debhelper debootstrap
+    lintian systemd-container
     """
     needs("curl", "dh", "lintian", "debootstrap", "systemd-nspawn", "nsenter", root=True)
     trial = Trial()

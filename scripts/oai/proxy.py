@@ -22,16 +22,16 @@ HOST = "archive.example"
 
 
 class Proxy:
-    """nginx in a folder, which has a file `archive.json`, from here to the end of the `with`: by the lines of web/nginx.conf, with other files and
-    ports. The page is a copy, which every user may read."""
+    """nginx in a folder, which has a file `archive.json`, from here to the end of the `with`: by the lines of web/nginx.conf, or by others of that form,
+    with other files and ports. The page is a copy, which every user may read."""
 
-    def __init__(self, folder, port, replaced=()):
+    def __init__(self, folder, port, replaced=(), lines=None, workers=1):
         self.folder = pathlib.Path(folder)
         self.folder.chmod(0o755)
         with socket.create_server(("127.0.0.1", 0)) as free:
             self.port = free.getsockname()[1]
         shutil.copytree(TOP / "web", self.folder / "web")
-        lines = (TOP / "web/nginx.conf").read_text()
+        lines = lines or (TOP / "web/nginx.conf").read_text()
         for usual, here in [
             ("listen 443", f"listen 127.0.0.1:{self.port}"), ("/etc/ssl", str(self.folder)), ("/usr/share/oaihost/web", f"{self.folder}/web"),
             ("/etc/oaihost", str(self.folder)), ("127.0.0.1:8480", f"127.0.0.1:{port}"), *replaced,
@@ -39,7 +39,7 @@ class Proxy:
             lines = lines.replace(usual, here)
         own = " ".join(f"{kind}_temp_path {kind};" for kind in ("client_body", "proxy", "fastcgi", "uwsgi", "scgi"))
         log = "log_format statuses '$status $request'; access_log access.log statuses;"
-        around = f"error_log error.log; pid nginx.pid; events {{}}\nhttp {{ include /etc/nginx/mime.types; {log} {own}\n"
+        around = f"worker_processes {workers}; error_log error.log; pid nginx.pid; events {{}}\nhttp {{ include /etc/nginx/mime.types; {log} {own}\n"
         (self.folder / "nginx.conf").write_text(f"{around}{lines}}}\n")
         subprocess.run(
             ["openssl", "req", "-x509", "-newkey", "rsa:2048", "-nodes", "-days", "1", "-subj", f"/CN={HOST}", "-keyout", "archive.key", "-out", "archive.pem"],

@@ -64,7 +64,7 @@ def look_around(reader):
     reader.enter("#sets a", "Letters before 1900 letters:early")
     seen = reader.expect("a set", "Records", "1 record, all of them")
     reader.check("a set", [it["identifier"] for it in seen["records"]], ["oai:journal:3"])
-    reader.check("what was asked", reader.browser.run("return document.querySelector('#content .about').textContent"), "in the format oai_dc in the set letters:early")
+    reader.check("what was asked", reader.browser.run("return document.querySelector('#content .facts').textContent"), "in the format oai_dc in the set letters:early")
 
 
 def document_count(reader):
@@ -89,14 +89,14 @@ def read_parts(reader, stamp):
     reader.enter("#list button", backwards=True)
     seen = reader.expect("the first part", "Records", "1 to 2 of 5")
     reader.check("the first part", seen["records"], [
-        {"identifier": "oai:journal:1", "about": [stamp, "formats"], "fields": [title_field('A & B < "C" é')]},
-        {"identifier": "oai:journal:2", "about": [stamp, "set letters", "formats"], "fields": [title_field("On Sets")]}])
+        {"identifier": "oai:journal:1", "facts": [stamp, "formats"], "fields": [title_field('A & B < "C" é')]},
+        {"identifier": "oai:journal:2", "facts": [stamp, "set letters", "formats"], "fields": [title_field("On Sets")]}])
     reader.enter(".parts a", "Next part")
     seen = reader.expect("the second part", "Records", "3 to 4 of 5")
     reader.check("the second part", seen["records"], [
-        {"identifier": "oai:journal:3", "about": [stamp, "set letters:early", "formats"],
+        {"identifier": "oai:journal:3", "facts": [stamp, "set letters:early", "formats"],
          "fields": [title_field("On Lists"), ["creator", "Doe, J."], ["date", "1899"]]},
-        {"identifier": "oai:journal:4", "about": ["deleted", stamp, "set letters"], "fields": []}])
+        {"identifier": "oai:journal:4", "facts": ["deleted", stamp, "set letters"], "fields": []}])
     reader.orderly("a part")
     reader.enter(".parts a", "Next part")
     seen = reader.expect("the last part", "Records", "5 to 5 of 5")
@@ -124,8 +124,8 @@ def read_headers(reader, stamp):
     reader.browser.press(DOWN)
     reader.enter("#list button")
     seen = reader.expect("headers", "Headers", "1 header, all of them")
-    reader.check("headers", seen["records"], [{"identifier": "oai:journal:3", "about": [stamp, "set letters:early", "formats"], "fields": []}])
-    reader.check("what was asked", reader.browser.run("return document.querySelector('#content .about').textContent"),
+    reader.check("headers", seen["records"], [{"identifier": "oai:journal:3", "facts": [stamp, "set letters:early", "formats"], "fields": []}])
+    reader.check("what was asked", reader.browser.run("return document.querySelector('#content .facts').textContent"),
                  f"in the format oai_dc from {stamp} until {stamp} in the set letters:early")
     reader.check("the form keeps it", reader.browser.run("return ['from', 'until', 'set'].map((it) => document.getElementById(it).value)"),
                  [stamp, stamp, "letters:early"])
@@ -138,9 +138,9 @@ def read_one(reader, stamp):
     reader.write("#identifier", "oai:journal:2")
     reader.enter("#get button")
     seen = reader.expect("a record", "A record in oai_dc", "")
-    record = {"identifier": "oai:journal:2", "about": [stamp, "set letters", "formats"], "fields": [title_field("On Sets")]}
+    record = {"identifier": "oai:journal:2", "facts": [stamp, "set letters", "formats"], "fields": [title_field("On Sets")]}
     reader.check("a record", seen["records"], [record])
-    reader.enter(".about a", "formats")
+    reader.enter(".facts a", "formats")
     reader.expect("its formats", "Formats of oai:journal:2", "2 formats")
     reader.enter(".format a", "jnl")
     seen = reader.expect("the record in another format", "A record in jnl", "")
@@ -153,7 +153,7 @@ def read_one(reader, stamp):
     reader.browser.press("o")
     reader.enter("#get button")
     seen = reader.expect("a deleted record", "A record in oai_dc", "")
-    reader.check("a deleted record", seen["records"], [{"identifier": "oai:journal:4", "about": ["deleted", stamp, "set letters"], "fields": []}])
+    reader.check("a deleted record", seen["records"], [{"identifier": "oai:journal:4", "facts": ["deleted", stamp, "set letters"], "fields": []}])
     reader.check("it is struck out", reader.browser.run("return getComputedStyle(document.querySelector('.deleted h3')).textDecorationLine"), "line-through")
 
 
@@ -176,7 +176,7 @@ def read_errors(reader):
     for fragment, title, said in ERRORS:
         reader.go(fragment)
         reader.expect(fragment, title, "")
-        reader.check(fragment, reader.browser.run("return document.querySelector('.fault .about').textContent"), said)
+        reader.check(fragment, reader.browser.run("return document.querySelector('.fault .facts').textContent"), said)
         reader.orderly(title)
     reader.go("#/nothing")
     seen = reader.expect("no repository", "No such repository", "")
@@ -368,7 +368,7 @@ def read_many(reader):
     reader.browser.back()
     reader.expect("the sets again", "Sets", "10,000 sets")
     reader.write("#find", "depth 1")
-    reader.browser.wait("return document.querySelector('.find .about').textContent === '12 sets found'")
+    reader.browser.wait("return document.querySelector('.find .facts').textContent === '12 sets found'")
     found = reader.browser.run("return [...document.querySelectorAll('#sets > li')].map((it) => it.textContent)")
     reader.check("sets that are found", found, [f"Depth {at} {':'.join(['d'] * at)}" for at in [1, *range(10, 20), 100]])
     reader.write("#find", "")

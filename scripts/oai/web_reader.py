@@ -14,7 +14,7 @@ return {
     terms: terms(answer.querySelector("dl")),
     records: [...answer.querySelectorAll(".record")].map((it) => ({
         identifier: text(it, "h3"),
-        about: [...it.querySelectorAll(".about > *")].map((part) => part.textContent),
+        facts: [...it.querySelectorAll(".facts > *")].map((part) => part.textContent),
         fields: terms(it.querySelector("dl")),
     })),
     fault: text(answer, ".fault > p, p.fault"),

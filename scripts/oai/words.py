@@ -14,14 +14,12 @@ IMPORT = re.compile(r"ghost use Rattle\.(\w+)\.specs\.(\w+)\.\{([^}]*)\};")
 # Words that keep several meanings, each with the reason.
 EXCEPTIONS = {
     "◌>>=◌": "the bind of a monad, under its usual sign: of Option, and in oai_xml of Result",
-    "behind": "in oai_xml what stands behind a literal, in oai_serving a world with the handler behind another one",
     "element": "a production of XML's grammar: in oai_answers its bytes, in oai_xml the node of a tree",
     "start_tag": "a production of XML's grammar: in oai_answers without attributes, in oai_xml with those of a tree",
     "end_tag": "a production of XML's grammar: the same bytes, in oai_answers by the literals of its code",
     "elements_of": "in oai_json those of an array, in oai_xml those that are kept under a name",
     "content_in": "in oai_xml a production of XML's grammar, in oai_item the fields of a record without those about it",
     "element_in": "in oai_xml a production of XML's grammar, in oai_item the element that fields keep",
-    "have_records": "of names that are given, in oai_places each of an item's records, in oai_deposit each of a line's",
     "root_in": "the root of an XML document: in oai_xml its production, in oai_item its name",
     "AreRecords": "the records of an item: in Givens in memory, in Walks in encoded bytes",
     "spelled_attribute": "a production of XML's grammar: in oai_answers of an escaped value, in oai_xml of an attribute of a tree",
