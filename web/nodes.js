@@ -28,9 +28,9 @@ export function linked(text) {
     return isAddress ? element("a", { href: text, rel: "noreferrer" }, foreign(text)) : foreign(text);
 }
 
-/** A line of what is said about something: its parts, each a text or a node, with spaces between them. */
+/** A line of facts about something: its parts, each a text or a node, with spaces between them. */
 export function line(...parts) {
-    return element("p", { class: "about" }, ...parts.flatMap((part) => [part, " "]).slice(0, -1));
+    return element("p", { class: "facts" }, ...parts.flatMap((part) => [part, " "]).slice(0, -1));
 }
 
 /** A button that calls `act`. */

@@ -63,7 +63,7 @@ function setItem(place, prefix, set) {
 function setsView(place, answer, prefix) {
     const { top, all } = readSets(answer);
     const list = element("ul", { class: "sets", id: "sets" });
-    const found = element("span", { class: "about", role: "status" });
+    const found = element("span", { class: "facts", role: "status" });
     const input = element("input", { type: "search", id: "find", autocomplete: "off", spellcheck: "false" });
     const show = () => {
         const words = input.value.trim().toLowerCase();
@@ -92,11 +92,11 @@ function namespaceLine({ prefix, namespace }) {
 /** An element as an item of a tree: its name, its namespaces and attributes, and below it what stands in it. Nothing of it becomes an element of the page. */
 function treeItem(container, isKept) {
     const tree = readTree(container, isKept);
-    const about = [
+    const facts = [
         ...tree.namespaces.map(namespaceLine),
         ...tree.attributes.map(({ name, value }) => element("span", { class: "attribute" }, code(name), " = ", linked(value))),
     ];
-    const made = element("li", { tabindex: "-1" }, code(tree.name), ...about.flatMap((part) => [" ", part]));
+    const made = element("li", { tabindex: "-1" }, code(tree.name), ...facts.flatMap((part) => [" ", part]));
     const [only] = tree.inside;
     if (tree.inside.length === 1 && only.nodeType !== Node.ELEMENT_NODE) {
         made.append(" ", element("span", { class: "text" }, linked(only.data)));
@@ -129,14 +129,14 @@ function aboutView(record) {
 /** A record or a header of a list, or the record of GetRecord. */
 function recordView(place, record, header, prefix) {
     const { identifier, datestamp, sets, isDeleted } = readHeader(header);
-    const about = line(
+    const facts = line(
         ...(isDeleted ? [element("span", { class: "mark" }, "deleted")] : []),
         element("time", { datetime: datestamp }, datestamp),
         ...sets.map((set) => element("span", {}, "set ", requestLink(place, { verb: "ListRecords", metadataPrefix: prefix, set }, code(set)))),
         ...(isDeleted ? [] : [requestLink(place, { verb: "ListMetadataFormats", identifier }, "formats")]),
     );
     const title = element("h3", {}, requestLink(place, { verb: "GetRecord", identifier, metadataPrefix: prefix }, code(identifier)));
-    return element("article", { class: isDeleted ? "record deleted" : "record" }, title, about, ...metadataView(record), ...aboutView(record));
+    return element("article", { class: isDeleted ? "record deleted" : "record" }, title, facts, ...metadataView(record), ...aboutView(record));
 }
 
 /** GetRecord (section 4.1). */
