@@ -20,6 +20,8 @@ use Rattle.oai_answers.specs.declared.errors.ErrorCode.TheVariants.{BadVerb, Bad
 use Rattle.oai_item.specs.declared.deleted_record.DeletedRecord.{DeletedRecord}
 use Rattle.oai_item.specs.declared.deleted_record.DeletedRecord.TheVariants.{No, Transient, Persistent}
 use Rattle.oai_answers.specs.declared.tokens.Extent.{Extent}
+use Rattle.oai_answers.specs.declared.request.Argument.{Argument}
+use Rattle.oai_answers.specs.declared.request.Argument.TheVariants as argument
 use Rattle.oai_answers.specs.declared.metadata.Qualifier.{Qualifier}
 use Rattle.oai_answers.specs.declared.metadata.Qualifier.TheVariants.{Dc, Bare}
 
@@ -34,6 +36,16 @@ head = codes "<?xml version=\"1.0\" encoding=\"UTF-8\"?>\n<OAI-PMH xmlns=\"http:
 abbrev pub given_attribute : List ℕ → Option (List ℕ) → List ℕ
 given_attribute name None = []
 given_attribute name (Some value) = attribute name value
+
+-- the name of an argument
+abbrev pub argument_name : Argument → List ℕ
+argument_name argument.Verb = codes "verb"
+argument_name argument.Identifier = codes "identifier"
+argument_name argument.MetadataPrefix = codes "metadataPrefix"
+argument_name argument.From = codes "from"
+argument_name argument.Until = codes "until"
+argument_name argument.Set = codes "set"
+argument_name argument.ResumptionToken = codes "resumptionToken"
 
 -- the arguments in their order
 unfoldable pub attributes : Attributes → List ℕ

@@ -2,7 +2,7 @@
 use Rattle.std.specs.Prelude.{ℕ, List, ◌++◌, codes}
 use Rattle.oai_names.specs.Escapes.{escaped_text, escaped_attribute}
 use Rattle.oai_answers.specs.declared.tags.Tag.{Tag}
-use Rattle.oai_answers.specs.declared.tags.Tag.TheVariants.{Record, Header, Identifier, Datestamp, SetSpec, Metadata, About, DublinCore}
+use Rattle.oai_answers.specs.declared.tags.Tag.TheVariants.{ResponseDate, Request, GetRecord, EarliestDatestamp, Record, Header, Identifier, Datestamp, SetSpec, Metadata, About, DublinCore}
 
 -- bytes that are written unescaped: the bytes themselves. It marks them for the prover, and changes nothing
 unfoldable pub plain : List ℕ → List ℕ
@@ -41,8 +41,12 @@ spelled_attribute name value = attribute_start name ++ value ++ plain (codes "\"
 unfoldable pub attribute : List ℕ → List ℕ → List ℕ
 attribute name text = spelled_attribute name (escaped_attribute text)
 
--- the name of an element that each record has, or may have. OAI-PMH 2.0, section 2.5
+-- the name of an element that documents or records have, or may have. OAI-PMH 2.0, sections 2.5, 3.2, 4.1 and 4.2
 abbrev pub tag_name : Tag → List ℕ
+tag_name ResponseDate = codes "responseDate"
+tag_name Request = codes "request"
+tag_name GetRecord = codes "GetRecord"
+tag_name EarliestDatestamp = codes "earliestDatestamp"
 tag_name Record = codes "record"
 tag_name Header = codes "header"
 tag_name Identifier = codes "identifier"

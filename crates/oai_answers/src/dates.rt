@@ -2,19 +2,20 @@ ghost use Rattle.std.specs.Prelude.{OnOk};
 ghost use Rattle.oai_time.specs.Stamp.{IsWritable};
 ghost use Rattle.oai_time.specs.TimeTexts.{datestamp_text, second_text};
 ghost use Rattle.oai_answers.specs.Appends.{Appends};
-ghost use Rattle.oai_answers.specs.Markup.{element, spelled_attribute};
+ghost use Rattle.oai_answers.specs.Markup.{element, spelled_attribute, tag_name};
 
-use crate::markup::{end, put, start, start_attribute};
+use crate::markup::{put_value_end, start_attribute};
+use crate::tags::{Tag, close, open};
 use oai_time::{Granularity, write_datestamp};
 use std::alloc::AllocError;
 
-/// Appends an element with that name and the time in it, in seconds.
-pub(crate) fn second_element(name: &str, seconds: i64, out: &mut Vec<u8>) -> Result<(), AllocError>
+/// Appends the element with the time in it, in seconds.
+pub(crate) fn second_element(tag: Tag, seconds: i64, out: &mut Vec<u8>) -> Result<(), AllocError>
     requires { IsWritable seconds }
     ensures { OnOk result (Appends out.old.items out.new.items
-        (element name.now (second_text seconds))) }
+        (element (tag_name tag) (second_text seconds))) }
 {
-    datestamp_element(name, Granularity::Second, seconds, out)
+    datestamp_element(tag, Granularity::Second, seconds, out)
 }
 
 /// Appends an attribute with that name and the time as its value, in seconds.
@@ -30,25 +31,25 @@ pub(crate) fn second_attribute(
 {
     start_attribute(name, out)?;
     put_datestamp(Granularity::Second, seconds, out)?;
-    put("\"", out)?;
+    put_value_end(out)?;
     Ok(())
 }
 
-/// Appends an element with that name and the datestamp in it (OAI-PMH 2.0, section 3.3).
+/// Appends the element with the datestamp in it (OAI-PMH 2.0, section 3.3).
 #[tactic(auto, unfolding(crate::specs::Markup::element))]
 pub(crate) fn datestamp_element(
-    name: &str,
+    tag: Tag,
     granularity: Granularity,
     seconds: i64,
     out: &mut Vec<u8>,
 ) -> Result<(), AllocError>
     requires { IsWritable seconds }
     ensures { OnOk result (Appends out.old.items out.new.items
-        (element name.now (datestamp_text granularity seconds))) }
+        (element (tag_name tag) (datestamp_text granularity seconds))) }
 {
-    start(name, out)?;
+    open(tag, out)?;
     put_datestamp(granularity, seconds, out)?;
-    end(name, out)?;
+    close(tag, out)?;
     Ok(())
 }
 

@@ -15,6 +15,7 @@ use crate::records::{Record, write_get_record};
 use crate::request::{RequestAttributes, write_request};
 use crate::rooms::room_of;
 use crate::sets::{DescribedSets, write_list_sets};
+use crate::tags::Tag;
 use oai_item::Format;
 use std::alloc::{AllocError, Global};
 
@@ -78,7 +79,7 @@ fn append(doc: &Doc<'_>, out: &mut Vec<u8>) -> Result<(), AllocError>
     ensures { OnOk result (Appends out.old.items out.new.items (document (document_of doc.now))) }
 {
     write_head(out)?;
-    second_element("responseDate", doc.date, out)?;
+    second_element(Tag::ResponseDate, doc.date, out)?;
     write_request(doc, out)?;
     write_body(doc.base, &doc.body, out)?;
     put("</OAI-PMH>\n", out)?;

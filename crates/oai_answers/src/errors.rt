@@ -2,7 +2,7 @@ ghost use Rattle.std.specs.Prelude.{◌≡◌, OnOk};
 ghost use Rattle.oai_answers.specs.Appends.{Appends};
 ghost use Rattle.oai_answers.specs.Documents.{code_of, error_element, message_of};
 
-use crate::markup::{end, plain_attribute, put};
+use crate::markup::{end, plain_attribute, put, put_tag_end};
 use std::alloc::AllocError;
 
 /// Why a request failed (OAI-PMH 2.0, section 3.6).
@@ -68,7 +68,7 @@ pub(crate) fn write_error(code: ErrorCode, out: &mut Vec<u8>) -> Result<(), Allo
 {
     put("<error", out)?;
     plain_attribute("code", code.code(), out)?;
-    put(">", out)?;
+    put_tag_end(out)?;
     put(code.message(), out)?;
     end("error", out)?;
     Ok(())

@@ -2,13 +2,10 @@ ghost use Rattle.std.specs.Prelude.{OnOk, codes};
 ghost use Rattle.std.specs.List.{flat_map};
 ghost use Rattle.oai_answers.specs.Appends.{Appends};
 ghost use Rattle.oai_answers.specs.Documents.{header_element, header_start};
-ghost use Rattle.oai_answers.specs.Markup.{element};
-ghost use Rattle.oai_time.specs.Stamp.{IsWritable};
-ghost use Rattle.oai_time.specs.TimeTexts.{datestamp_text};
 
-use crate::dates::put_datestamp;
+use crate::dates::datestamp_element;
 use crate::markup::{put, set_specs};
-use crate::tags::{Tag, close, open, tagged_text};
+use crate::tags::{Tag, close, tagged_text};
 use oai_item::Item;
 use oai_time::Granularity;
 use std::alloc::AllocError;
@@ -40,22 +37,9 @@ pub(crate) fn write_header(
 {
     write_header_start(item.is_live(), out)?;
     tagged_text(Tag::Identifier, item.identifier().as_str(), out)?;
-    write_stamp(granularity, item.stamp(), out)?;
+    datestamp_element(Tag::Datestamp, granularity, item.stamp(), out)?;
     set_specs(item.sets(), out)?;
     close(Tag::Header, out)?;
-    Ok(())
-}
-
-/// Appends the element `datestamp` of a header.
-#[tactic(auto, unfolding(crate::specs::Markup::element))]
-fn write_stamp(granularity: Granularity, seconds: i64, out: &mut Vec<u8>) -> Result<(), AllocError>
-    requires { IsWritable seconds }
-    ensures { OnOk result (Appends out.old.items out.new.items
-        (element (codes "datestamp") (datestamp_text granularity seconds))) }
-{
-    open(Tag::Datestamp, out)?;
-    put_datestamp(granularity, seconds, out)?;
-    close(Tag::Datestamp, out)?;
     Ok(())
 }
 

@@ -9,6 +9,7 @@ ghost use Rattle.oai_answers.specs.Markup.{element, plain, text_element};
 
 use crate::dates::datestamp_element;
 use crate::markup::{containers, end, plain_element, start, text_element, text_elements};
+use crate::tags::Tag;
 use oai_item::DeletedRecord;
 use oai_names::Text;
 use oai_time::Granularity;
@@ -73,7 +74,7 @@ fn write_rules(identity: &Identity<'_>, out: &mut Vec<u8>) -> Result<(), AllocEr
         ++ element (codes "granularity") (plain (granularity_text identity.now.granularity)))) }
 {
     datestamp_element(
-        "earliestDatestamp",
+        Tag::EarliestDatestamp,
         identity.granularity,
         identity.earliest,
         out,

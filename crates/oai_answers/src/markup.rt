@@ -16,6 +16,24 @@ pub(crate) fn put(markup: &str, out: &mut Vec<u8>) -> Result<(), AllocError>
     out.extend_from_slice(markup.as_bytes())
 }
 
+/// Appends the end of a tag.
+#[tactic(auto, unfolding(crate::specs::Markup::plain))]
+pub(crate) fn put_tag_end(out: &mut Vec<u8>) -> Result<(), AllocError>
+    ensures { OnOk result (Appends out.old.items out.new.items (plain (codes ">"))) }
+{
+    out.push(b'>')?;
+    Ok(())
+}
+
+/// Appends the quote behind the value of an attribute.
+#[tactic(auto, unfolding(crate::specs::Markup::plain))]
+pub(crate) fn put_value_end(out: &mut Vec<u8>) -> Result<(), AllocError>
+    ensures { OnOk result (Appends out.old.items out.new.items (plain (codes "\""))) }
+{
+    out.push(b'"')?;
+    Ok(())
+}
+
 /// Appends a text, escaped for an element.
 pub(crate) fn put_text(text: &str, out: &mut Vec<u8>) -> Result<(), AllocError>
     ensures { OnOk result (Appends out.old.items out.new.items (escaped_text text.now)) }
@@ -37,7 +55,7 @@ pub(crate) fn start(name: &str, out: &mut Vec<u8>) -> Result<(), AllocError>
 {
     put("<", out)?;
     put(name, out)?;
-    put(">", out)
+    put_tag_end(out)
 }
 
 /// Appends `</NAME>`.
@@ -47,7 +65,7 @@ pub(crate) fn end(name: &str, out: &mut Vec<u8>) -> Result<(), AllocError>
 {
     put("</", out)?;
     put(name, out)?;
-    put(">", out)
+    put_tag_end(out)
 }
 
 /// Appends an element with markup in it.
@@ -133,7 +151,7 @@ pub(crate) fn plain_attribute(name: &str, markup: &str, out: &mut Vec<u8>) -> Re
 {
     start_attribute(name, out)?;
     put(markup, out)?;
-    put("\"", out)?;
+    put_value_end(out)?;
     Ok(())
 }
 
@@ -144,6 +162,6 @@ pub(crate) fn attribute(name: &str, text: &str, out: &mut Vec<u8>) -> Result<(),
 {
     start_attribute(name, out)?;
     put_value(text, out)?;
-    put("\"", out)?;
+    put_value_end(out)?;
     Ok(())
 }

@@ -6,7 +6,9 @@ ghost use Rattle.oai_answers.specs.Contents.{about_from, content_from};
 ghost use Rattle.oai_answers.specs.Documents.{declared_metadata, declared_start, dublin_core_metadata, dublin_core_start, field_element, fields_metadata, metadata, qualifier_of, schema_location};
 ghost use Rattle.oai_answers.specs.Markup.{end_tag, start_tag};
 
-use crate::markup::{attribute, end, put, put_text, put_value, start_attribute};
+use crate::markup::{
+    attribute, end, put, put_tag_end, put_text, put_value, put_value_end, start_attribute,
+};
 use crate::tags::{Tag, close};
 use oai_item::{FieldTexts, Fields, Format};
 use std::alloc::AllocError;
@@ -159,7 +161,7 @@ fn write_declared_start(format: &Format, out: &mut Vec<u8>) -> Result<(), AllocE
     attribute("xmlns", format.namespace.as_str(), out)?;
     attribute("xmlns:xsi", SCHEMA_INSTANCE, out)?;
     write_schema_location(format, out)?;
-    put(">", out)?;
+    put_tag_end(out)?;
     Ok(())
 }
 
@@ -172,7 +174,7 @@ fn write_schema_location(format: &Format, out: &mut Vec<u8>) -> Result<(), Alloc
     put_value(format.namespace.as_str(), out)?;
     put(" ", out)?;
     put_value(format.schema.as_str(), out)?;
-    put("\"", out)?;
+    put_value_end(out)?;
     Ok(())
 }
 
@@ -236,7 +238,7 @@ fn start_qualified(qualifier: Qualifier, name: &str, out: &mut Vec<u8>) -> Resul
 {
     put(qualifier.start(), out)?;
     put(name, out)?;
-    put(">", out)?;
+    put_tag_end(out)?;
     Ok(())
 }
 
@@ -248,6 +250,6 @@ fn end_qualified(qualifier: Qualifier, name: &str, out: &mut Vec<u8>) -> Result<
 {
     put(qualifier.end(), out)?;
     put(name, out)?;
-    put(">", out)?;
+    put_tag_end(out)?;
     Ok(())
 }

@@ -8,7 +8,7 @@ ghost use Rattle.oai_item.specs.Givens.{field_texts};
 
 use crate::fields::fields_in;
 use crate::headers::write_header;
-use crate::markup::{end, put, start};
+use crate::markup::put;
 use crate::metadata::write_metadata;
 use crate::tags::{Tag, close, open};
 use oai_item::{Fields, Format, Item};
@@ -36,14 +36,14 @@ pub(crate) fn write_get_record(
     ensures { OnOk result (Appends out.old.items out.new.items
         (get_record_element (dissemination_of dissemination.now))) }
 {
-    start("GetRecord", out)?;
+    open(Tag::GetRecord, out)?;
     write_record(
         dissemination.granularity,
         dissemination.format,
         dissemination.item,
         out,
     )?;
-    end("GetRecord", out)?;
+    close(Tag::GetRecord, out)?;
     Ok(())
 }
 

@@ -18,11 +18,12 @@ const HEADER_ROOM: usize = 160;
 /// The estimate for the tags of a field or of a setSpec without its name.
 const FIELD_ROOM: usize = 16;
 
-/// The estimated length of a document with that answer. A list is estimated by its first item, on the assumption that
-/// it is a little shorter than the others.
+/// The estimated length of a document with that answer. One record is estimated by the length of its encoded item, so
+/// that its fields are not passed over. A list is estimated by its first item, on the assumption that it is a little
+/// shorter than the others.
 pub(crate) fn room_of(body: &Body<'_>) -> usize {
     let room = match body {
-        Body::GetRecord(record) => record_room(record.format, record.item),
+        Body::GetRecord(record) => record.item.encoded_len().unwrap_or(0),
         Body::ListIdentifiers(list) => room_of_all(list.items, None),
         Body::ListRecords(format, list) => room_of_all(list.items, Some(*format)),
         _ => 0,

@@ -1,4 +1,4 @@
-//! The tags of the elements that each record has, written in one piece.
+//! The tags of the elements that each document or each record has, written in one piece.
 ghost use Rattle.std.specs.Prelude.{◌≡◌, OnOk};
 ghost use Rattle.oai_answers.specs.Appends.{Appends};
 ghost use Rattle.oai_answers.specs.Markup.{end_tag, start_tag, tag_name, text_element};
@@ -6,9 +6,13 @@ ghost use Rattle.oai_answers.specs.Markup.{end_tag, start_tag, tag_name, text_el
 use crate::markup::put_text;
 use std::alloc::AllocError;
 
-/// An element that each record has, or may have.
+/// An element that documents or records have, or may have.
 #[derive(Clone, Copy)]
 pub(crate) enum Tag {
+    ResponseDate,
+    Request,
+    GetRecord,
+    EarliestDatestamp,
     Record,
     Header,
     Identifier,
@@ -26,6 +30,10 @@ impl Tag {
         ensures { result.now ≡ start_tag (tag_name self) }
     {
         match self {
+            Tag::ResponseDate => "<responseDate>",
+            Tag::Request => "<request>",
+            Tag::GetRecord => "<GetRecord>",
+            Tag::EarliestDatestamp => "<earliestDatestamp>",
             Tag::Record => "<record>",
             Tag::Header => "<header>",
             Tag::Identifier => "<identifier>",
@@ -43,6 +51,10 @@ impl Tag {
         ensures { result.now ≡ end_tag (tag_name self) }
     {
         match self {
+            Tag::ResponseDate => "</responseDate>",
+            Tag::Request => "</request>",
+            Tag::GetRecord => "</GetRecord>",
+            Tag::EarliestDatestamp => "</earliestDatestamp>",
             Tag::Record => "</record>",
             Tag::Header => "</header>",
             Tag::Identifier => "</identifier>",

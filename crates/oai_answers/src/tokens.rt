@@ -8,7 +8,7 @@ ghost use Rattle.oai_answers.specs.Documents.{extent_attributes, token_element};
 ghost use Rattle.oai_answers.specs.Markup.{spelled_attribute};
 
 use crate::dates::second_attribute;
-use crate::markup::{end, put, put_text, start_attribute};
+use crate::markup::{end, put, put_tag_end, put_text, put_value_end, start_attribute};
 use std::alloc::AllocError;
 
 /// How a list continues after the items of an answer (OAI-PMH 2.0, section 3.5).
@@ -66,7 +66,7 @@ fn write_remaining(remaining: &Remaining<'_>, out: &mut Vec<u8>) -> Result<(), A
     put("<resumptionToken", out)?;
     second_attribute("expirationDate", remaining.expires, out)?;
     write_extent(remaining.extent, out)?;
-    put(">", out)?;
+    put_tag_end(out)?;
     put_text(remaining.token, out)?;
     end("resumptionToken", out)?;
     Ok(())
@@ -80,7 +80,7 @@ fn write_last(extent: Extent, out: &mut Vec<u8>) -> Result<(), AllocError>
 {
     put("<resumptionToken", out)?;
     write_extent(extent, out)?;
-    put(">", out)?;
+    put_tag_end(out)?;
     end("resumptionToken", out)?;
     Ok(())
 }
@@ -103,7 +103,7 @@ fn number_attribute(name: &str, number: u64, out: &mut Vec<u8>) -> Result<(), Al
 {
     start_attribute(name, out)?;
     put_number(number, out)?;
-    put("\"", out)?;
+    put_value_end(out)?;
     Ok(())
 }
 

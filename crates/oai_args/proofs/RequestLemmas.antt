@@ -11,10 +11,10 @@ use Rattle.oai_args.specs.Arguments.{key_of, known_keys, role_of, given, once, i
 use Rattle.oai_args.specs.Asks.{AskOrError, asks, bad_verb, bad_argument, at_most_once, NamesVerb, IsVerbRequest, IsGetRecord, IsList, IsAsk, IsAskOrError}
 use Rattle.oai_args.specs.Bounds.{is_none_or_set_spec, are_bounds}
 use Rattle.oai_args.specs.Pairs.{Pair, has_only_keys, has_xml_values}
-use Rattle.oai_args.specs.Requests.{provided, verb_named, list_of_verb, suit, get_record_of, first_list_of, first_of, next_of, form_of, asked_or_bad, asked_of_verb, asked_verb, request_in, request_of, IsReadFrom, GivesTheAnswer, is_by_record_verb}
+use Rattle.oai_args.specs.Requests.{provided, list_of_verb, suit, get_record_of, first_list_of, first_of, next_of, form_of, asked_or_bad, asked_of_verb, asked_verb, request_in, request_of, IsReadFrom, GivesTheAnswer, is_by_record_verb}
 use Rattle.oai_names.specs.Optional.{◌>>=◌}
 use Rattle.oai_args.specs.Steps.{result_of}
-use Rattle.oai_args.specs.Verbs.{verbs, name_of, verb_of_list}
+use Rattle.oai_args.specs.Verbs.{verbs, name_of, verb_named, verb_of_list}
 use Rattle.oai_args.specs.declared.arguments.Arguments.{Arguments}
 use Rattle.oai_args.specs.declared.occurrences.Occurrence.{Occurrence}
 use Rattle.oai_args.specs.declared.occurrences.Occurrence.TheVariants.{Never, Once, Often}

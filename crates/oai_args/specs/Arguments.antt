@@ -1,6 +1,8 @@
 -- The arguments that each verb has, and how often each is given. OAI-PMH 2.0, sections 3.6 and 4.
 use Rattle.std.specs.Prelude.{ℕ, Bool, true, false, not, List, [], ◌∷◌, codes, Option, Some, None}
+use Rattle.oai_names.specs.Optional.{◌>>=◌}
 use Rattle.oai_args.specs.Pairs.{Pair, values_of, has_only_keys, has_xml_values}
+use Rattle.oai_args.specs.Verbs.{verb_named}
 use Rattle.oai_args.specs.declared.arguments.Arguments.{Arguments}
 use Rattle.oai_args.specs.declared.occurrences.Occurrence.{Occurrence}
 use Rattle.oai_args.specs.declared.occurrences.Occurrence.TheVariants.{Never, Once, Often}
@@ -90,12 +92,19 @@ suits Next Optional given = is_never given
 suits Next Exclusive given = is_once given
 suits Next Absent given = is_never given
 
+-- the verb that a value names, if it is given once
+abbrev pub verb_once : Occurrence → Option Verb
+verb_once given = do
+  name ← once given
+  verb_named name
+
 -- ---- all together
 
 -- what the pairs give
 unfoldable pub arguments_in : List Pair → Arguments
 arguments_in pairs = record {
-  verb = given (codes "verb") pairs;
+  verb = verb_once (given (codes "verb") pairs);
+  is_verb_given = not (is_never (given (codes "verb") pairs));
   identifier = given (key_of key.Identifier) pairs;
   prefix = given (key_of key.MetadataPrefix) pairs;
   from = given (key_of key.From) pairs;

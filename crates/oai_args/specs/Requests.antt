@@ -1,5 +1,5 @@
 -- The request of arguments, as a function; and the result of reading them. OAI-PMH 2.0, sections 3.6 and 4.
-use Rattle.std.specs.Prelude.{◌≡◌, ◌≢◌, ℕ, Bool, true, ◌&&◌, List, [], bytes_eq, Option, Some, None, Result, Ok, Err, find, if◌then◌else◌, ◌↔◌}
+use Rattle.std.specs.Prelude.{◌≡◌, ◌≢◌, Bool, true, ◌&&◌, List, [], Option, Some, None, Result, Ok, Err, if◌then◌else◌, ◌↔◌}
 use Rattle.oai_names.specs.Names.{is_prefix}
 use Rattle.oai_names.specs.Optional.{◌>>=◌}
 use Rattle.oai_names.specs.declared.list_verbs.ListVerb.{ListVerb}
@@ -9,7 +9,7 @@ use Rattle.oai_args.specs.Arguments.{role_of, once, is_never, suits, arguments_i
 use Rattle.oai_args.specs.Asks.{AskOrError, asks, bad_verb, bad_argument, IsAskOrError}
 use Rattle.oai_args.specs.Bounds.{is_none_or_set_spec, are_bounds}
 use Rattle.oai_args.specs.Pairs.{Pair}
-use Rattle.oai_args.specs.Verbs.{verbs, name_of, is_of_records}
+use Rattle.oai_args.specs.Verbs.{is_of_records}
 use Rattle.oai_args.specs.declared.arguments.Arguments.{Arguments}
 use Rattle.oai_args.specs.declared.requests.Ask.{Ask}
 use Rattle.oai_args.specs.declared.requests.Ask.TheVariants as ask
@@ -24,10 +24,6 @@ use Rattle.oai_args.specs.declared.verbs.Verb.TheVariants.{Identify, ListMetadat
 -- a value, if the test passes
 abbrev pub provided : {A : Type 0} → Bool → A → Option A
 provided passes value = if passes then Some value else None
-
--- the verb with that name
-abbrev pub verb_named : List ℕ → Option Verb
-verb_named name = find (λ verb. bytes_eq name (name_of verb)) verbs
 
 -- the verb whose lists have parts
 abbrev pub list_of_verb : Verb → Option ListVerb
@@ -99,9 +95,7 @@ asked_of_verb granularity (Some verb) given =
 
 -- the requested verb
 unfoldable pub asked_verb : Arguments → Option Verb
-asked_verb given = do
-  name ← once given.verb
-  verb_named name
+asked_verb given = given.verb
 
 -- what the arguments ask for, in a repository with the granularity
 unfoldable pub request_in : Granularity → Arguments → AskOrError

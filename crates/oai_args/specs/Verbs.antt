@@ -1,5 +1,5 @@
 -- The six verbs and their names. OAI-PMH 2.0, section 4.
-use Rattle.std.specs.Prelude.{ℕ, Bool, true, false, List, [], ◌∷◌, codes}
+use Rattle.std.specs.Prelude.{ℕ, Bool, true, false, List, [], ◌∷◌, codes, bytes_eq, Option, find}
 use Rattle.oai_names.specs.declared.list_verbs.ListVerb.{ListVerb}
 use Rattle.oai_names.specs.declared.list_verbs.ListVerb.TheVariants.{Identifiers, Records, Sets}
 use Rattle.oai_args.specs.declared.verbs.Verb.{Verb}
@@ -17,6 +17,10 @@ name_of ListSets = codes "ListSets"
 name_of GetRecord = codes "GetRecord"
 name_of ListIdentifiers = codes "ListIdentifiers"
 name_of ListRecords = codes "ListRecords"
+
+-- the verb with that name
+abbrev pub verb_named : List ℕ → Option Verb
+verb_named name = find (λ verb. bytes_eq name (name_of verb)) verbs
 
 -- the verb whose answers are these lists
 abbrev pub verb_of_list : ListVerb → Verb

@@ -13,11 +13,11 @@ use oai_time::Granularity;
 
 impl Arguments {
     /// Takes the request out of the arguments; the error is why they make none. Allocates nothing.
-    #[tactic(auto, unfolding(crate::specs::Requests::request_in))]
+    #[tactic(auto, unfolding(crate::specs::Requests::request_in, crate::specs::Requests::asked_verb))]
     pub(crate) fn take_request(&mut self, granularity: Granularity) -> Result<Ask, ArgFault>
         ensures { result ≡ result_of (spec.request_in granularity self.old) }
     {
-        let Some(verb) = self.asked_verb() else {
+        let Some(verb) = self.verb else {
             return Err(ArgFault::BadVerb);
         };
         if !self.are_values_xml {

@@ -3,6 +3,7 @@
 
 mod arguments;
 mod bounds;
+mod decodings;
 mod forms;
 mod occurrences;
 mod requests;

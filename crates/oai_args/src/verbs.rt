@@ -1,5 +1,6 @@
 ghost use Rattle.std.specs.Prelude.{◌≡◌};
-ghost use Rattle.oai_args.specs.Requests.{list_of_verb, verb_named};
+ghost use Rattle.oai_args.specs.Requests.{list_of_verb};
+ghost use Rattle.oai_args.specs.Verbs.{verb_named};
 
 use oai_names::ListVerb;
 

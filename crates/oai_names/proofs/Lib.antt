@@ -6,3 +6,4 @@ pub mod Cuts
 pub mod EscapeCuts
 pub mod Lists
 pub mod Numbered
+pub mod PlainTexts

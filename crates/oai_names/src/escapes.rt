@@ -2,7 +2,7 @@ ghost use Rattle.std.specs.Prelude.{◌≡◌, ◌≢◌, ◌<◌, ◌≤◌, �
 ghost use Rattle.std.specs.List.{list_all, list_any};
 ghost use Rattle.std.specs.Option.{option_copied};
 ghost use Rattle.memchr.specs.Find.{is_byte3};
-ghost use Rattle.oai_names.specs.ByteTests.{is_bare_byte};
+ghost use Rattle.oai_names.specs.ByteTests.{is_bare_byte, is_bare_in_value};
 ghost use Rattle.oai_names.specs.Escapes as spec;
 ghost use Rattle.oai_names.specs.Names.{is_one_of};
 ghost use Rattle.oai_names.specs.declared.escapes.Place.TheVariants.{Attribute, Element};
@@ -38,6 +38,9 @@ pub fn escape_attr(text: &str, out: &mut Vec<u8>) -> Result<(), AllocError>
     ensures ok { OnOk result (out.new.items ≡ out.old.items ++ spec.escaped_attribute text.now) }
     ensures err { OnErr result (out.new.items ≡ out.old.items) }
 {
+    if is_bare_value(text.as_bytes()) {
+        return out.extend_from_slice(text.as_bytes());
+    }
     escape(Place::Attribute, text, out)
 }
 
@@ -74,6 +77,25 @@ fn is_bare_byte(b: u8) -> bool
     ensures { result ≡ is_bare_byte b }
 {
     (b != b'&') & (b != b'<') & (b != b'>') & (b != b'\r')
+}
+
+/// The same of the value of an attribute, with no space in it: so are most identifiers, names and URLs.
+#[inline(never)]
+fn is_bare_value(bytes: &[u8]) -> bool
+    ensures { result ≡ list_all is_bare_in_value bytes.now }
+{
+    let mut bare = true;
+    for b in bytes {
+        bare = bare & is_bare_in_value(*b);
+    }
+    bare
+}
+
+/// Whether the byte stands behind `&`, and is no other markup: the white space and the quote stand before it.
+fn is_bare_in_value(b: u8) -> bool
+    ensures { result ≡ is_bare_in_value b }
+{
+    (b > b'&') & (b != b'<') & (b != b'>')
 }
 
 /// Appends the text, each of its characters as the table spells it.

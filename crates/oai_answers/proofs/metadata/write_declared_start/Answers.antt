@@ -9,4 +9,4 @@ returns c =
     let root = rw c.as_str.ensures at c.in_ok-put-2.ensures in
     let namespace = rw c.as_str-2.ensures at c.in_ok-attribute.ensures in
     c.in_ok-put.ensures ⨾ root ⨾ namespace ⨾ c.in_ok-attribute-2.ensures ⨾ c.in_ok-write_schema_location.ensures
-    ⨾ c.in_ok-put-3.ensures
+    ⨾ c.in_ok-put_tag_end.ensures

@@ -10,5 +10,5 @@ unfolding token_element
 returns c =
     let fits : FitsSigned w64 c.args.remaining.now.expires = omega (arith, ints) in
     let expires = simp to_z-of_z at c.in_ok-second_attribute.ensures in
-    c.in_ok-put.ensures ⨾ expires ⨾ c.in_ok-write_extent.ensures ⨾ c.in_ok-put-2.ensures ⨾ c.in_ok-put_text.ensures
+    c.in_ok-put.ensures ⨾ expires ⨾ c.in_ok-write_extent.ensures ⨾ c.in_ok-put_tag_end.ensures ⨾ c.in_ok-put_text.ensures
     ⨾ c.in_ok-end.ensures
