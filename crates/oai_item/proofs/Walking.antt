@@ -133,6 +133,21 @@ next_is first spelled test reads bytes rest (suc n) x some h e =
     let less : n ≡ suc n - 1 = omega arith in
     subst (λ m. IsNext first spelled test bytes rest (suc n) m x) less (next_one first spelled test reads bytes rest n x h e)
 
+-- where none is to come, any bytes remain
+pub none_spelled : {A : Type 0} (first : List ℕ → A × List ℕ) (spelled : A → List ℕ) (test : A → Bool) (bytes : List ℕ) → length bytes ≤ MAX_ITEM_BYTES → AreSpelled spelled test bytes (first_elements first 0 bytes).0
+unfolding first_elements
+none_spelled first spelled test bytes few = record { good = refl; behind = bytes; parts = refl; few = few }
+
+last_one : {A : Type 0} (first : List ℕ → A × List ℕ) (spelled : A → List ℕ) → ReadsBack first spelled → (bytes rest : List ℕ) (x : A) → length bytes ≤ MAX_ITEM_BYTES → bytes ≡ spelled x ++ rest → (first_elements first 1 bytes).0 ≡ x ∷ (first_elements first 0 bytes).0
+unfolding first_elements
+last_one first spelled reads bytes rest x few e = ap (λ y. y ∷ []) (reads.back bytes x rest few e).0
+
+-- where one is to come, it is the last
+pub last_is : {A : Type 0} (first : List ℕ → A × List ℕ) (spelled : A → List ℕ) → ReadsBack first spelled → (bytes rest : List ℕ) (left : ℕ) (x : A) → left ≡ 1 → length bytes ≤ MAX_ITEM_BYTES → bytes ≡ spelled x ++ rest
+    → (first_elements first left bytes).0 ≡ x ∷ (first_elements first 0 bytes).0
+last_is first spelled reads bytes rest left x one few e =
+    ap (λ n. (first_elements first n bytes).0) one ∙ last_one first spelled reads bytes rest x few e
+
 -- ---- how many are to come
 
 pub length_left : {A : Type 0} (first : List ℕ → A × List ℕ) (left : ℕ) (bytes : List ℕ) → length (first_elements first left bytes).0 ≡ left

@@ -10,7 +10,6 @@ use Rattle.oai_item.specs.Item.{IsStamp, ItemState, Metadata, live_item}
 use Rattle.oai_item.specs.Walks.{is_name_text, is_record}
 use Rattle.oai_item.specs.declared.in_place.Parts.{Parts}
 use Rattle.oai_item.specs.declared.sizes.TheConstants.{MAX_ITEM_BYTES}
-use denote.Ref.{Bor}
 
 -- writing these bytes at the start of others returns how many they are, and leaves what is behind them
 abbrev pub Writes : List ℕ → List ℕ → ℕ → List ℕ → Type 0
@@ -32,11 +31,6 @@ abbrev pub Reads : {A B : Type 0} → (A → B × List ℕ) → (B → List ℕ)
 Reads see spelled Good bytes (Some a) =
     Good (see a).0 × (bytes ≡ spelled (see a).0 ++ (see a).1)
 Reads see spelled Good bytes None = ¬ (Stands spelled Good bytes)
-
--- the result of reading the datestamp and the identifier of the item, with which its encoding begins
-abbrev pub IsPlaceRead : ItemState → Option (ℤ × Bor (List ℕ)) → Type 0
-IsPlaceRead item (Some place) = (place.0 ≡ item.stamp) × (place.1.now ≡ item.identifier)
-IsPlaceRead item None = ⊥
 
 -- the bytes are the encoding of the good value, and then the rest
 abbrev pub IsFront : {A : Type 0} → (A → List ℕ) → (A → Type 0) → A → List ℕ → List ℕ → Type 0

@@ -108,6 +108,28 @@ pub(crate) fn first_record(bytes: &[u8]) -> (SpelledRecord<'_>, &[u8])
     (SpelledRecord { prefix, fields }, rest)
 }
 
+/// The record at the start of the bytes. What is behind it is not looked for, so its fields are not passed over.
+pub(crate) fn last_record(bytes: &[u8]) -> SpelledRecord<'_>
+    requires { Stands encoded_record (λ format. is_record format ≡ true) bytes.now }
+    ensures { IsFront encoded_record (λ format. is_record format ≡ true)
+        (result.prefix.now, result.fields) bytes.now (first_record bytes.now).1 }
+{
+    let (prefix, rest) = first_text(bytes);
+    SpelledRecord {
+        prefix,
+        fields: last_fields(rest),
+    }
+}
+
+/// The list of fields at the start of the bytes.
+fn last_fields(bytes: &[u8]) -> SpelledFields<'_>
+    requires { Stands (encoded_list encoded_field) (λ fields. are_fields fields ≡ true) bytes.now }
+    ensures { result ≡ (first_list first_field bytes.now).0 }
+{
+    let (count, start) = read_count(bytes).unwrap();
+    SpelledFields::new(count, start)
+}
+
 /// The list of records at the start of the bytes.
 pub(crate) fn first_records(bytes: &[u8]) -> SpelledRecords<'_>
     requires { Stands (encoded_list encoded_record) (λ formats. are_records formats ≡ true)

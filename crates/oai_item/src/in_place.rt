@@ -5,6 +5,7 @@ ghost use Rattle.oai_item.specs.Decoding.{IsReadInPlace, item_in};
 ghost use Rattle.oai_item.specs.Encoding.{Spells, encoded};
 ghost use Rattle.oai_item.specs.Held.{AreWhole, records_in};
 ghost use Rattle.oai_item.specs.Item.{IsItem, ItemState, are_rising, has_record, have_no_fields, may_be_records};
+ghost use Rattle.oai_item.specs.Items as items;
 ghost use Rattle.oai_item.specs.Membership.{is_in, none_covers};
 ghost use Rattle.oai_item.specs.Order.{item_cmp, place_cmp};
 ghost use Rattle.oai_item.specs.Selection.{is_in_given, passes};
@@ -16,6 +17,7 @@ use crate::decodings::{
     DecodeFault, read_identifier, read_live, read_records, read_sets, read_stamp,
 };
 use crate::fronts::{first_records, first_sets, first_text};
+use crate::keys::ItemKey;
 use crate::sizes::MAX_ITEM_BYTES;
 use crate::walks::{SpelledRecords, SpelledSets};
 use oai_names::{SetSpec, covers};
@@ -147,6 +149,13 @@ impl<'a> Spelling<'a> {
             Ordering::Equal => self.identifier().cmp(identifier),
             unequal => unequal,
         }
+    }
+
+    /// Whether the item has this key.
+    pub fn is_at(&self, key: ItemKey<'_>) -> bool
+        ensures { result ≡ items.is_at key.entry.stamp key.entry.identifier.now self.now }
+    {
+        self.stamp() == key.stamp && self.identifier() == key.identifier
     }
 
     /// Whether the item has a record with that prefix.

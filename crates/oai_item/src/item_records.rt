@@ -172,7 +172,8 @@ fn nameless_text<'a>(field: FieldTexts<'a>) -> Option<&'a str>
 pub struct ItemRecord<'a> {
     /// The metadataPrefix of its format.
     pub prefix: &'a str,
-    /// Its fields.
+    /// Its fields, or the one that keeps its element; then the elements about it, each as the text of a field without a
+    /// name.
     pub fields: Fields<'a>,
 }
 

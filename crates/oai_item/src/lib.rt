@@ -29,7 +29,6 @@ mod refusals;
 mod selections;
 mod short_texts;
 mod sizes;
-mod untested;
 mod walks;
 
 pub use decodings::DecodeFault;
@@ -52,5 +51,4 @@ pub use refusals::{ChangeRefusal, LineRefusal, Refusal};
 pub use selections::selection_law;
 pub use short_texts::{MAX_SHORT_TEXT_BYTES, is_short_text};
 pub use sizes::{MAX_ITEM_BYTES, TooLarge, limit_law};
-pub use untested::order_of_spelling;
 pub use walks::{FieldTexts, SpelledFields, SpelledRecord, SpelledRecords, SpelledSets};

@@ -27,7 +27,7 @@ impl Item {
 
 /// Compares that datestamp, in seconds from 1970 on, and identifier with the other ones: by datestamp, then by the
 /// bytes of the identifiers.
-pub(crate) fn order_of_places(
+fn order_of_places(
     stamp: i64,
     identifier: &str,
     other_stamp: i64,

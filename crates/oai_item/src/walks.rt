@@ -5,7 +5,7 @@ ghost use Rattle.oai_names.specs.Names.{may_be_prefix};
 ghost use Rattle.oai_names.specs.Sets.{may_be_set_spec};
 ghost use Rattle.oai_item.specs.Walks.{AreFields, AreRecords, AreSets, fields_left, records_left, sets_left};
 
-use crate::fronts::{first_field, first_record, first_set};
+use crate::fronts::{first_field, first_record, first_set, last_record};
 use std::marker::Model;
 
 /// The remaining setSpecs of an encoded item.
@@ -213,6 +213,10 @@ impl<'a> SpelledRecords<'a> {
     {
         if self.left == 0 {
             return None;
+        }
+        if self.left == 1 {
+            self.left = 0;
+            return Some(last_record(self.rest));
         }
         let (format, rest) = first_record(self.rest);
         self.left -= 1;

@@ -1,29 +1,21 @@
 -- An item that is looked for on a page, entry by entry.
-use Rattle.std.proofs.Common.{◌≡◌, ◌∙◌, ◌+◌, ◌-◌, ◌^◌, ◌<◌, ℕ, ℤ, Bool, true, List, [], ◌∷◌, ◌++◌, Option, None, Some, Result, Ok, Err, length, take, drop, refl, sym, ap, arith, append_assoc, length-append}
-use Rattle.std.specs.List.{list_all}
-use Rattle.std.specs.Ordering.{is_eq, is_gt}
-use Rattle.std.specs.declared.cmp.Ordering.{Ordering}
-use Rattle.std.specs.declared.cmp.Ordering.TheVariants.{Less, Equal, Greater}
+use Rattle.std.proofs.Common.{◌≡◌, ◌∙◌, ◌+◌, ◌-◌, ◌^◌, ◌<◌, ℕ, ℤ, true, false, List, [], ◌∷◌, ◌++◌, Option, None, Some, Result, Ok, Err, IfOk, length, take, drop, refl, sym, ap, arith, append_assoc, length-append}
 use Rattle.std.specs.Prelude.{replicate}
-use Rattle.std.proofs.lemmas.Bool.{and_parts, cond-true, cond-false}
-use Rattle.std.proofs.lemmas.List.{drop_at, take_at}
-use Rattle.oai_names.proofs.Lists.{all-weaker}
+use Rattle.std.proofs.lemmas.Bool.{cond-true, cond-false}
+use Rattle.std.proofs.lemmas.List.{drop-drop, drop_at, take_at}
+use Rattle.std.proofs.lemmas.Option.{same_Some}
 use Rattle.oai_item.specs.Decoding.{item_in}
 use Rattle.oai_item.specs.Encoding.{Spells, encoded, encoded_count, encoded_text}
 use Rattle.oai_item.specs.Item.{ItemState}
 use Rattle.oai_item.specs.Items.{is_at, item_at}
-use Rattle.oai_item.specs.Order.{are_in_order, place_cmp, precedes}
-use Rattle.oai_item.specs.declared.decodings.DecodeFault.{DecodeFault}
-use Rattle.oai_item.specs.declared.decodings.DecodeFault.TheVariants.{Damaged, NoMemory}
-use Rattle.oai_item.proofs.Around.{item_at-missing, only_place}
 use Rattle.oai_item.proofs.Decoded.{item_in-spelled}
 use Rattle.oai_item.proofs.Lengths.{length-encoded_text}
-use Rattle.oai_item.proofs.OrderLemmas.{behind-precedes, is_at-Equal, precedes-trans}
-use Rattle.oai_item.proofs.Spelled.{same_spelled}
-use Rattle.oai_places.specs.Finding.{IsFinding, IsLeftToFind, IsItemRead, IsSoughtBehind}
+use Rattle.oai_pool.specs.Kinds.{has_items, spells_item, spells_items}
+use Rattle.oai_places.specs.Finding.{IsLeftToFind, IsSought, IsSoughtBehind}
 use Rattle.oai_places.specs.Pages.{AreStorable, IsPage, begins_at, entries_of, entry_of, first_number, size_of}
 use Rattle.oai_places.proofs.PageLemmas.{behind_number, entries_of-cons, number_back}
 use Rattle.oai_places.proofs.ReadLemmas.{page_read}
+use Rattle.oai_places.proofs.TestedLemmas.{entries_told, left_parts}
 
 -- ---- an entry
 
@@ -63,21 +55,23 @@ no_text_room bytes text behind short few e =
     let read = text_read bytes text behind few e in
     omega (arith, short, read.0, ap length read.1, length-append text behind)
 
--- how an item stands is told of its spelling
-pub order_seen : (stamp : ℤ) (identifier spelling : List ℕ) (item : ItemState) (order : Option Ordering) → Spells (encoded item) item → spelling ≡ encoded item
-    → ((other : ItemState) → item_in spelling ≡ Some other → order ≡ Some (place_cmp other stamp identifier)) → order ≡ Some (place_cmp item stamp identifier)
-order_seen stamp identifier spelling item order s e told = told item (ap item_in e ∙ item_in-spelled (encoded item) item s)
+-- the item of the entry at the start of bytes is the one whose entry that is
+pub entry_is : (bytes : List ℕ) (item read : ItemState) (behind : List ℕ) → Spells (encoded item) item → bytes ≡ entry_of item ++ behind → item_in (take (first_number bytes) (drop 4 bytes)) ≡ Some read
+    → read ≡ item
+entry_is bytes item read behind s e told =
+    let both = parted bytes (drop 4 bytes) (encoded item) behind (first_number bytes) (omega (arith, s.few)) (e ∙ ap (λ bs. bs ++ behind) (entry_text item)) refl refl in
+    same_Some _ _ (sym told ∙ ap item_in both.0 ∙ item_in-spelled (encoded item) item s)
 
--- what was read of bytes that spell an item is that item
-pub read_is : (bytes : List ℕ) (read item : ItemState) → Spells bytes read → Spells bytes item → Some read ≡ Some item
-read_is bytes read item s t = ap Some (same_spelled bytes item read t s)
+-- and behind it is what is behind that entry
+pub entry_behind : (bytes : List ℕ) (item : ItemState) (behind : List ℕ) → Spells (encoded item) item → bytes ≡ entry_of item ++ behind → drop (4 + first_number bytes) bytes ≡ behind
+entry_behind bytes item behind s e =
+    let both = parted bytes (drop 4 bytes) (encoded item) behind (first_number bytes) (omega (arith, s.few)) (e ∙ ap (λ bs. bs ++ behind) (entry_text item)) refl refl in
+    sym (drop-drop (first_number bytes) 4 bytes) ∙ both.1
 
--- an item that was read is the one that was looked for
-pub finding_is : (stamp : ℤ) (identifier : List ℕ) (items : List ItemState) (item : ItemState) (result : Result (Option ItemState) DecodeFault) → IsItemRead item result
-    → item_at stamp identifier items ≡ Some item → IsFinding stamp identifier items result
-finding_is stamp identifier items item (Ok read) h found = h ∙ sym found
-finding_is stamp identifier items item (Err Damaged) h found = h
-finding_is stamp identifier items item (Err NoMemory) h found = tt
+-- where what is found is this
+pub found_is : {E : Type 0} (found other : Option ItemState) (result : Result (Option ItemState) E) → IfOk result (λ f. f ≡ found) → found ≡ other → IfOk result (λ f. f ≡ other)
+found_is found other (Ok f) h e = h ∙ e
+found_is found other (Err cause) h e = h
 
 -- ---- what is left
 
@@ -92,51 +86,39 @@ all_left stamp identifier page rest e items left is_page many =
       many = omega (arith, many);
       parts = e ∙ read.1;
       storable = is_page.fit.storable;
-      rising = is_page.fit.rising;
     }
 
--- the first item of those that are left, and what each of its places among datestamps and identifiers tells
+-- the first item of those that are left: it is the one that is looked for, or that is among the others
 pub record HasFirst (stamp : ℤ) (identifier : List ℕ) (items : List ItemState) (left : ℕ) (rest : List ℕ) : Type 0 where
   pub item : ItemState
   pub behind : List ℕ
   pub spelled : Spells (encoded item) item
   pub parts : rest ≡ entry_of item ++ behind
-  pub equal : place_cmp item stamp identifier ≡ Equal → item_at stamp identifier items ≡ Some item
-  pub above : place_cmp item stamp identifier ≡ Greater → item_at stamp identifier items ≡ None
-  pub below : place_cmp item stamp identifier ≡ Less → IsLeftToFind stamp identifier items left behind
+  pub here : is_at stamp identifier item ≡ true → item_at stamp identifier items ≡ Some item
+  pub later : is_at stamp identifier item ≡ false → IsLeftToFind stamp identifier items left behind
 
 first_of : (stamp : ℤ) (identifier : List ℕ) (items : List ItemState) (left : ℕ) (rest : List ℕ) (later : List ItemState) (behind : List ℕ) → item_at stamp identifier later ≡ item_at stamp identifier items
-    → length later ≡ left + 1 → rest ≡ entries_of later ++ behind → AreStorable later → are_in_order later ≡ true → HasFirst stamp identifier items left rest
+    → length later ≡ left + 1 → rest ≡ entries_of later ++ behind → AreStorable later → HasFirst stamp identifier items left rest
 unfolding item_at
-first_of stamp identifier items left rest [] behind found many parts storable rising = absurd (omega (arith, many))
-first_of stamp identifier items left rest (item ∷ more) behind found many parts storable rising =
-    let rise = and_parts (list_all (precedes item) more) (are_in_order more) rising in
-    let place : ItemState = only_place stamp identifier in
-    let all_above : is_gt (place_cmp item stamp identifier) ≡ true → list_all (λ x. is_gt (place_cmp x stamp identifier)) more ≡ true =
-    λ h. all-weaker (precedes item) (λ x. is_gt (place_cmp x stamp identifier))
-    (λ x behind_it. behind-precedes x place ∙ precedes-trans place item x (sym (behind-precedes item place) ∙ h) behind_it) more rise.0
-    in
-    record {
-      item = item;
-      behind = entries_of more ++ behind;
-      spelled = storable.0;
-      parts = parts ∙ ap (λ bs. bs ++ behind) (entries_of-cons item more) ∙ append_assoc (entry_of item) (entries_of more) behind;
-      equal = λ h. sym found ∙ cond-true (is_at stamp identifier item) (Some item) (item_at stamp identifier more) (is_at-Equal stamp identifier item ∙ ap is_eq h);
-      above = λ h. sym found ∙ cond-false (is_at stamp identifier item) (Some item) (item_at stamp identifier more) (is_at-Equal stamp identifier item ∙ ap is_eq h)
-          ∙ item_at-missing stamp identifier more 0 (omega arith, record { below = refl; above = all_above (ap is_gt h) });
-      below = λ h. record {
-        later = more;
-        behind = behind;
-        found = sym (cond-false (is_at stamp identifier item) (Some item) (item_at stamp identifier more) (is_at-Equal stamp identifier item ∙ ap is_eq h)) ∙ found;
-        many = omega (arith, many);
-        parts = refl;
-        storable = storable.1;
-        rising = rise.1;
-      };
-    }
+first_of stamp identifier items left rest [] behind found many parts storable = absurd (omega (arith, many))
+first_of stamp identifier items left rest (item ∷ more) behind found many parts storable = record {
+  item = item;
+  behind = entries_of more ++ behind;
+  spelled = storable.0;
+  parts = parts ∙ ap (λ bs. bs ++ behind) (entries_of-cons item more) ∙ append_assoc (entry_of item) (entries_of more) behind;
+  here = λ h. sym found ∙ cond-true (is_at stamp identifier item) (Some item) (item_at stamp identifier more) h;
+  later = λ h. record {
+    later = more;
+    behind = behind;
+    found = sym (cond-false (is_at stamp identifier item) (Some item) (item_at stamp identifier more) h) ∙ found;
+    many = omega (arith, many);
+    parts = refl;
+    storable = storable.1;
+  };
+}
 
 pub first_left : (stamp : ℤ) (identifier : List ℕ) (items : List ItemState) (left : ℕ) (rest : List ℕ) → IsLeftToFind stamp identifier items (left + 1) rest → HasFirst stamp identifier items left rest
-first_left stamp identifier items left rest l = first_of stamp identifier items left rest l.later l.behind l.found l.many l.parts l.storable l.rising
+first_left stamp identifier items left rest l = first_of stamp identifier items left rest l.later l.behind l.found l.many l.parts l.storable
 
 -- behind fewer entries than there are
 pub first_seen : (stamp : ℤ) (identifier page rest : List ℕ) (passed : ℕ) (items : List ItemState) (left : ℕ) → IsSoughtBehind stamp identifier page passed rest → IsPage page items → left + (passed + 1) ≡ length items
@@ -146,6 +128,17 @@ first_seen stamp identifier page rest passed items left sought is_page many = fi
 -- so many are left behind those that were passed
 pub left_behind : (page : List ℕ) (passed : ℕ) (items : List ItemState) → IsPage page items → passed < first_number page → (length items - (passed + 1)) + (passed + 1) ≡ length items
 left_behind page passed items is_page below = omega (arith, below, (page_read page items is_page).0)
+
+known_whole : (page rest : List ℕ) → has_items page ≡ true → rest ≡ drop 4 page → spells_items (first_number page - 0) rest ≡ true
+known_whole page rest tested e =
+    let all : first_number page - 0 ≡ first_number page = omega arith in (λ k. spells_items (all k) (e k)) ∙ entries_told page tested
+
+pub known_none : (stamp : ℤ) (identifier page rest : List ℕ) → has_items page ≡ true → rest ≡ drop 4 page → IsSought stamp identifier page 0 rest
+known_none stamp identifier page rest tested e = record { known = known_whole page rest tested e; sought = all_left stamp identifier page rest e }
+
+-- the first one is known to encode an item
+pub first_known : (page rest : List ℕ) → has_items page ≡ true → rest ≡ drop 4 page → 0 < first_number page → spells_item rest ≡ true
+first_known page rest tested e some = (left_parts (first_number page) 0 rest some (known_whole page rest tested e)).0
 
 pub all_passed : (page : List ℕ) (passed : ℕ) (items : List ItemState) → IsPage page items → passed ≡ first_number page → 0 + passed ≡ length items
 all_passed page passed items is_page e = omega (arith, e, (page_read page items is_page).0)
@@ -182,7 +175,13 @@ pub first_spelled : (page : List ℕ) (items : List ItemState) → IsPage page i
 first_spelled page items is_page =
     first_entry_of page items (replicate (length page - 4 - size_of items) 0) is_page.fit.some is_page.fit.storable (page_read page items is_page).1
 
-pub begins_first : (stamp : ℤ) (identifier : List ℕ) (items : List ItemState) (spelling : List ℕ) (item : ItemState) (answer : Bool) → Spells (encoded item) item
-    → ((s : ℤ) (i : List ℕ) → begins_at s i items ≡ is_at s i item) → spelling ≡ encoded item → ((other : ItemState) → item_in spelling ≡ Some other → answer ≡ is_at stamp identifier other)
-    → answer ≡ begins_at stamp identifier items
-begins_first stamp identifier items spelling item answer s first e told = told item (ap item_in e ∙ item_in-spelled (encoded item) item s) ∙ sym (first stamp identifier)
+-- a page of items has some
+pub none_first : (page : List ℕ) (items : List ItemState) → IsPage page items → first_number page ≡ 0 → ⊥
+none_first page items is_page none = omega (arith, none, is_page.fit.some, (page_read page items is_page).0)
+
+pub begins_first : (stamp : ℤ) (identifier page : List ℕ) (items : List ItemState) (read : ItemState) → IsPage page items → item_in (take (first_number (drop 4 page)) (drop 4 (drop 4 page))) ≡ Some read
+    → is_at stamp identifier read ≡ begins_at stamp identifier items
+begins_first stamp identifier page items read is_page told =
+    let first = first_spelled page items is_page in
+    let is : read ≡ first.item = entry_is (drop 4 page) first.item read first.behind first.spelled first.parts told in
+    ap (is_at stamp identifier) is ∙ sym (first.first stamp identifier)

@@ -1,5 +1,5 @@
 -- A place whose item has overflow pages has that item alone: what is found there, and what is known of it without reading.
-use Rattle.std.proofs.Common.{◌≡◌, ◌∙◌, ◌⊎◌, inl, inr, ◌&&◌, ◌+◌, ◌-◌, ◌<◌, ℕ, ℤ, suc, zero, Bool, true, false, List, [], ◌∷◌, ◌++◌, None, Some, length, take, drop, get_or, refl, sym, ap, subst, arith}
+use Rattle.std.proofs.Common.{◌≡◌, ◌∙◌, ◌⊎◌, inl, inr, ◌&&◌, ◌-◌, ◌<◌, ℕ, ℤ, suc, zero, Bool, true, false, List, [], ◌∷◌, ◌++◌, None, Some, length, take, drop, get_or, refl, sym, ap, subst, arith}
 use Rattle.std.specs.Prelude.{filter, int_le}
 use Rattle.std.specs.Ordering.{int_eq, is_eq, is_gt}
 use Rattle.std.specs.Str.{bytes_eq}

@@ -1,5 +1,5 @@
 -- Entries of pages that are known to spell items, and the pages of which that is known.
-use Rattle.std.proofs.Common.{◌≡◌, ◌∙◌, ◌+◌, ◌-◌, ◌^◌, ◌<◌, ◌≤◌, ◌&&◌, nat_le, ℕ, suc, zero, Bool, true, false, Some, is_some, unwrap_or, List, [], ◌∷◌, ◌++◌, length, take, drop, get_or, refl, sym, ap, subst, arith, append_assoc, length-append, length-drop}
+use Rattle.std.proofs.Common.{◌≡◌, ◌∙◌, ◌+◌, ◌-◌, ◌^◌, ◌<◌, ◌≤◌, ◌&&◌, nat_le, ℕ, suc, zero, Bool, true, false, Option, Some, IsSome, is_some, unwrap_or, List, [], ◌∷◌, ◌++◌, length, take, drop, get_or, refl, sym, ap, subst, arith, append_assoc, length-append, length-drop}
 use Rattle.std.specs.Prelude.{replicate}
 use Rattle.std.proofs.lemmas.Bool.{and_parts}
 use Rattle.std.proofs.lemmas.Bool.Decides.{nat_tests}
@@ -22,7 +22,7 @@ use Rattle.oai_places.specs.Places.{Pages, page_at}
 use Rattle.oai_places.specs.declared.sizes.TheConstants.{MAX_ENTRY_BYTES}
 use Rattle.oai_places.proofs.InsidePlaces.{few_items}
 use Rattle.oai_places.proofs.OverflowLemmas.{joined_pages-one, long_from, overflow-one, pages-one}
-use Rattle.oai_places.proofs.PageLemmas.{behind_number, entries_of-cons, entries_of-nil, entry_parts, length-entry, number_back, page_parts}
+use Rattle.oai_places.proofs.PageLemmas.{behind_number, entries_of-cons, entry_parts, length-entry, number_back, page_parts}
 use Rattle.oai_places.proofs.ReadLemmas.{has_entry, no_entries, one_more, page_read, some_from}
 use Rattle.oai_places.proofs.RecountLemmas.{spares_from, spares_none, spares_then}
 use Rattle.oai_places.proofs.SpendingLemmas.{err_of, spends_freed_err}
@@ -49,6 +49,12 @@ entry_known bytes fits h =
     let found = some_from (item_in (text_in bytes)) (entry_told bytes h).1 in
     has_entry bytes found.0 fits (omega (arith, within)) (omega (arith, within, length-drop 4 bytes)) found.1
 
+-- which its bytes encode
+pub entry_item : (bytes spelling : List ℕ) → spells_item bytes ≡ true → spelling ≡ text_in bytes → IsSome (item_in spelling)
+entry_item bytes spelling h is =
+    let found = some_from (item_in (text_in bytes)) (entry_told bytes h).1 in
+    subst (λ (item : Option ItemState). IsSome item) (sym (ap item_in is ∙ found.1)) refl
+
 -- of a page of items
 pub entries_told : (bytes : List ℕ) → has_items bytes ≡ true → spells_items (leading_number bytes) (drop 4 bytes) ≡ true
 unfolding has_items
@@ -65,7 +71,7 @@ none_known bytes whole h = record {
   left = let all : whole - 0 ≡ whole = omega arith in ap (λ k. spells_items k bytes) all ∙ h;
 }
 
-left_parts : (whole count : ℕ) (bytes : List ℕ) → count < whole → spells_items (whole - count) bytes ≡ true → (spells_item bytes ≡ true) × (spells_items (whole - (count + 1)) (drop (4 + leading_number bytes) bytes) ≡ true)
+pub left_parts : (whole count : ℕ) (bytes : List ℕ) → count < whole → spells_items (whole - count) bytes ≡ true → (spells_item bytes ≡ true) × (spells_items (whole - (count + 1)) (drop (4 + leading_number bytes) bytes) ≡ true)
 left_parts whole count bytes within h =
     let one : whole - count ≡ suc (whole - (count + 1)) = omega arith in
     and_parts (spells_item bytes) (spells_items (whole - (count + 1)) (drop (4 + leading_number bytes) bytes)) (ap (λ k. spells_items k bytes) (sym one) ∙ h)

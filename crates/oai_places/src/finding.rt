@@ -1,39 +1,37 @@
 //! Looks for an item on a page, without decoding any other item.
 
-ghost use Rattle.std.specs.Prelude.{◌<◌, ◌≤◌, ◌≡◌, ◌==◌, ◌++◌, ◌^◌, ℕ, List, Some, length, IfSome};
+ghost use Rattle.std.specs.Prelude.{◌<◌, ◌≤◌, ◌≡◌, ◌==◌, ◌+◌, ◌++◌, ◌^◌, ℕ, List, Some, length, take, drop, true, IfOk, IfSome};
 ghost use Rattle.oai_item.specs.Decoding.{item_in};
 ghost use Rattle.oai_item.specs.Encoding.{Spells, encoded, encoded_text};
 ghost use Rattle.oai_item.specs.Item.{ItemState};
-ghost use Rattle.oai_item.specs.Items.{is_at};
-ghost use Rattle.oai_places.specs.Finding.{IsFinding, IsItemRead, IsTextParted};
-ghost use Rattle.oai_places.specs.Pages.{IsPage, begins_at, entry_of};
+ghost use Rattle.oai_item.specs.Items.{item_at};
+ghost use Rattle.oai_places.specs.Finding.{IsTextParted};
+ghost use Rattle.oai_places.specs.Pages.{IsPage, begins_at, entry_of, first_number};
+ghost use Rattle.oai_pool.specs.Kinds as kinds;
+ghost use Rattle.oai_pool.specs.Kinds.{spells_item};
 
 use crate::entry_bytes::first_number;
 use crate::sizes::NUMBER_BYTES;
-use oai_item::{DecodeFault, Item, ItemKey, order_of_spelling};
-use std::alloc::Global;
-use std::cmp::Ordering;
+use oai_item::{Item, ItemKey, Spelling};
+use std::alloc::{AllocError, Global};
 
-/// The item with that key on the page, or None. The entries before it are skipped by their lengths, and it alone is
-/// decoded. The errors: `Damaged` only if the bytes are not a page of items; `NoMemory`.
+/// The item with that key on the page, each entry of which is known to encode an item, or None. The entries before it
+/// are skipped by their lengths, and it alone is copied. The error is out of memory.
 pub(crate) fn find_on_page(
     alloc: Global,
     page: &[u8],
     key: ItemKey<'_>,
-) -> Result<Option<Item>, DecodeFault>
-    requires { 4 ≤ length page.now }
-    ensures { (items : List ItemState) → IsPage page.now items → IsFinding key.entry.stamp key.entry.identifier.now items result }
+) -> Result<Option<Item>, AllocError>
+    requires long { 4 ≤ length page.now }
+    requires tested { kinds.has_items page.now ≡ true }
+    ensures { (items : List ItemState) → IsPage page.now items
+        → IfOk result (λ found. found ≡ item_at key.entry.stamp key.entry.identifier.now items) }
 {
     let mut rest = &page[NUMBER_BYTES..];
     'entries: for _ in 0..first_number(page) {
-        let Some((spelling, behind)) = first_entry(rest) else {
-            return Err(DecodeFault::Damaged);
-        };
-        match order_of_spelling(spelling, key.stamp, key.identifier) {
-            Some(Ordering::Less) => {}
-            Some(Ordering::Equal) => return found(alloc, spelling),
-            Some(Ordering::Greater) => return Ok(None),
-            None => return Err(DecodeFault::Damaged),
+        let (item, behind) = spelled_entry(rest);
+        if item.is_at(key) {
+            return found(alloc, &item);
         }
         rest = behind;
     }
@@ -48,25 +46,27 @@ pub(crate) fn has_items(page: &[u8], len: usize) -> bool
     first_number(page) == len
 }
 
-/// Whether the first item of the page has this key.
+/// Whether the first item of the page, each entry of which is known to encode an item, has this key.
 pub(crate) fn begins_on_page(page: &[u8], key: ItemKey<'_>) -> bool
-    requires { 4 ≤ length page.now }
+    requires long { 4 ≤ length page.now }
+    requires tested { kinds.has_items page.now ≡ true }
     ensures { (items : List ItemState) → IsPage page.now items → result ≡ begins_at key.entry.stamp key.entry.identifier.now items }
 {
-    match first_entry(&page[NUMBER_BYTES..]) {
-        Some((spelling, _)) => is_at(spelling, key),
-        None => false,
+    if first_number(page) == 0 {
+        return false;
     }
+    let (item, _) = spelled_entry(&page[NUMBER_BYTES..]);
+    item.is_at(key)
 }
 
-/// Whether the item that the bytes encode has this key. If they encode none, nothing is promised of the result.
-fn is_at(spelling: &[u8], key: ItemKey<'_>) -> bool
-    ensures { (item : ItemState) → item_in spelling.now ≡ Some item → result ≡ is_at key.entry.stamp key.entry.identifier.now item }
+/// The item of the entry at the start of the bytes, which is known to encode one, and the remaining bytes.
+fn spelled_entry(bytes: &[u8]) -> (Spelling<'_>, &[u8])
+    requires { spells_item bytes.now ≡ true }
+    ensures item { item_in (take (first_number bytes.now) (drop 4 bytes.now)) ≡ Some result.0 }
+    ensures behind { result.1.now ≡ drop (4 + first_number bytes.now) bytes.now }
 {
-    match order_of_spelling(spelling, key.stamp, key.identifier) {
-        Some(order) => order == Ordering::Equal,
-        None => false,
-    }
+    let (spelling, behind) = bytes[NUMBER_BYTES..].split_at(first_number(bytes));
+    (Spelling::new(spelling), behind)
 }
 
 /// The encoded item in the entry at the start of the bytes, and the remaining bytes, or None if there is no such entry.
@@ -97,12 +97,9 @@ pub(crate) fn first_text(bytes: &[u8]) -> Option<(&[u8], &[u8])>
     Some(rest.split_at(len))
 }
 
-/// The item that was found, decoded from the bytes. The errors: `Damaged` if they encode none; `NoMemory`.
-fn found(alloc: Global, spelling: &[u8]) -> Result<Option<Item>, DecodeFault>
-    ensures { (item : ItemState) → Spells spelling.now item → IsItemRead item result }
+/// A copy of the item that was found. The error is out of memory.
+fn found(alloc: Global, item: &Spelling<'_>) -> Result<Option<Item>, AllocError>
+    ensures { IfOk result (λ found. found ≡ Some item.now) }
 {
-    match Item::decode(alloc, spelling) {
-        Ok(item) => Ok(Some(item)),
-        Err(fault) => Err(fault),
-    }
+    Ok(Some(Item::spelled(alloc, item)?))
 }

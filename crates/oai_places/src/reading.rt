@@ -6,6 +6,7 @@ ghost use Rattle.oai_item.specs.Item.{ItemState};
 ghost use Rattle.oai_item.specs.Items.{item_at};
 ghost use Rattle.oai_item.specs.Order.{are_in_order};
 ghost use Rattle.oai_pool.specs.Counts.{count_of};
+ghost use Rattle.oai_pool.specs.Kinds as kinds;
 ghost use Rattle.oai_pool.specs.Names.{times};
 ghost use Rattle.oai_places.specs.Calls.{Evicts, ReadsPages};
 ghost use Rattle.oai_places.specs.Directory.{StandsIn};
@@ -309,15 +310,17 @@ fn find_in<P: PagePool>(
     }
 }
 
-/// The item with that key of those of the page, or None. `Damaged` only where the bytes are not the page of as many
-/// items as those of the place, of which the first is the one that the place names; `NoMemory`.
+/// The item with that key of those of the page, each entry of which is known to encode an item, or None. `Damaged` only
+/// where the bytes are not the page of as many items as those of the place, of which the first is the one that the place
+/// names; `NoMemory`.
 fn find_tested(
     alloc: Global,
     page: &[u8],
     place: &SharedPlace,
     key: ItemKey<'_>,
 ) -> Result<Option<Item>, DecodeFault>
-    requires { 4 ≤ length page.now }
+    requires long { 4 ≤ length page.now }
+    requires tested { kinds.has_items page.now ≡ true }
     ensures { (items : List ItemState) → IsPage page.now items → length items ≡ place.now.len
         → begins_at place.now.stamp place.now.identifier items ≡ true → IsFinding key.entry.stamp key.entry.identifier.now items result }
 {
@@ -327,7 +330,7 @@ fn find_tested(
     if !begins_on_page(page, place.key()) {
         return Err(DecodeFault::Damaged);
     }
-    find_on_page(alloc, page, key)
+    Ok(find_on_page(alloc, page, key)?)
 }
 
 /// Whether the leaf has one item alone, which continues on overflow pages, and does not have this key.
