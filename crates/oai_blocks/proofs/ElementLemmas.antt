@@ -27,22 +27,6 @@ module _ {T : Type 0} where
   line_some None j within = absurd (omega (arith, within))
   line_some (Some line) j within = refl
 
-  -- copies of a block that other lines name
-  pub copied_sets : (v j : ℕ) (copies : List T) (old new : BlockLines T) → SetsLine v (Some (set (line_at old v) j copies)) copies [] old new → copies ≡ block_of old v j → HasBlock old v j
-      → (names_of old v j == 1) ≡ false → SetsLine v (lines_of old v) (copied_of old v j) [] old new
-  copied_sets v j copies old new sets is within other =
-      let copied : copied_of old v j ≡ block_of old v j = cond-false (names_of old v j == 1) [] (block_of old v j) other in
-      record {
-        lines = record {
-          this = sets.lines.this ∙ ap (λ (c : List T). Some (set (line_at old v) j c)) is ∙ ap Some (set-get_or (line_at old v) j []) ∙ line_some (lines_of old v) j within;
-          others = sets.lines.others;
-        };
-        weight = λ weigh.
-            let same : sum_by weigh (copied_of old v j) ≡ sum_by weigh copies = ap (sum_by weigh) (copied ∙ sym is) in
-            omega (arith, sets.weight weigh, same);
-        steps = sets.steps;
-      }
-
   -- one element put in, and one taken out
   put_one : (block others : List T) (i : ℕ) (item : T) → others ≡ item ∷ [] → spliced i 0 others block ≡ insert block i item
   put_one block others i item is =
@@ -53,34 +37,6 @@ module _ {T : Type 0} where
   take_one block none i is =
       let n : i + 1 ≡ suc i = omega arith in
       ap (λ l. take i block ++ (l ++ drop (i + 1) block)) is ∙ ap (λ k. take i block ++ drop k block) n
-
-  -- a block is made the line's own, and then elements of it are exchanged
-  then_exchanged : (v j : ℕ) (items block copied added gone : List T) (old mid new : BlockLines T) → SetsLine v (lines_of old v) copied [] old mid
-      → SetsLine v (Some (set (line_at mid v) j items)) added gone mid new → items ≡ block → SetsLine v (Some (set (line_at old v) j block)) (added ++ copied) gone old new
-  then_exchanged v j items block copied added gone old mid new first next is =
-      let line : line_at mid v ≡ line_at old v = ap (λ (o : Option (List (List T))). unwrap_or o []) first.lines.this in
-      record {
-        lines = record {
-          this = next.lines.this ∙ ap (λ (l : List (List T)). Some (set l j items)) line ∙ ap (λ (b : List T). Some (set (line_at old v) j b)) is;
-          others = λ w apart. next.lines.others w apart ∙ first.lines.others w apart;
-        };
-        weight = λ weigh.
-            let nothing : sum_by weigh [] ≡ 0 = refl in
-            omega (arith, first.weight weigh, next.weight weigh, sum_by-append weigh added copied, nothing);
-        steps = next.steps ∙ first.steps;
-      }
-
-  same_block : (v j : ℕ) (copied : List T) (old mid : BlockLines T) → SetsLine v (lines_of old v) copied [] old mid → block_of mid v j ≡ block_of old v j
-  same_block v j copied old mid first = ap (λ (o : Option (List (List T))). get_or (unwrap_or o []) j []) first.lines.this
-
-  pub put_sets : (v j i : ℕ) (item : T) (copied others gone : List T) (old mid new : BlockLines T) → SetsLine v (lines_of old v) copied [] old mid
-      → SetsLine v (Some (set (line_at mid v) j (spliced i 0 others (block_of mid v j)))) others gone mid new → others ≡ item ∷ [] → gone ≡ []
-      → SetsLine v (Some (set (line_at old v) j (insert (block_of old v j) i item))) (item ∷ copied) [] old new
-  put_sets v j i item copied others gone old mid new first next is none =
-      let items = ap (λ (b : List T). spliced i 0 others b) (same_block v j copied old mid first) ∙ put_one (block_of old v j) others i item is in
-      let both = then_exchanged v j (spliced i 0 others (block_of mid v j)) (insert (block_of old v j) i item) copied others gone old mid new first next items in
-      subst (λ (added : List T). SetsLine v (Some (set (line_at old v) j (insert (block_of old v j) i item))) added [] old new) (ap (λ l. l ++ copied) is)
-      (subst (λ (out : List T). SetsLine v (Some (set (line_at old v) j (insert (block_of old v j) i item))) (others ++ copied) out old new) none both)
 
   -- of at most one element
   only_one : (gone rest : List T) (item : T) → gone ≡ rest ++ item ∷ [] → length gone ≤ 1 → gone ≡ item ∷ []
@@ -93,7 +49,54 @@ module _ {T : Type 0} where
   few_of [] = omega arith
   few_of (x ∷ xs) = omega arith
 
-  pub take_sets : (v j i : ℕ) (item : T) (copied none gone rest : List T) (old mid new : BlockLines T) → SetsLine v (lines_of old v) copied [] old mid
+module _ {T S : Type 0} where
+  -- copies of a block that other lines name
+  pub copied_sets : (v j : ℕ) (copies : List T) (old new : BlockLines T S) → SetsLine v (Some (set (line_at old v) j copies)) copies [] old new → copies ≡ block_of old v j → HasBlock old v j
+      → (names_of old v j == 1) ≡ false → SetsLine v (lines_of old v) (copied_of old v j) [] old new
+  copied_sets v j copies old new sets is within other =
+      let copied : copied_of old v j ≡ block_of old v j = cond-false (names_of old v j == 1) [] (block_of old v j) other in
+      record {
+        lines = record {
+          this = sets.lines.this ∙ ap (λ (c : List T). Some (set (line_at old v) j c)) is ∙ ap Some (set-get_or (line_at old v) j []) ∙ line_some (lines_of old v) j within;
+          others = sets.lines.others;
+        };
+        weight = λ weigh.
+            let same : sum_by weigh (copied_of old v j) ≡ sum_by weigh copies = ap (sum_by weigh) (copied ∙ sym is) in
+            omega (arith, sets.weight weigh, same);
+        steps = sets.steps;
+        notes = sets.notes;
+      }
+
+  -- a block is made the line's own, and then elements of it are exchanged
+  then_exchanged : (v j : ℕ) (items block copied added gone : List T) (old mid new : BlockLines T S) → SetsLine v (lines_of old v) copied [] old mid
+      → SetsLine v (Some (set (line_at mid v) j items)) added gone mid new → items ≡ block → SetsLine v (Some (set (line_at old v) j block)) (added ++ copied) gone old new
+  then_exchanged v j items block copied added gone old mid new first next is =
+      let line : line_at mid v ≡ line_at old v = ap (λ (o : Option (List (List T))). unwrap_or o []) first.lines.this in
+      record {
+        lines = record {
+          this = next.lines.this ∙ ap (λ (l : List (List T)). Some (set l j items)) line ∙ ap (λ (b : List T). Some (set (line_at old v) j b)) is;
+          others = λ w apart. next.lines.others w apart ∙ first.lines.others w apart;
+        };
+        weight = λ weigh.
+            let nothing : sum_by weigh [] ≡ 0 = refl in
+            omega (arith, first.weight weigh, next.weight weigh, sum_by-append weigh added copied, nothing);
+        steps = next.steps ∙ first.steps;
+        notes = λ note items noted. first.notes note items (next.notes note items noted);
+      }
+
+  same_block : (v j : ℕ) (copied : List T) (old mid : BlockLines T S) → SetsLine v (lines_of old v) copied [] old mid → block_of mid v j ≡ block_of old v j
+  same_block v j copied old mid first = ap (λ (o : Option (List (List T))). get_or (unwrap_or o []) j []) first.lines.this
+
+  pub put_sets : (v j i : ℕ) (item : T) (copied others gone : List T) (old mid new : BlockLines T S) → SetsLine v (lines_of old v) copied [] old mid
+      → SetsLine v (Some (set (line_at mid v) j (spliced i 0 others (block_of mid v j)))) others gone mid new → others ≡ item ∷ [] → gone ≡ []
+      → SetsLine v (Some (set (line_at old v) j (insert (block_of old v j) i item))) (item ∷ copied) [] old new
+  put_sets v j i item copied others gone old mid new first next is none =
+      let items = ap (λ (b : List T). spliced i 0 others b) (same_block v j copied old mid first) ∙ put_one (block_of old v j) others i item is in
+      let both = then_exchanged v j (spliced i 0 others (block_of mid v j)) (insert (block_of old v j) i item) copied others gone old mid new first next items in
+      subst (λ (added : List T). SetsLine v (Some (set (line_at old v) j (insert (block_of old v j) i item))) added [] old new) (ap (λ l. l ++ copied) is)
+      (subst (λ (out : List T). SetsLine v (Some (set (line_at old v) j (insert (block_of old v j) i item))) (others ++ copied) out old new) none both)
+
+  pub take_sets : (v j i : ℕ) (item : T) (copied none gone rest : List T) (old mid new : BlockLines T S) → SetsLine v (lines_of old v) copied [] old mid
       → SetsLine v (Some (set (line_at mid v) j (spliced i 1 none (block_of mid v j)))) none gone mid new → none ≡ [] → gone ≡ rest ++ item ∷ [] → gone ≡ take 1 (drop i (block_of mid v j))
       → SetsLine v (Some (set (line_at old v) j (remove (block_of old v j) i))) copied (item ∷ []) old new
   take_sets v j i item copied none gone rest old mid new first next is one out =

@@ -8,17 +8,17 @@ use Rattle.oai_blocks.specs.Naming.{AreBut, IsSlotSet, IsNamedAnew}
 use Rattle.oai_blocks.proofs.SlotLemmas.{sum-changed, sum-two}
 use Rattle.oai_blocks.proofs.TimesLemmas.{times-append, times-cons, times-nil, times-same}
 
-module _ {T : Type 0} where
-  pub renames_none : (shelf : Shelf T) → IsNamedAnew [] [] shelf shelf
+module _ {T S : Type 0} where
+  pub renames_none : (shelf : Shelf T S) → IsNamedAnew [] [] shelf shelf
   renames_none shelf = record { counts = λ b. refl; kept = λ b h. refl; named = λ h. h }
 
-  pub renames_same : (numbers : List ℕ) (shelf : Shelf T) → IsNamedAnew numbers numbers shelf shelf
+  pub renames_same : (numbers : List ℕ) (shelf : Shelf T S) → IsNamedAnew numbers numbers shelf shelf
   renames_same numbers shelf = record { counts = λ b. refl; kept = λ b h. refl; named = λ h. h }
 
   -- one block set
-  pub renames_set : (k : ℕ) (slot : Option (BlockState T)) (before after : List ℕ) (old new : Shelf T) → IsSlotSet k slot old new
+  pub renames_set : (k : ℕ) (slot : Option (BlockState T S)) (before after : List ℕ) (old new : Shelf T S) → IsSlotSet k slot old new
       → names_in slot + times_named k before ≡ names_at old k + times_named k after → ((b : ℕ) → b ≢ k → times_named b before ≡ times_named b after)
-      → (times_named k before < names_at old k → items_in slot ≡ items_at old k) → ((block : BlockState T) → slot ≡ Some block → 0 < block.names)
+      → (times_named k before < names_at old k → items_in slot ≡ items_at old k) → ((block : BlockState T S) → slot ≡ Some block → 0 < block.names)
       → IsNamedAnew before after old new
   renames_set k slot before after old new set here there kept named = record {
     counts = λ b. elim (cases_eq b k) [
@@ -46,7 +46,7 @@ module _ {T : Type 0} where
     ];
   }
 
-  pub weight_set : (weigh : T → ℕ) (k : ℕ) (slot : Option (BlockState T)) (old new : Shelf T) → IsSlotSet k slot old new
+  pub weight_set : (weigh : T → ℕ) (k : ℕ) (slot : Option (BlockState T S)) (old new : Shelf T S) → IsSlotSet k slot old new
       → weight weigh new + weight_in weigh (block_at old k) ≡ weight weigh old + weight_in weigh slot
   unfolding weight
   weight_set weigh k slot old new set =
@@ -55,7 +55,7 @@ module _ {T : Type 0} where
       omega (arith, changed, now)
 
   -- with more numbers on both sides
-  pub renames_within : (before after less_before less_after : List ℕ) (old new : Shelf T) → IsNamedAnew less_before less_after old new
+  pub renames_within : (before after less_before less_after : List ℕ) (old new : Shelf T S) → IsNamedAnew less_before less_after old new
       → ((b : ℕ) → times_named b before + times_named b less_after ≡ times_named b after + times_named b less_before) → ((b : ℕ) → times_named b less_before ≤ times_named b before)
       → IsNamedAnew before after old new
   renames_within before after less_before less_after old new h same few = record {
@@ -65,7 +65,7 @@ module _ {T : Type 0} where
   }
 
   -- one after the other
-  pub renames_then : (a b c d : List ℕ) (old mid new : Shelf T) → IsNamedAnew a b old mid → IsNamedAnew c d mid new → IsNamedAnew (a ++ c) (b ++ d) old new
+  pub renames_then : (a b c d : List ℕ) (old mid new : Shelf T S) → IsNamedAnew a b old mid → IsNamedAnew c d mid new → IsNamedAnew (a ++ c) (b ++ d) old new
   renames_then a b c d old mid new first next = record {
     counts = λ x. omega (arith, first.counts x, next.counts x, times-append x a c, times-append x b d);
     kept = λ x more.
@@ -74,7 +74,7 @@ module _ {T : Type 0} where
   }
 
   -- numbers whose blocks have what they had
-  pub same_blocks : (old new : Shelf T) (numbers : List ℕ) → ((b : ℕ) → 0 < times_named b numbers → items_at new b ≡ items_at old b)
+  pub same_blocks : (old new : Shelf T S) (numbers : List ℕ) → ((b : ℕ) → 0 < times_named b numbers → items_at new b ≡ items_at old b)
       → blocks_of new numbers ≡ blocks_of old numbers
   same_blocks old new [] same = refl
   same_blocks old new (n ∷ numbers) same =
@@ -82,7 +82,7 @@ module _ {T : Type 0} where
       let rest = same_blocks old new numbers (λ b among. same b (omega (arith, among, times-cons b n numbers))) in
       ap (λ x. x ∷ blocks_of new numbers) here ∙ ap (λ xs. items_at old n ∷ xs) rest
 
-  module _ (old new : Shelf T) (lines new_lines : Numbers) (waiting : List (List ℕ)) (v : ℕ) (h : AreBlocked old lines waiting) where
+  module _ (old new : Shelf T S) (lines new_lines : Numbers) (waiting : List (List ℕ)) (v : ℕ) (h : AreBlocked old lines waiting) where
     -- what one line names, another does not name alone
     beside : (w b : ℕ) → w ≢ v → 0 < times_in b (numbers_at lines w) → times_in b (numbers_at lines v) < names_at old b
     unfolding named_by
@@ -122,7 +122,7 @@ module _ {T : Type 0} where
       }
 
 -- no lines of no blocks
-pub blocked_none : {T : Type 0} → AreBlocked {T = T} [] [] []
+pub blocked_none : {T S : Type 0} → AreBlocked {T = T} {S = S} [] [] []
 unfolding named_by times_named
 blocked_none = record {
   counted = λ b. refl;

@@ -51,19 +51,21 @@ module _ {T : Type 0} where
   none_out None block is h = refl
   none_out (Some out) block is h = h ∙ is
 
-  pub keeps_then : (old mid new : BlockLines T) → KeepsLines old mid → KeepsLines mid new → KeepsLines old new
+module _ {T S : Type 0} where
+  pub keeps_then : (old mid new : BlockLines T S) → KeepsLines old mid → KeepsLines mid new → KeepsLines old new
   keeps_then old mid new first next = record {
     lines = λ v. next.lines v ∙ first.lines v;
     names = λ v j. next.names v j ∙ first.names v j;
     room = λ v j. omega (arith, first.room v j, next.room v j);
     weight = λ weigh. next.weight weigh ∙ first.weight weigh;
     steps = next.steps ∙ first.steps;
+    notes = λ note items noted. first.notes note items (next.notes note items noted);
   }
 
-  pub same_line : (old new : BlockLines T) (v : ℕ) → KeepsLines old new → line_at new v ≡ line_at old v
+  pub same_line : (old new : BlockLines T S) (v : ℕ) → KeepsLines old new → line_at new v ≡ line_at old v
   same_line old new v keeps = ap (λ (o : Option (List (List T))). unwrap_or o []) (keeps.lines v)
 
-  pub joined_sets : (v j len more : ℕ) (none out rest : List T) (r : Option (Vec T Global)) (old kept moved joined new : BlockLines T) → KeepsLines old kept
+  pub joined_sets : (v j len more : ℕ) (none out rest : List T) (r : Option (Vec T Global)) (old kept moved joined new : BlockLines T S) → KeepsLines old kept
       → SetsLine v (Some (set (line_at kept v) (j + 1) (spliced 0 more none (block_of kept v (j + 1))))) none out kept moved
       → SetsLine v (Some (set (line_at moved v) j (spliced len 0 out (block_of moved v j)))) out rest moved joined
       → SetsLine v (Some (remove (line_at joined v) (j + 1))) [] (items_out r) joined new
@@ -100,4 +102,5 @@ module _ {T : Type 0} where
             let no_gone : sum_by weigh (items_out r) ≡ sum_by weigh [] = ap (sum_by weigh) gone in
             omega (arith, keeps.weight weigh, first.weight weigh, next.weight weigh, last.weight weigh, no_more, no_rest, no_gone);
         steps = last.steps ∙ next.steps ∙ first.steps ∙ keeps.steps;
+        notes = λ note items noted. keeps.notes note items (first.notes note items (next.notes note items (last.notes note items noted)));
       }

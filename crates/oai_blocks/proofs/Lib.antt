@@ -6,6 +6,7 @@ pub mod LineLemmas
 pub mod WaitingLemmas
 pub mod ExchangeLemmas
 pub mod ListedLemmas
+pub mod NoteLemmas
 pub mod WeightLemmas
 pub mod JoinLemmas
 pub mod ElementLemmas

@@ -14,27 +14,27 @@ use Rattle.oai_blocks.proofs.ShelfLemmas.{altered, owned_turns, splice_weighs, s
 use Rattle.oai_blocks.proofs.SlotLemmas.{sum-part}
 use Rattle.oai_blocks.proofs.TimesLemmas.{times-cons, times-insert, times-nil, times-other, times-remove, times-same, times-set, times-within}
 
-module _ {T : Type 0} where
+module _ {T S : Type 0} where
   -- blocks are counted as before, and one line is set
-  pub record Holds (v : ℕ) (line : Option (List (List T))) (waiting : List (List ℕ)) (old new : Shelf T) (lines new_lines : Numbers) : Type 0 where
+  pub record Holds (v : ℕ) (line : Option (List (List T))) (waiting : List (List ℕ)) (old new : Shelf T S) (lines new_lines : Numbers) : Type 0 where
     pub blocked : AreBlocked new new_lines waiting
     pub lines_set : IsLineSet v line (lines_on old lines) (lines_on new new_lines)
 
   -- elements of numbers of which one is put in, taken out, or another
-  pub put_blocks : (new : Shelf T) (numbers : List ℕ) (j c : ℕ) → blocks_of new (insert numbers j c) ≡ insert (blocks_of new numbers) j (items_at new c)
+  pub put_blocks : (new : Shelf T S) (numbers : List ℕ) (j c : ℕ) → blocks_of new (insert numbers j c) ≡ insert (blocks_of new numbers) j (items_at new c)
   put_blocks new numbers j c =
       map-append (items_at new) (take j numbers) (c ∷ drop j numbers)
       ∙ ap (λ xs. xs ++ (items_at new c ∷ map (items_at new) (drop j numbers))) (sym (take-map (items_at new) j numbers))
       ∙ ap (λ xs. take j (blocks_of new numbers) ++ (items_at new c ∷ xs)) (sym (drop-map (items_at new) j numbers))
 
-  pub taken_blocks : (new : Shelf T) (numbers : List ℕ) (j : ℕ) → blocks_of new (remove numbers j) ≡ remove (blocks_of new numbers) j
+  pub taken_blocks : (new : Shelf T S) (numbers : List ℕ) (j : ℕ) → blocks_of new (remove numbers j) ≡ remove (blocks_of new numbers) j
   taken_blocks new numbers j =
       map-append (items_at new) (take j numbers) (drop (suc j) numbers)
       ∙ ap (λ xs. xs ++ map (items_at new) (drop (suc j) numbers)) (sym (take-map (items_at new) j numbers))
       ∙ ap (λ xs. take j (blocks_of new numbers) ++ xs) (sym (drop-map (items_at new) (suc j) numbers))
 
   -- one block has other elements, and is named once
-  pub changed_blocks : (old new : Shelf T) (numbers : List ℕ) (j : ℕ) → times_named (get_or numbers j 0) numbers ≤ 1 → j < length numbers
+  pub changed_blocks : (old new : Shelf T S) (numbers : List ℕ) (j : ℕ) → times_named (get_or numbers j 0) numbers ≤ 1 → j < length numbers
       → ((b : ℕ) → b ≢ get_or numbers j 0 → items_at new b ≡ items_at old b)
       → blocks_of new numbers ≡ set (blocks_of old numbers) j (items_at new (get_or numbers j 0))
   changed_blocks old new [] j once within same = absurd (omega (arith, within))
@@ -57,7 +57,7 @@ module _ {T : Type 0} where
       omega (arith, more, some, once, times-cons b n numbers, times-same n)) in
       ap (λ x. x ∷ blocks_of new numbers) here ∙ ap (λ xs. items_at old n ∷ xs) rest
 
-  module _ (old : Shelf T) (lines : Numbers) (waiting : List (List ℕ)) (v : ℕ) (h : AreBlocked old lines waiting) where
+  module _ (old : Shelf T S) (lines : Numbers) (waiting : List (List ℕ)) (v : ℕ) (h : AreBlocked old lines waiting) where
     pub named_at : (b : ℕ) → times_in b (numbers_at lines v) ≤ names_at old b
     unfolding named_by
     named_at b = omega (arith, h.counted b, sum-part (times_in b) (times-nil b) v lines)
@@ -73,7 +73,7 @@ module _ {T : Type 0} where
           | inr apart ↦ omega (arith, times-other b c apart, h.once v b)
         ]
 
-    module _ (new : Shelf T) (new_lines : Numbers) where
+    module _ (new : Shelf T S) (new_lines : Numbers) where
       pub holds : (slot : Option (List ℕ)) (line : Option (List (List T))) → IsNamedAnew (numbers_in (numbers_at lines v)) (numbers_in slot) old new
           → IsSlotSet v slot lines new_lines → ((b : ℕ) → times_in b slot ≤ 1) → option_map (blocks_of new) slot ≡ line
           → Holds v line waiting old new lines new_lines
@@ -198,7 +198,7 @@ steps-none (numbers ∷ waiting) =
 
 -- ---- a line that is in use, and its numbers
 
-module _ {T : Type 0} (shelf : Shelf T) (lines : Numbers) (v : ℕ) (numbers : List ℕ) (stands : numbers_at lines v ≡ Some numbers) where
+module _ {T S : Type 0} (shelf : Shelf T S) (lines : Numbers) (v : ℕ) (numbers : List ℕ) (stands : numbers_at lines v ≡ Some numbers) where
   pub line_is : unwrap_or (lines_on shelf lines v) [] ≡ blocks_of shelf numbers
   line_is = ap (λ (o : Option (List ℕ)). unwrap_or (option_map (blocks_of shelf) o) []) stands
 
@@ -215,11 +215,11 @@ module _ {T : Type 0} (shelf : Shelf T) (lines : Numbers) (v : ℕ) (numbers : L
       omega (arith, some, named_at shelf lines waiting v h n, ap (times_in n) stands)
 
 -- a line in use has numbers
-pub in_use : {T : Type 0} (shelf : Shelf T) (slot : Option (List ℕ)) → IsSome (option_map (blocks_of shelf) slot) → (numbers : List ℕ) × (slot ≡ Some numbers)
+pub in_use : {T S : Type 0} (shelf : Shelf T S) (slot : Option (List ℕ)) → IsSome (option_map (blocks_of shelf) slot) → (numbers : List ℕ) × (slot ≡ Some numbers)
 in_use shelf None h = absurd (true≢false (sym h))
 in_use shelf (Some numbers) h = (numbers, refl)
 
-block_in : {T : Type 0} (shelf : Shelf T) (slot : Option (List ℕ)) (j : ℕ) → j < length (unwrap_or (option_map (blocks_of shelf) slot) []) → (numbers : List ℕ) × (slot ≡ Some numbers)
+block_in : {T S : Type 0} (shelf : Shelf T S) (slot : Option (List ℕ)) (j : ℕ) → j < length (unwrap_or (option_map (blocks_of shelf) slot) []) → (numbers : List ℕ) × (slot ≡ Some numbers)
 block_in shelf None j within = absurd (omega (arith, within))
 block_in shelf (Some numbers) j within = (numbers, refl)
 
@@ -231,7 +231,7 @@ pub number_now : (lines : Numbers) (v j : ℕ) (numbers : List ℕ) → numbers_
 number_now lines v j numbers is = ap (λ (o : Option (List ℕ)). get_or (numbers_in o) j 0) is
 
 -- what is known where a line has a block at `j`
-pub has_block : {T : Type 0} (shelf : Shelf T) (lines : Numbers) (waiting : List (List ℕ)) (v j : ℕ) → AreBlocked shelf lines waiting → j < length (unwrap_or (lines_on shelf lines v) [])
+pub has_block : {T S : Type 0} (shelf : Shelf T S) (lines : Numbers) (waiting : List (List ℕ)) (v j : ℕ) → AreBlocked shelf lines waiting → j < length (unwrap_or (lines_on shelf lines v) [])
     → (numbers : List ℕ) × (numbers_at lines v ≡ Some numbers) × (j < length numbers) × (number_in lines v j ≡ get_or numbers j 0) × (0 < names_at shelf (number_in lines v j))
     × (items_at shelf (get_or numbers j 0) ≡ get_or (unwrap_or (lines_on shelf lines v) []) j [])
 has_block {T} shelf lines waiting v j h within =
@@ -251,7 +251,7 @@ has_block {T} shelf lines waiting v j h within =
 
 -- ---- calls on a line that is in use
 
-module _ {T : Type 0} (old new : Shelf T) (lines : Numbers) (waiting : List (List ℕ)) (v : ℕ) (h : AreBlocked old lines waiting) where
+module _ {T S : Type 0} (old new : Shelf T S) (lines : Numbers) (waiting : List (List ℕ)) (v : ℕ) (h : AreBlocked old lines waiting) where
   -- a copy of the line
   pub copied : (w : ℕ) (new_lines : Numbers) (numbers : List ℕ) (added gone : List T) → numbers_at lines v ≡ Some numbers → numbers_at lines w ≡ None → Turns [] numbers added gone old new
       → IsSlotSet w (Some numbers) lines new_lines → Holds w (lines_on old lines v) waiting old new lines new_lines
@@ -308,7 +308,7 @@ module _ {T : Type 0} (old new : Shelf T) (lines : Numbers) (waiting : List (Lis
 
 -- ---- lines of which no block has other elements
 
-module _ {T : Type 0} (old new : Shelf T) where
+module _ {T S : Type 0} (old new : Shelf T S) where
   same_slot : ((b : ℕ) → items_at new b ≡ items_at old b) → (slot : Option (List ℕ)) → option_map (blocks_of new) slot ≡ option_map (blocks_of old) slot
   same_slot same None = refl
   same_slot same (Some numbers) = ap Some (same_blocks old new numbers (λ b among. same b))
@@ -322,7 +322,7 @@ module _ {T : Type 0} (old new : Shelf T) where
       turned old new lines lines waiting 0 h (renames_within numbers numbers [] [] old new turns.renames (λ b. refl) (λ b. omega (arith, times-nil b))) (λ w apart. refl) (λ b. h.once 0 b)
 
 -- one after the other
-pub holds_then : {T : Type 0} (v : ℕ) (first next : Option (List (List T))) (waiting : List (List ℕ)) (old mid new : Shelf T) (lines mid_lines new_lines : Numbers)
+pub holds_then : {T S : Type 0} (v : ℕ) (first next : Option (List (List T))) (waiting : List (List ℕ)) (old mid new : Shelf T S) (lines mid_lines new_lines : Numbers)
     → Holds v first waiting old mid lines mid_lines → Holds v next waiting mid new mid_lines new_lines → Holds v next waiting old new lines new_lines
 holds_then v first next waiting old mid new lines mid_lines new_lines h g = record {
   blocked = g.blocked;
@@ -333,7 +333,7 @@ holds_then v first next waiting old mid new lines mid_lines new_lines h g = reco
 }
 
 -- a block of a line is cut in two: its tail goes to a new one
-module _ {T : Type 0} (old mid new : Shelf T) (lines new_lines : Numbers) (waiting : List (List ℕ)) (v j i n k : ℕ) (block tail : List T) (h : AreBlocked old lines waiting)
+module _ {T S : Type 0} (old mid new : Shelf T S) (lines new_lines : Numbers) (waiting : List (List ℕ)) (v j i n k : ℕ) (block tail : List T) (h : AreBlocked old lines waiting)
     (within : j < length (unwrap_or (lines_on old lines v) [])) (own : names_at old (number_in lines v j) ≡ 1) (number : n ≡ number_in lines v j) (items : items_at old n ≡ block)
     (alters : Alters n (take i (items_at old n)) old mid) (tail_is : tail ≡ drop i (items_at old n)) (turns : Turns [] (k ∷ []) tail [] mid new) where
   cut_at : Alters (number_in lines v j) (take i block) old mid
@@ -369,7 +369,7 @@ module _ {T : Type 0} (old mid new : Shelf T) (lines new_lines : Numbers) (waiti
       (subst (λ (l : List (List T)). Holds v (Some (insert l (j + 1) tail)) waiting mid new lines new_lines) line next))
 
 -- copies in place of a block that others name
-module _ {T : Type 0} (old mid new : Shelf T) (lines new_lines : Numbers) (waiting : List (List ℕ)) (v j n own : ℕ) (copies out : List T) (h : AreBlocked old lines waiting)
+module _ {T S : Type 0} (old mid new : Shelf T S) (lines new_lines : Numbers) (waiting : List (List ℕ)) (v j n own : ℕ) (copies out : List T) (h : AreBlocked old lines waiting)
     (within : j < length (unwrap_or (lines_on old lines v) [])) (number : n ≡ number_in lines v j) (shared : 1 < names_at old n)
     (first : Turns (n ∷ []) [] [] out old mid) (none : out ≡ []) (next : Turns [] (own ∷ []) copies [] mid new) where
   pub own_weight : (weigh : T → ℕ) → weight weigh new + sum_by weigh [] ≡ weight weigh old + sum_by weigh copies
@@ -404,7 +404,7 @@ apart_at (n ∷ ns) (suc j) zero within inside apart once same =
 apart_at (n ∷ ns) (suc j) (suc k) within inside apart once same =
     apart_at ns j k (omega (arith, within)) (omega (arith, inside)) (λ e. apart (ap suc e)) (λ b. omega (arith, once b, times-cons b n ns)) same
 
-module _ {T : Type 0} (old new : Shelf T) (lines new_lines : Numbers) (waiting : List (List ℕ)) (v : ℕ) (h : AreBlocked old lines waiting) (numbers : List ℕ) (stands : numbers_at lines v ≡ Some numbers)
+module _ {T S : Type 0} (old new : Shelf T S) (lines new_lines : Numbers) (waiting : List (List ℕ)) (v : ℕ) (h : AreBlocked old lines waiting) (numbers : List ℕ) (stands : numbers_at lines v ≡ Some numbers)
     (j : ℕ) (within : j < length numbers) where
   once_in : (b : ℕ) → times_named b numbers ≤ 1
   once_in b =
@@ -439,9 +439,9 @@ module _ {T : Type 0} (old new : Shelf T) (lines new_lines : Numbers) (waiting :
       let same : names_at new b ≡ names_at old b = omega (arith, renames.counts b, times-other b (get_or numbers j 0) apart, times-other b own fresh) in
       ap (names_at new) now ∙ same ∙ sym (ap (names_at old) was)
 
-module _ {T : Type 0} (old new : Shelf T) (lines new_lines : Numbers) (v : ℕ) (numbers : List ℕ) (j : ℕ) (within : j < length numbers) where
+module _ {T S : Type 0} (old new : Shelf T S) (lines new_lines : Numbers) (v : ℕ) (numbers : List ℕ) (j : ℕ) (within : j < length numbers) where
   -- a block that is cut in two, of which no other line names either part
-  pub cut_names : (k : ℕ) (now : BlockState T) → block_at old k ≡ None → names_at old (get_or numbers j 0) ≡ 1 → now.names ≡ 1 → IsSlotSet k (Some now) old new
+  pub cut_names : (k : ℕ) (now : BlockState T S) → block_at old k ≡ None → names_at old (get_or numbers j 0) ≡ 1 → now.names ≡ 1 → IsSlotSet k (Some now) old new
       → IsSlotSet v (Some (insert numbers (j + 1) k)) lines new_lines → (names_at new (number_in new_lines v j) ≡ 1) × (names_at new (number_in new_lines v (j + 1)) ≡ 1)
   cut_names k now vacant own one set_block set_line =
       let n = get_or numbers j 0 in

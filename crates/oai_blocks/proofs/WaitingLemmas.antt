@@ -34,15 +34,15 @@ pub steps-push : (waiting : List (List ℕ)) (numbers : List ℕ) → steps_for 
 unfolding steps_for
 steps-push waiting numbers = sum_by_push (λ (l : List ℕ). 1 + length l) waiting numbers
 
-module _ {T : Type 0} where
+module _ {T S : Type 0} where
   -- no more lines name a block than there are
-  pub few_named : (shelf : Shelf T) (lines : Numbers) (waiting : List (List ℕ)) → AreBlocked shelf lines waiting → (b : ℕ) → names_at shelf b ≤ count_by is_some lines + length waiting
+  pub few_named : (shelf : Shelf T S) (lines : Numbers) (waiting : List (List ℕ)) → AreBlocked shelf lines waiting → (b : ℕ) → names_at shelf b ≤ count_by is_some lines + length waiting
   unfolding named_by
   few_named shelf lines waiting h b =
       omega (arith, h.counted b, sum-few (times_in b) (times-nil b) lines (λ k. h.once k b), few_waiting b waiting (λ k. h.once_waiting k b))
 
   -- a line is dropped
-  pub gone_blocked : (shelf : Shelf T) (lines new_lines : Numbers) (waiting : List (List ℕ)) (v : ℕ) (numbers : List ℕ) → AreBlocked shelf lines waiting
+  pub gone_blocked : (shelf : Shelf T S) (lines new_lines : Numbers) (waiting : List (List ℕ)) (v : ℕ) (numbers : List ℕ) → AreBlocked shelf lines waiting
       → numbers_at lines v ≡ Some numbers → IsSlotSet v None lines new_lines → AreBlocked shelf new_lines (waiting ++ numbers ∷ [])
   unfolding named_by
   gone_blocked shelf lines new_lines waiting v numbers h stands set = record {
@@ -65,14 +65,14 @@ module _ {T : Type 0} where
         each-push (λ (l : List ℕ). times_named b l ≤ 1) [] numbers waiting (λ j. h.once_waiting j b) own (omega (arith, times-nil b)) k;
   }
 
-  pub gone_lines : (shelf : Shelf T) (lines new_lines : Numbers) (v : ℕ) → IsSlotSet v None lines new_lines → IsLineSet v None (lines_on shelf lines) (lines_on shelf new_lines)
+  pub gone_lines : (shelf : Shelf T S) (lines new_lines : Numbers) (v : ℕ) → IsSlotSet v None lines new_lines → IsLineSet v None (lines_on shelf lines) (lines_on shelf new_lines)
   gone_lines shelf lines new_lines v set = record {
     this = ap (option_map (blocks_of shelf)) set.this;
     others = λ w apart. ap (option_map (blocks_of shelf)) (set.others w apart);
   }
 
   -- a line that waits has no block any more
-  pub ended : (shelf : Shelf T) (lines : Numbers) (rest : List (List ℕ)) → AreBlocked shelf lines (rest ++ [] ∷ []) → AreBlocked shelf lines rest
+  pub ended : (shelf : Shelf T S) (lines : Numbers) (rest : List (List ℕ)) → AreBlocked shelf lines (rest ++ [] ∷ []) → AreBlocked shelf lines rest
   unfolding named_by
   ended shelf lines rest h = record {
     counted = λ b. omega (arith, h.counted b, sum_by_push (times_named b) rest [], times-nil b);
@@ -82,7 +82,7 @@ module _ {T : Type 0} where
   }
 
   -- a block of a line that waits is named once less
-  module _ (old new : Shelf T) (lines : Numbers) (rest : List (List ℕ)) (front : List ℕ) (n : ℕ) (h : AreBlocked old lines (rest ++ (front ++ n ∷ []) ∷ []))
+  module _ (old new : Shelf T S) (lines : Numbers) (rest : List (List ℕ)) (front : List ℕ) (n : ℕ) (h : AreBlocked old lines (rest ++ (front ++ n ∷ []) ∷ []))
       (added gone : List T) where
     last_times : (b : ℕ) → sum_by (times_named b) (rest ++ (front ++ n ∷ []) ∷ []) ≡ sum_by (times_named b) (rest ++ front ∷ []) + times_named b (n ∷ [])
     last_times b = omega (arith, sum_by_push (times_named b) rest (front ++ n ∷ []), sum_by_push (times_named b) rest front, times-append b front (n ∷ []))

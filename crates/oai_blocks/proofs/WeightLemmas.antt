@@ -10,8 +10,8 @@ use Rattle.oai_blocks.specs.Naming.{IsSlotSet}
 use Rattle.oai_blocks.proofs.FrameLemmas.{same_blocks, weight_set}
 use Rattle.oai_blocks.proofs.TimesLemmas.{times-cons, times-same}
 
-module _ {T : Type 0} where
-  emptied : (shelf : Shelf T) (k : ℕ) → IsSlotSet k None shelf (set shelf k None)
+module _ {T S : Type 0} where
+  emptied : (shelf : Shelf T S) (k : ℕ) → IsSlotSet k None shelf (set shelf k None)
   emptied shelf k = record {
     this = elim (cases_lt k (length shelf)) [
       | inl within ↦ get_or-set_same shelf k None None within
@@ -20,7 +20,7 @@ module _ {T : Type 0} where
     others = λ j apart. get_or-set_other shelf k j None None apart;
   }
 
-  pub line_weighs : (weigh : T → ℕ) (numbers : List ℕ) (shelf : Shelf T) → ((b : ℕ) → times_named b numbers ≤ 1) → sum_by weigh (listed (blocks_of shelf numbers)) ≤ weight weigh shelf
+  pub line_weighs : (weigh : T → ℕ) (numbers : List ℕ) (shelf : Shelf T S) → ((b : ℕ) → times_named b numbers ≤ 1) → sum_by weigh (listed (blocks_of shelf numbers)) ≤ weight weigh shelf
   line_weighs weigh [] shelf once = omega arith
   line_weighs weigh (n ∷ numbers) shelf once =
       let left = set shelf n None in
@@ -37,10 +37,10 @@ module _ {T : Type 0} where
       ap (λ (l : List (List T)). sum_by weigh (listed l)) (same_blocks shelf left numbers apart) in
       omega (arith, rest, same, weight_set weigh n None shelf left set_none, sum_by-append weigh (items_at shelf n) (listed (blocks_of shelf numbers)))
 
-  weighs_slot : (weigh : T → ℕ) (slot : Option (List ℕ)) (shelf : Shelf T) → ((b : ℕ) → times_in b slot ≤ 1) → sum_by weigh (listed (unwrap_or (option_map (blocks_of shelf) slot) [])) ≤ weight weigh shelf
+  weighs_slot : (weigh : T → ℕ) (slot : Option (List ℕ)) (shelf : Shelf T S) → ((b : ℕ) → times_in b slot ≤ 1) → sum_by weigh (listed (unwrap_or (option_map (blocks_of shelf) slot) [])) ≤ weight weigh shelf
   weighs_slot weigh None shelf once = omega arith
   weighs_slot weigh (Some numbers) shelf once = line_weighs weigh numbers shelf once
 
-  pub weighs : (weigh : T → ℕ) (shelf : Shelf T) (lines : Numbers) (waiting : List (List ℕ)) (v : ℕ) → AreBlocked shelf lines waiting
+  pub weighs : (weigh : T → ℕ) (shelf : Shelf T S) (lines : Numbers) (waiting : List (List ℕ)) (v : ℕ) → AreBlocked shelf lines waiting
       → sum_by weigh (listed (unwrap_or (lines_on shelf lines v) [])) ≤ weight weigh shelf
   weighs weigh shelf lines waiting v h = weighs_slot weigh (numbers_at lines v) shelf (λ b. h.once v b)

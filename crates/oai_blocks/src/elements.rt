@@ -7,7 +7,7 @@ ghost use Rattle.oai_blocks.specs.Store.{HasBlock, HasElement, KeepsLines, SetsL
 use crate::lines::BlockLines;
 use std::alloc::{AllocError, Global};
 
-impl<T: Drop + Clone> BlockLines<T> {
+impl<T: Drop + Clone, S: Drop> BlockLines<T, S> {
     /// Copies the block at `j` of the line if other lines name it too, and reserves the space for that many more
     /// elements in its own one. Returns whether it was copied. A clone of an element equals it. The error is out of
     /// memory; nothing has changed then.

@@ -6,6 +6,7 @@ mod blocks;
 mod elements;
 mod exchanges;
 mod lines;
+mod notes;
 mod searches;
 mod shelves;
 mod sizes;

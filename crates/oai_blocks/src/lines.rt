@@ -14,12 +14,13 @@ use crate::shelves::{
 use slab::Slab;
 use std::alloc::{AllocError, Global};
 
-/// Lines of elements, each kept as blocks that it may share with other lines. There are at most 4,294,967,296 blocks: a
-/// call that needs one more fails as if memory ran out.
+/// Lines of elements, each kept as blocks that it may share with other lines. A note about its elements may be kept with a
+/// block, as a database keeps zone maps; it goes when they change. There are at most 4,294,967,296 blocks: a call that needs
+/// one more fails as if memory ran out.
 #[derive(Drop)]
-pub struct BlockLines<T> {
+pub struct BlockLines<T, S> {
     pub(crate) alloc: Global,
-    blocks: Slab<Block<T>>,
+    pub(crate) blocks: Slab<Block<T, S>>,
     lines: Slab<Line>,
     /// The lines that were dropped, and still have references to blocks.
     waiting: Vec<Line>,
@@ -27,11 +28,11 @@ pub struct BlockLines<T> {
     ghost roomy: { slab_len lines + vec_len waiting ≤ vec_capacity waiting },
 }
 
-impl<T: Drop> BlockLines<T> {
-    ghost use Rattle.oai_blocks.specs.Store.{CanExchange, CanJoin, HasBlock, KeepsLines, KeepsSharing, SetsLine, block_of, line_at, lines_of, names_of, number_of, room_of, steps_left, weight_of};
+impl<T: Drop, S: Drop> BlockLines<T, S> {
+    ghost use Rattle.oai_blocks.specs.Store.{CanExchange, CanJoin, HasBlock, KeepsLines, KeepsNotes, KeepsSharing, SetsLine, block_of, line_at, lines_of, names_of, number_of, room_of, steps_left, weight_of};
 
     /// No lines. Allocates nothing.
-    pub fn new(alloc: Global) -> BlockLines<T>
+    pub fn new(alloc: Global) -> BlockLines<T, S>
         ensures lines { (v : ℕ) → lines_of result v ≡ None }
         ensures weight { (weigh : T → ℕ) → weight_of weigh result ≡ 0 }
         ensures steps { steps_left result ≡ 0 }
@@ -110,7 +111,7 @@ impl<T: Drop> BlockLines<T> {
     }
 
     /// The number of the block at `j` of the line.
-    fn number_of(&self, v: usize, j: usize) -> usize
+    pub(crate) fn number_of(&self, v: usize, j: usize) -> usize
         requires { HasBlock self.now v j }
         ensures number { result ≡ number_of self.now v j }
         ensures stands { 0 < names_at self.now.blocks.slots result }
@@ -141,7 +142,7 @@ impl<T: Drop> BlockLines<T> {
         if insert_number(&mut self.lines, v, j, number).is_err() {
             return Err(items);
         }
-        self.blocks.insert_reserved(Block { items, names: 1 });
+        self.blocks.insert_reserved(Block::new(items));
         Ok(())
     }
 
@@ -177,10 +178,7 @@ impl<T: Drop> BlockLines<T> {
             return Err(copies);
         };
         drop_name(&mut self.blocks, shared);
-        self.blocks.insert_reserved(Block {
-            items: copies,
-            names: 1,
-        });
+        self.blocks.insert_reserved(Block::new(copies));
         set_number(&mut self.lines, v, j, own);
         Ok(())
     }
@@ -249,10 +247,7 @@ impl<T: Drop> BlockLines<T> {
             return Err(AllocError);
         }
         cut_items(&mut self.blocks, number, i, &mut tail);
-        self.blocks.insert_reserved(Block {
-            items: tail,
-            names: 1,
-        });
+        self.blocks.insert_reserved(Block::new(tail));
         Ok(())
     }
 
@@ -284,6 +279,7 @@ impl<T: Drop> BlockLines<T> {
         ensures line { IsLineSet v None (lines_of self.old) (lines_of self.new) }
         ensures weight { (weigh : T → ℕ) → weight_of weigh self.new ≡ weight_of weigh self.old }
         ensures steps { steps_left self.new ≡ steps_left self.old + (1 + length (line_at self.old v)) }
+        ensures notes { KeepsNotes self.old self.new }
     {
         let line = self.lines.remove(v);
         self.waiting.push_reserved(line);
@@ -295,6 +291,7 @@ impl<T: Drop> BlockLines<T> {
         ensures lines { (v : ℕ) → lines_of self.new v ≡ lines_of self.old v }
         ensures weight { (weigh : T → ℕ) → weight_of weigh self.new + sum_by weigh (items_out result) ≡ weight_of weigh self.old }
         ensures steps { steps_left self.new ≡ steps_left self.old - 1 }
+        ensures notes { KeepsNotes self.old self.new }
     {
         let Some(mut line) = self.waiting.pop() else {
             return None;

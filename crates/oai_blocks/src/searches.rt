@@ -15,7 +15,7 @@ pub struct BlockPlace {
     pub at: usize,
 }
 
-impl<T: Drop> BlockLines<T> {
+impl<T: Drop, S: Drop> BlockLines<T, S> {
     /// The block of the element that has that many before it in the line, and its place there, in O(blocks). If the line
     /// has no such element, the block is behind the last one.
     pub fn place_at(&self, v: usize, before: usize) -> BlockPlace

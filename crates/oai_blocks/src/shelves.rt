@@ -12,7 +12,7 @@ use slab::Slab;
 use std::alloc::AllocError;
 
 /// One line more names the block.
-pub(crate) fn name_again<T: Drop>(blocks: &mut Slab<Block<T>>, number: usize)
+pub(crate) fn name_again<T: Drop, S: Drop>(blocks: &mut Slab<Block<T, S>>, number: usize)
     requires stands { 0 < names_at blocks.old.slots number }
     requires few { names_at blocks.old.slots number + 1 < 2 ^ 64 }
     ensures { Turns [] (number ∷ []) [] [] blocks.old.slots blocks.new.slots }
@@ -24,7 +24,7 @@ pub(crate) fn name_again<T: Drop>(blocks: &mut Slab<Block<T>>, number: usize)
 }
 
 /// One line more names each of the blocks.
-pub(crate) fn name_all<T: Drop>(blocks: &mut Slab<Block<T>>, numbers: &[u32])
+pub(crate) fn name_all<T: Drop, S: Drop>(blocks: &mut Slab<Block<T, S>>, numbers: &[u32])
     requires stand { (b : ℕ) → 0 < times_named b numbers.now → 0 < names_at blocks.old.slots b }
     requires few { (b : ℕ) → names_at blocks.old.slots b + 1 < 2 ^ 64 }
     requires once { (b : ℕ) → times_named b numbers.now ≤ 1 }
@@ -36,7 +36,10 @@ pub(crate) fn name_all<T: Drop>(blocks: &mut Slab<Block<T>>, numbers: &[u32])
 }
 
 /// One line less names the block. Returns its elements if it was the last one.
-pub(crate) fn drop_name<T: Drop>(blocks: &mut Slab<Block<T>>, number: usize) -> Option<Vec<T>>
+pub(crate) fn drop_name<T: Drop, S: Drop>(
+    blocks: &mut Slab<Block<T, S>>,
+    number: usize,
+) -> Option<Vec<T>>
     requires { 0 < names_at blocks.old.slots number }
     ensures turns { Turns (number ∷ []) [] [] (items_out result) blocks.old.slots blocks.new.slots }
     ensures out { IfSome result (λ out. out.items ≡ items_at blocks.old.slots number) }
@@ -135,8 +138,8 @@ pub(crate) fn reserve_line(
 
 /// Reserves the space in which `exchange_items` of at most `back` elements of the block for the others cannot fail, and
 /// neither can the exchange back. The error is out of memory.
-pub(crate) fn reserve_items<T: Drop>(
-    blocks: &mut Slab<Block<T>>,
+pub(crate) fn reserve_items<T: Drop, S: Drop>(
+    blocks: &mut Slab<Block<T, S>>,
     number: usize,
     others: &mut Vec<T>,
     back: usize,
@@ -154,8 +157,8 @@ pub(crate) fn reserve_items<T: Drop>(
 }
 
 /// Reserves the space for that many more elements in the block. The error is out of memory.
-pub(crate) fn reserve_more<T: Drop>(
-    blocks: &mut Slab<Block<T>>,
+pub(crate) fn reserve_more<T: Drop, S: Drop>(
+    blocks: &mut Slab<Block<T, S>>,
     number: usize,
     more: usize,
 ) -> Result<(), AllocError>
@@ -170,8 +173,8 @@ pub(crate) fn reserve_more<T: Drop>(
 }
 
 /// Moves the elements of the block from `at` on to the tail.
-pub(crate) fn cut_items<T: Drop>(
-    blocks: &mut Slab<Block<T>>,
+pub(crate) fn cut_items<T: Drop, S: Drop>(
+    blocks: &mut Slab<Block<T, S>>,
     number: usize,
     at: usize,
     tail: &mut Vec<T>,
@@ -188,12 +191,13 @@ pub(crate) fn cut_items<T: Drop>(
     let Some(block) = blocks.get_mut(number) else {
         unreachable!()
     };
+    block.note = None;
     move_last(&mut block.items, at, tail);
 }
 
 /// Swaps `len` elements of the block from `at` on for the others, which are the old ones then.
-pub(crate) fn exchange_items<T: Drop>(
-    blocks: &mut Slab<Block<T>>,
+pub(crate) fn exchange_items<T: Drop, S: Drop>(
+    blocks: &mut Slab<Block<T, S>>,
     number: usize,
     at: usize,
     len: usize,
@@ -211,5 +215,6 @@ pub(crate) fn exchange_items<T: Drop>(
     let Some(block) = blocks.get_mut(number) else {
         unreachable!()
     };
+    block.note = None;
     exchange(&mut block.items, at, len, others);
 }

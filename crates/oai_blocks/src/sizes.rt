@@ -12,7 +12,7 @@ pub const MAX_BLOCK: usize = 512;
 /// Two neighbours that have so many elements together, or fewer, are joined.
 pub const MAX_JOINED: usize = 128;
 
-impl<T: Drop> BlockLines<T> {
+impl<T: Drop, S: Drop> BlockLines<T, S> {
     /// Cuts the block at `j` of the line, which no other line names, in halves if it has more than `most` elements.
     /// Returns whether it did. The error is out of memory; nothing has changed then.
     pub fn cut_long(&mut self, v: usize, j: usize, most: usize) -> Result<bool, AllocError>

@@ -61,4 +61,5 @@ returns-clause-line g c =
       lines = (copied self.blocks.slots c.name_all.new.blocks.slots self.lines.slots self.waiting.items c.args.v self.blocked w c.insert_reserved.new.self.slots numbers _ _ stands vacant c.name_all.ensures set).lines_set;
       weight = c.name_all.ensures.weight;
       steps = ap steps_for c.reserve_line.ensures.items;
+      notes = c.name_all.ensures.notes;
     }

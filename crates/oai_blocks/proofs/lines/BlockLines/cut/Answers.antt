@@ -7,7 +7,7 @@ use Rattle.oai_blocks.specs.Naming.{Alters}
 use Rattle.oai_blocks.specs.Store.{block_of, line_at}
 use Rattle.oai_blocks.proofs.LineLemmas.{cut_holds, cut_names, cut_weight, has_block, unset}
 use Rattle.oai_blocks.proofs.ListedLemmas.{cut_blocks, listed_cut}
-use Rattle.oai_blocks.proofs.ShelfLemmas.{named_first, not_err, updated, was_err}
+use Rattle.oai_blocks.proofs.ShelfLemmas.{named_first, not_err, updated_by, was_err}
 use Rattle.oai_blocks.proofs.lines.BlockLines.cut.Goals as goal
 
 pub invariant_of-self-then-is_err-clause-blocked : goal.invariant_of-self-then-is_err-clause-blocked
@@ -27,13 +27,13 @@ invariant_of-self-2-clause-blocked g c =
     let mid = c.cut_items.new.blocks.slots in
     let new = c.insert_reserved.new.self.slots in
     let tail : List g.row.T.Denot = c.cut_items.new.tail.items in
-    let alters = subst (λ (shelf : Shelf g.row.T.Denot). Alters n (take c.args.i (items_at shelf n)) shelf mid) same c.cut_items.ensures.alters in
+    let alters = subst (λ (shelf : Shelf g.row.T.Denot g.row.S.Denot). Alters n (take c.args.i (items_at shelf n)) shelf mid) same c.cut_items.ensures.alters in
     let tail_is : tail ≡ drop c.args.i (items_at self.blocks.slots n) =
-    c.cut_items.ensures.tail ∙ ap (λ (t : List g.row.T.Denot). t ++ drop c.args.i (items_at c.reserve.new.self.slots n)) c.in_ok-tail.ensures.items ∙ ap (λ (shelf : Shelf g.row.T.Denot). drop c.args.i (items_at shelf n)) same in
+    c.cut_items.ensures.tail ∙ ap (λ (t : List g.row.T.Denot). t ++ drop c.args.i (items_at c.reserve.new.self.slots n)) c.in_ok-tail.ensures.items ∙ ap (λ (shelf : Shelf g.row.T.Denot g.row.S.Denot). drop c.args.i (items_at shelf n)) same in
     let key : c.insert_reserved.result ≡ k = c.insert_reserved.ensures.key ∙ c.cut_items.ensures.vacant ∙ sym c.vacant_key.ensures.value ∙ sym is in
     let free : get c.cut_items.new.blocks k ≡ None = subst (λ x. get c.cut_items.new.blocks x ≡ None) key c.insert_reserved.ensures.was_vacant in
-    let set_block = updated c.cut_items.new.blocks c.cut_items.new.blocks c.insert_reserved.new.self k c.insert_reserved.result _ refl key c.insert_reserved.ensures.updates in
-    let turns = named_first mid new k _ free refl set_block in
+    let set_block = updated_by c.cut_items.new.blocks c.cut_items.new.blocks c.insert_reserved.new.self k c.insert_reserved.result _ _ c.new.ensures refl key c.insert_reserved.ensures.updates in
+    let turns = named_first mid new k _ free refl refl set_block in
     let line_set = not_err c.insert_number.result (sym c.is_err.ensures.value ∙ c.if-is_err.false) c.insert_number.ensures.set in
     let held = cut_holds self.blocks.slots mid new self.lines.slots c.insert_number.new.lines.slots self.waiting.items c.args.v c.args.j c.args.i n k (block_of self c.args.v c.args.j) tail
     self.blocked c.requires.block c.requires.own c.number_of-number.ensures.number c.number_of-number.ensures.items alters tail_is turns
@@ -50,13 +50,13 @@ returns-clause-line g c =
     let mid = c.cut_items.new.blocks.slots in
     let new = c.insert_reserved.new.self.slots in
     let tail : List g.row.T.Denot = c.cut_items.new.tail.items in
-    let alters = subst (λ (shelf : Shelf g.row.T.Denot). Alters n (take c.args.i (items_at shelf n)) shelf mid) same c.cut_items.ensures.alters in
+    let alters = subst (λ (shelf : Shelf g.row.T.Denot g.row.S.Denot). Alters n (take c.args.i (items_at shelf n)) shelf mid) same c.cut_items.ensures.alters in
     let tail_is : tail ≡ drop c.args.i (items_at self.blocks.slots n) =
-    c.cut_items.ensures.tail ∙ ap (λ (t : List g.row.T.Denot). t ++ drop c.args.i (items_at c.reserve.new.self.slots n)) c.in_ok-tail.ensures.items ∙ ap (λ (shelf : Shelf g.row.T.Denot). drop c.args.i (items_at shelf n)) same in
+    c.cut_items.ensures.tail ∙ ap (λ (t : List g.row.T.Denot). t ++ drop c.args.i (items_at c.reserve.new.self.slots n)) c.in_ok-tail.ensures.items ∙ ap (λ (shelf : Shelf g.row.T.Denot g.row.S.Denot). drop c.args.i (items_at shelf n)) same in
     let key : c.insert_reserved.result ≡ k = c.insert_reserved.ensures.key ∙ c.cut_items.ensures.vacant ∙ sym c.vacant_key.ensures.value ∙ sym is in
     let free : get c.cut_items.new.blocks k ≡ None = subst (λ x. get c.cut_items.new.blocks x ≡ None) key c.insert_reserved.ensures.was_vacant in
-    let set_block = updated c.cut_items.new.blocks c.cut_items.new.blocks c.insert_reserved.new.self k c.insert_reserved.result _ refl key c.insert_reserved.ensures.updates in
-    let turns = named_first mid new k _ free refl set_block in
+    let set_block = updated_by c.cut_items.new.blocks c.cut_items.new.blocks c.insert_reserved.new.self k c.insert_reserved.result _ _ c.new.ensures refl key c.insert_reserved.ensures.updates in
+    let turns = named_first mid new k _ free refl refl set_block in
     let line_set = not_err c.insert_number.result (sym c.is_err.ensures.value ∙ c.if-is_err.false) c.insert_number.ensures.set in
     let held = cut_holds self.blocks.slots mid new self.lines.slots c.insert_number.new.lines.slots self.waiting.items c.args.v c.args.j c.args.i n k (block_of self c.args.v c.args.j) tail
     self.blocked c.requires.block c.requires.own c.number_of-number.ensures.number c.number_of-number.ensures.items alters tail_is turns
@@ -67,6 +67,7 @@ returns-clause-line g c =
       weight = cut_weight self.blocks.slots mid new self.lines.slots c.insert_number.new.lines.slots self.waiting.items c.args.v c.args.j c.args.i n k (block_of self c.args.v c.args.j) tail
           self.blocked c.requires.block c.requires.own c.number_of-number.ensures.number c.number_of-number.ensures.items alters tail_is turns;
       steps = refl;
+      notes = λ note items noted. alters.notes note items (turns.notes note items noted);
     }
 
 pub returns-clause-list : goal.returns-clause-list
@@ -79,13 +80,13 @@ returns-clause-list g c =
     let mid = c.cut_items.new.blocks.slots in
     let new = c.insert_reserved.new.self.slots in
     let tail : List g.row.T.Denot = c.cut_items.new.tail.items in
-    let alters = subst (λ (shelf : Shelf g.row.T.Denot). Alters n (take c.args.i (items_at shelf n)) shelf mid) same c.cut_items.ensures.alters in
+    let alters = subst (λ (shelf : Shelf g.row.T.Denot g.row.S.Denot). Alters n (take c.args.i (items_at shelf n)) shelf mid) same c.cut_items.ensures.alters in
     let tail_is : tail ≡ drop c.args.i (items_at self.blocks.slots n) =
-    c.cut_items.ensures.tail ∙ ap (λ (t : List g.row.T.Denot). t ++ drop c.args.i (items_at c.reserve.new.self.slots n)) c.in_ok-tail.ensures.items ∙ ap (λ (shelf : Shelf g.row.T.Denot). drop c.args.i (items_at shelf n)) same in
+    c.cut_items.ensures.tail ∙ ap (λ (t : List g.row.T.Denot). t ++ drop c.args.i (items_at c.reserve.new.self.slots n)) c.in_ok-tail.ensures.items ∙ ap (λ (shelf : Shelf g.row.T.Denot g.row.S.Denot). drop c.args.i (items_at shelf n)) same in
     let key : c.insert_reserved.result ≡ k = c.insert_reserved.ensures.key ∙ c.cut_items.ensures.vacant ∙ sym c.vacant_key.ensures.value ∙ sym is in
     let free : get c.cut_items.new.blocks k ≡ None = subst (λ x. get c.cut_items.new.blocks x ≡ None) key c.insert_reserved.ensures.was_vacant in
-    let set_block = updated c.cut_items.new.blocks c.cut_items.new.blocks c.insert_reserved.new.self k c.insert_reserved.result _ refl key c.insert_reserved.ensures.updates in
-    let turns = named_first mid new k _ free refl set_block in
+    let set_block = updated_by c.cut_items.new.blocks c.cut_items.new.blocks c.insert_reserved.new.self k c.insert_reserved.result _ _ c.new.ensures refl key c.insert_reserved.ensures.updates in
+    let turns = named_first mid new k _ free refl refl set_block in
     let line_set = not_err c.insert_number.result (sym c.is_err.ensures.value ∙ c.if-is_err.false) c.insert_number.ensures.set in
     let held = cut_holds self.blocks.slots mid new self.lines.slots c.insert_number.new.lines.slots self.waiting.items c.args.v c.args.j c.args.i n k (block_of self c.args.v c.args.j) tail
     self.blocked c.requires.block c.requires.own c.number_of-number.ensures.number c.number_of-number.ensures.items alters tail_is turns
@@ -104,13 +105,13 @@ returns-clause-names g c =
     let mid = c.cut_items.new.blocks.slots in
     let new = c.insert_reserved.new.self.slots in
     let tail : List g.row.T.Denot = c.cut_items.new.tail.items in
-    let alters = subst (λ (shelf : Shelf g.row.T.Denot). Alters n (take c.args.i (items_at shelf n)) shelf mid) same c.cut_items.ensures.alters in
+    let alters = subst (λ (shelf : Shelf g.row.T.Denot g.row.S.Denot). Alters n (take c.args.i (items_at shelf n)) shelf mid) same c.cut_items.ensures.alters in
     let tail_is : tail ≡ drop c.args.i (items_at self.blocks.slots n) =
-    c.cut_items.ensures.tail ∙ ap (λ (t : List g.row.T.Denot). t ++ drop c.args.i (items_at c.reserve.new.self.slots n)) c.in_ok-tail.ensures.items ∙ ap (λ (shelf : Shelf g.row.T.Denot). drop c.args.i (items_at shelf n)) same in
+    c.cut_items.ensures.tail ∙ ap (λ (t : List g.row.T.Denot). t ++ drop c.args.i (items_at c.reserve.new.self.slots n)) c.in_ok-tail.ensures.items ∙ ap (λ (shelf : Shelf g.row.T.Denot g.row.S.Denot). drop c.args.i (items_at shelf n)) same in
     let key : c.insert_reserved.result ≡ k = c.insert_reserved.ensures.key ∙ c.cut_items.ensures.vacant ∙ sym c.vacant_key.ensures.value ∙ sym is in
     let free : get c.cut_items.new.blocks k ≡ None = subst (λ x. get c.cut_items.new.blocks x ≡ None) key c.insert_reserved.ensures.was_vacant in
-    let set_block = updated c.cut_items.new.blocks c.cut_items.new.blocks c.insert_reserved.new.self k c.insert_reserved.result _ refl key c.insert_reserved.ensures.updates in
-    let turns = named_first mid new k _ free refl set_block in
+    let set_block = updated_by c.cut_items.new.blocks c.cut_items.new.blocks c.insert_reserved.new.self k c.insert_reserved.result _ _ c.new.ensures refl key c.insert_reserved.ensures.updates in
+    let turns = named_first mid new k _ free refl refl set_block in
     let line_set = not_err c.insert_number.result (sym c.is_err.ensures.value ∙ c.if-is_err.false) c.insert_number.ensures.set in
     let has = has_block self.blocks.slots self.lines.slots self.waiting.items c.args.v c.args.j self.blocked c.requires.block in
     let place : n ≡ get_or has.0 c.args.j 0 = c.number_of-number.ensures.number ∙ has.3 in

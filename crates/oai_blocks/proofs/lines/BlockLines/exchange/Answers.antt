@@ -38,6 +38,7 @@ returns-clause-line g c =
           c.args.others.now.items c.exchange_items.new.others.items _ c.number_of-number.ensures.number c.number_of-number.ensures.items c.exchange_items.ensures.alters
           c.exchange_items.ensures.gone c.requires.block c.requires.own;
       steps = refl;
+      notes = c.exchange_items.ensures.alters.notes;
     }
 
 pub returns-clause-list : goal.returns-clause-list

@@ -4,6 +4,7 @@ use Rattle.std.proofs.lemmas.List.{take_all}
 use Rattle.oai_blocks.specs.Calls.{listed}
 use Rattle.oai_blocks.specs.Store.{block_of, line_at}
 use Rattle.oai_blocks.proofs.JoinLemmas.{joined_sets, keeps_then, listed_joined, same_line}
+use Rattle.oai_blocks.proofs.ShelfLemmas.{kept_on_err}
 use Rattle.oai_blocks.proofs.lines.BlockLines.join.Goals as goal
 
 pub returns-clause-line : goal.returns-clause-line
@@ -23,3 +24,7 @@ returns-clause-line g c =
 pub returns-clause-list : goal.returns-clause-list
 returns-clause-list g c =
     ap (λ (o : Option (List (List g.row.T.Denot))). listed (unwrap_or o [])) (returns-clause-line g c).lines.this ∙ listed_joined (line_at c.args.self.now c.args.v) c.args.j c.requires.blocks
+
+pub returns-in_err-reserve_more-clause-err : goal.returns-in_err-reserve_more-clause-err
+returns-in_err-reserve_more-clause-err g c =
+    kept_on_err c.from_residual-in_err-reserve_more.result (keeps_then c.args.self.now c.reserve.new.self c.reserve_more.new.self c.reserve.ensures.keeps c.reserve_more.ensures.keeps)

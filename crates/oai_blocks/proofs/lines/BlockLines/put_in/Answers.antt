@@ -4,7 +4,7 @@ use Rattle.std.proofs.lemmas.List.Edits.{get_or-insert_at}
 use Rattle.oai_blocks.specs.Blocks.{items_in, names_at, names_in, numbers_at}
 use Rattle.slab.specs.Slab.{get}
 use Rattle.oai_blocks.proofs.LineLemmas.{in_use, line_is, line_length, number_in, number_now, put, unset}
-use Rattle.oai_blocks.proofs.ShelfLemmas.{named_first, not_err, updated, vacant_in, was_err}
+use Rattle.oai_blocks.proofs.ShelfLemmas.{named_first, not_err, updated_by, vacant_in, was_err}
 use Rattle.oai_blocks.proofs.lines.BlockLines.put_in.Goals as goal
 
 pub invariant_of-self-then-is_err-2-clause-blocked : goal.invariant_of-self-then-is_err-2-clause-blocked
@@ -22,8 +22,8 @@ invariant_of-self-2-clause-blocked g c =
     let same : c.reserve.new.self.slots ≡ self.blocks.slots = ap (λ s. s.slots) c.reserve.ensures.rest_kept in
     let key : c.insert_reserved.result ≡ k = c.insert_reserved.ensures.key ∙ sym c.vacant_key.ensures.value ∙ sym is in
     let vacant = vacant_in self.blocks c.reserve.new.self k same (subst (λ x. get c.reserve.new.self x ≡ None) (sym is) c.vacant_key.ensures.vacant) in
-    let set = updated self.blocks c.reserve.new.self c.insert_reserved.new.self k c.insert_reserved.result _ same key c.insert_reserved.ensures.updates in
-    let turns = named_first self.blocks.slots c.insert_reserved.new.self.slots k _ vacant refl set in
+    let set = updated_by self.blocks c.reserve.new.self c.insert_reserved.new.self k c.insert_reserved.result _ _ c.new.ensures same key c.insert_reserved.ensures.updates in
+    let turns = named_first self.blocks.slots c.insert_reserved.new.self.slots k _ vacant refl refl set in
     let numbers = in_use self.blocks.slots (numbers_at self.lines.slots c.args.v) c.requires.stands in
     let line = not_err c.insert_number.result (sym c.is_err-2.ensures.value ∙ c.if-is_err-2.false) c.insert_number.ensures.set in
     let line_set = rw numbers.1 at line in
@@ -38,8 +38,8 @@ returns-clause-line g c =
     let same : c.reserve.new.self.slots ≡ self.blocks.slots = ap (λ s. s.slots) c.reserve.ensures.rest_kept in
     let key : c.insert_reserved.result ≡ k = c.insert_reserved.ensures.key ∙ sym c.vacant_key.ensures.value ∙ sym is in
     let vacant = vacant_in self.blocks c.reserve.new.self k same (subst (λ x. get c.reserve.new.self x ≡ None) (sym is) c.vacant_key.ensures.vacant) in
-    let set = updated self.blocks c.reserve.new.self c.insert_reserved.new.self k c.insert_reserved.result _ same key c.insert_reserved.ensures.updates in
-    let turns = named_first self.blocks.slots c.insert_reserved.new.self.slots k _ vacant refl set in
+    let set = updated_by self.blocks c.reserve.new.self c.insert_reserved.new.self k c.insert_reserved.result _ _ c.new.ensures same key c.insert_reserved.ensures.updates in
+    let turns = named_first self.blocks.slots c.insert_reserved.new.self.slots k _ vacant refl refl set in
     let numbers = in_use self.blocks.slots (numbers_at self.lines.slots c.args.v) c.requires.stands in
     let line = not_err c.insert_number.result (sym c.is_err-2.ensures.value ∙ c.if-is_err-2.false) c.insert_number.ensures.set in
     let line_set = rw numbers.1 at line in
@@ -50,6 +50,7 @@ returns-clause-line g c =
       lines = rw line_was held.lines_set;
       weight = turns.weight;
       steps = refl;
+      notes = turns.notes;
     }
 
 pub returns-clause-own : goal.returns-clause-own
@@ -60,8 +61,8 @@ returns-clause-own g c =
     let same : c.reserve.new.self.slots ≡ self.blocks.slots = ap (λ s. s.slots) c.reserve.ensures.rest_kept in
     let key : c.insert_reserved.result ≡ k = c.insert_reserved.ensures.key ∙ sym c.vacant_key.ensures.value ∙ sym is in
     let vacant = vacant_in self.blocks c.reserve.new.self k same (subst (λ x. get c.reserve.new.self x ≡ None) (sym is) c.vacant_key.ensures.vacant) in
-    let set = updated self.blocks c.reserve.new.self c.insert_reserved.new.self k c.insert_reserved.result _ same key c.insert_reserved.ensures.updates in
-    let turns = named_first self.blocks.slots c.insert_reserved.new.self.slots k _ vacant refl set in
+    let set = updated_by self.blocks c.reserve.new.self c.insert_reserved.new.self k c.insert_reserved.result _ _ c.new.ensures same key c.insert_reserved.ensures.updates in
+    let turns = named_first self.blocks.slots c.insert_reserved.new.self.slots k _ vacant refl refl set in
     let numbers = in_use self.blocks.slots (numbers_at self.lines.slots c.args.v) c.requires.stands in
     let line = not_err c.insert_number.result (sym c.is_err-2.ensures.value ∙ c.if-is_err-2.false) c.insert_number.ensures.set in
     let line_set = rw numbers.1 at line in

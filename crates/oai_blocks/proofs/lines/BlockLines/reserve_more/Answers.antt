@@ -17,4 +17,5 @@ returns-clause-keeps g c =
       room = λ v j. altered_room n (items_at old n) old new alters (number_in self.lines.slots v j);
       weight = λ weigh. omega (arith, (altered_kept n old new alters c.number_of-number.ensures.stands).weight weigh);
       steps = refl;
+      notes = alters.notes;
     }

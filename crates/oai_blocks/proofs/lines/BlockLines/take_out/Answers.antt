@@ -35,6 +35,7 @@ returns-clause-line g c =
       lines = rw line_was held.lines_set;
       weight = turns.weight;
       steps = refl;
+      notes = turns.notes;
     }
 
 pub returns-clause-out : goal.returns-clause-out
