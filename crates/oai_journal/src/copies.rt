@@ -9,9 +9,10 @@ use crate::records::LogRecord;
 use crate::tails::Tail;
 
 /// Copies durable records behind the tail, in their order, as records that wait in the other journal: until their
-/// frames have that many bytes, or none is left. Returns whether the bytes were reached, so that more may be left. The
-/// errors: Failed if a disk fails, or has failed, or does not return a record as it was written; NoRoom if out of
-/// memory. After an error the tail may be behind a record that was not copied.
+/// frames have that many bytes, or none is left. Returns whether the bytes were reached, so that more may be left; then
+/// at least one was copied, if `bytes` is above 0. The errors: Failed if a disk fails, or has failed, or does not return
+/// a record as it was written; NoRoom if out of memory. After an error the tail may be behind a record that was not
+/// copied.
 pub fn copy_some<J: Journal, K: Journal>(
     journal: &mut J,
     tail: &mut Tail,
@@ -23,7 +24,7 @@ pub fn copy_some<J: Journal, K: Journal>(
         → take durable entries ≡ read ++ behind → J.stands journal.old tail.old read
         → (others : List Entry) (lasting : ℕ) → K.holds copy.old others lasting
         → AreCopied (J.stands journal.new tail.new) (λ records. K.holds copy.new records lasting) read behind others
-        × (more ≡ false → J.stands journal.new tail.new (read ++ behind))) }
+        bytes more) }
     ensures grows { (others : List Entry) (lasting : ℕ) → K.holds copy.old others lasting
         → (some : List Entry) × K.holds copy.new (others ++ some) lasting }
     ensures same { (entries : List Entry) (durable : ℕ) → J.holds journal.old entries durable

@@ -1,21 +1,24 @@
 -- Of the records behind the tail one more was copied, or none is left.
-use Rattle.std.proofs.Common.{◌≡◌, ◌∙◌, ◌∷◌, ◌++◌, [], List, take, subst, sym, ap, append_assoc}
+use Rattle.std.proofs.Common.{rules, ◌≡◌, ◌∙◌, ◌∷◌, ◌++◌, ◌+◌, ◌≤◌, [], ℕ, List, true, false, length, take, subst, sym, ap, arith, append_assoc}
 use Rattle.std.proofs.lemmas.Bool.{false≢true}
-use Rattle.std.proofs.lemmas.List.{append-nil}
+use Rattle.std.proofs.lemmas.List.{length-append}
 use Rattle.std.specs.Option.{is_some}
 use Rattle.oai_journal.specs.Copies.{AreCopied, IsCopied}
 use Rattle.oai_journal.specs.Records.{Entry}
 use Rattle.oai_journal.proofs.copies.copy_some.Goals as goal
 
-more_copied : (Stood Held Stands Holds : List Entry → Type 0) (read behind others : List Entry) (a : AreCopied Stood Held read behind others)
-    → IsCopied Stands Holds (read ++ a.some) a.rest (others ++ a.some) → AreCopied Stands Holds read behind others
-more_copied Stood Held Stands Holds read behind others a c =
+more_copied : (Stood Held Stands Holds : List Entry → Type 0) (read behind others : List Entry) (before after : ℕ) (a : AreCopied Stood Held read behind others before true)
+    → IsCopied Stands Holds (read ++ a.some) a.rest (others ++ a.some) → AreCopied Stands Holds read behind others after true
+more_copied Stood Held Stands Holds read behind others before after a c =
+    let cut : length behind ≡ length a.some + length a.rest = ap length a.are ∙ length-append a.some a.rest in
     record {
       some = a.some ++ c.entry ∷ [];
       rest = c.rest;
       are = a.are ∙ ap (λ (l : List Entry). a.some ++ l) c.is ∙ sym (append_assoc a.some (c.entry ∷ []) c.rest);
       stand = subst Stands (append_assoc read a.some (c.entry ∷ [])) c.stands;
       hold = subst Holds (append_assoc others a.some (c.entry ∷ [])) c.holds;
+      all = λ none. absurd (false≢true (sym none));
+      fewer = λ more wanted. omega (arith, cut, ap length c.is);
     }
 
 -- what is behind those that were copied
@@ -23,12 +26,32 @@ still_there : (durable read behind some rest : List Entry) → durable ≡ read 
 still_there durable read behind some rest parts are = parts ∙ ap (λ (l : List Entry). read ++ l) are ∙ sym (append_assoc read some rest)
 
 -- where none is left, all were copied
-all_copied : (Stood Held Stands Holds : List Entry → Type 0) (read behind others : List Entry) (a : AreCopied Stood Held read behind others) → a.rest ≡ [] → Stands (read ++ a.some) → Holds (others ++ a.some)
-    → AreCopied Stands Holds read behind others × Stands (read ++ behind)
-all_copied Stood Held Stands Holds read behind others a none stands holds = (
-  record { some = a.some; rest = a.rest; are = a.are; stand = stands; hold = holds },
-  subst (λ (l : List Entry). Stands (read ++ l)) (sym (a.are ∙ ap (λ (l : List Entry). a.some ++ l) none ∙ append-nil a.some)) stands,
-)
+all_copied : (Stood Held Stands Holds : List Entry → Type 0) (read behind others : List Entry) (before bytes : ℕ) (a : AreCopied Stood Held read behind others before true)
+    → a.rest ≡ [] → Stands (read ++ a.some) → Holds (others ++ a.some) → AreCopied Stands Holds read behind others bytes false
+all_copied Stood Held Stands Holds read behind others before bytes a none stands holds =
+    record {
+      some = a.some;
+      rest = a.rest;
+      are = a.are;
+      stand = stands;
+      hold = holds;
+      all = λ _. none;
+      fewer = λ more wanted. absurd (false≢true more);
+    }
+
+-- where the bytes were reached, at least one was copied
+enough_copied : (Stands Holds : List Entry → Type 0) (read behind others : List Entry) (copied bytes : ℕ) → bytes ≤ copied → AreCopied Stands Holds read behind others copied true
+    → AreCopied Stands Holds read behind others bytes true
+enough_copied Stands Holds read behind others copied bytes enough a =
+    record {
+      some = a.some;
+      rest = a.rest;
+      are = a.are;
+      stand = a.stand;
+      hold = a.hold;
+      all = a.all;
+      fewer = λ more wanted. a.fewer more (omega (arith, enough, wanted));
+    }
 
 pub loop-copied-preserved : goal.loop-copied-preserved
 loop-copied-preserved g c =
@@ -38,7 +61,7 @@ loop-copied-preserved g c =
       λ clean. before.1 (s.clean clean),
       λ clean entries durable read behind held parts stands others lasting holds.
           let a = before.2 (s.clean clean) entries durable read behind held parts stands others lasting holds in
-          more_copied _ _ _ _ read behind others a
+          more_copied _ _ _ _ read behind others _ _ a
           (s.copied (ap is_some c.in-Some.is) clean entries durable (read ++ a.some) a.rest (before.0 entries durable held) (still_there (take durable entries) read behind a.some a.rest parts a.are) a.stand
           (others ++ a.some) lasting a.hold),
       λ others lasting holds.
@@ -53,10 +76,9 @@ returns-in-None-clause-copied g c clean entries durable read behind held parts s
     let s = c.in_ok-size.ensures in
     let a = before.2 (s.clean clean) entries durable read behind held parts stands others lasting holds in
     let end = s.end c.in-None.is entries durable (read ++ a.some) a.rest (before.0 entries durable held) (still_there (take durable entries) read behind a.some a.rest parts a.are) a.stand in
-    let all = all_copied _ _ (g.J.Journal.stands c.copy_next.new.journal c.copy_next.new.tail) (λ (records : List Entry). g.K.Journal.holds c.copy_next.new.copy records lasting) read behind others a
-    end.0 end.1 (s.none c.in-None.is (others ++ a.some) lasting a.hold) in
-    (all.0, λ none. all.1)
+    all_copied _ _ (g.J.Journal.stands c.copy_next.new.journal c.copy_next.new.tail) (λ (records : List Entry). g.K.Journal.holds c.copy_next.new.copy records lasting) read behind others _ c.args.bytes a
+    end.0 end.1 (s.none c.in-None.is (others ++ a.some) lasting a.hold)
 
 pub returns-clause-copied : goal.returns-clause-copied
 returns-clause-copied g c clean entries durable read behind held parts stands others lasting holds =
-    (c.loop-copied.invariant.2 clean entries durable read behind held parts stands others lasting holds, λ none. absurd (false≢true (sym none)))
+    enough_copied _ _ read behind others _ c.args.bytes (search rules) (c.loop-copied.invariant.2 clean entries durable read behind held parts stands others lasting holds)
