@@ -2,11 +2,11 @@
 use Rattle.std.proofs.Common.{◌≡◌, ◌∙◌, ◌<◌, ℕ, ℤ, Bool, true, false, ◌&&◌, List, [], ◌∷◌, ◌++◌, length, Result, Ok, Err, OnOk, OnErr, refl, sym, ap, subst, arith}
 use Rattle.std.specs.Prelude.{filter, int_le, nat_lt}
 use Rattle.std.specs.List.{list_all}
-use Rattle.std.proofs.lemmas.Bool.{and_parts, cond-true}
+use Rattle.std.proofs.lemmas.Bool.{and_from, and_parts, cond-true}
 use Rattle.std.proofs.lemmas.Bool.Decides.{nat_tests}
 use Rattle.oai_time.specs.declared.text.TheConstants.{FIRST_SECOND, LAST_SECOND}
 use Rattle.oai_item.specs.Item.{IsStamp, ItemState}
-use Rattle.oai_item.specs.Items.{items_after, without}
+use Rattle.oai_item.specs.Items.{are_apart, items_after, without}
 use Rattle.oai_item.specs.Selection.{passes, selected}
 use Rattle.oai_item.specs.declared.faults.Fault.{Fault}
 use Rattle.oai_item.proofs.OrderLemmas.{all-placed, apart-changed, in_order-changed}
@@ -14,7 +14,7 @@ use Rattle.oai_names.proofs.Lists.{all-filter, all-weaker}
 use Rattle.oai_catalogue.specs.Store.{VersionLists}
 use Rattle.oai_settings.specs.Config.{RepositoryConfig}
 use Rattle.oai_holdings.specs.Changes.{with_new}
-use Rattle.oai_holdings.specs.Index.{IndexAgrees, IsIndexed, ItemIndex, has_writable_stamp, holdings_of, stored_items}
+use Rattle.oai_holdings.specs.Index.{IndexAgrees, IsIndexed, ItemIndex, are_whole, has_writable_stamp, holdings_of, stored_items}
 use Rattle.oai_holdings.specs.Kept.{AreKept, is_well_kept}
 use Rattle.oai_holdings.specs.Purges.{is_in_core, until}
 use Rattle.oai_holdings.specs.Saved.{may_have_item}
@@ -55,6 +55,13 @@ core_of false b c d e h = cc
 
 pub all_in_core : (config : RepositoryConfig) (sets : List NamedSet) (items : List ItemState) → list_all (is_well_kept config sets) items ≡ true → list_all is_in_core items ≡ true
 all_in_core config sets items h = all-weaker (is_well_kept config sets) is_in_core (λ item well. core_of (is_in_core item) _ _ _ _ well) items h
+
+pub indexed_whole : (config : RepositoryConfig) (index : ItemIndex) (sets : List NamedSet) (lists : VersionLists) → IsIndexed config index sets lists → are_whole (stored_items index lists) ≡ true
+indexed_whole config index sets lists held =
+    let items : List ItemState = stored_items index lists in
+    and_from (are_apart items && list_all is_in_core items) (list_all has_writable_stamp items)
+    (and_from (are_apart items) (list_all is_in_core items) held.kept.apart (all_in_core config sets items held.kept.well))
+    held.dated
 
 -- ---- an item
 

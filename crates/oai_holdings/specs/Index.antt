@@ -11,6 +11,7 @@ use Rattle.oai_settings.specs.Config.{RepositoryConfig}
 use Rattle.oai_holdings.specs.Kept.{AreKept}
 use Rattle.oai_holdings.specs.Entries.{IndexEntries, stamp_in}
 use Rattle.oai_holdings.specs.Holdings.{Holdings, NamedSet}
+use Rattle.oai_holdings.specs.Purges.{is_in_core}
 
 -- the index of the items of a repository: the number of their version in the store, and the datestamp of each
 pub record ItemIndex : Type 0 where
@@ -35,6 +36,11 @@ pub record IndexAgrees (entries : IndexEntries) (items : List ItemState) : Type 
 -- the datestamp of the item lies in the years 0000 to 9999
 abbrev pub has_writable_stamp : ItemState → Bool
 has_writable_stamp item = int_le FIRST_SECOND item.stamp && int_le item.stamp LAST_SECOND
+
+-- the items are as those that a repository holds: distinct identifiers, a record in unqualified Dublin Core each
+-- (OAI-PMH 2.0, section 2.5), and datestamps that can be written. A version with such items can be read as a whole
+abbrev pub are_whole : List ItemState → Bool
+are_whole items = are_apart items && list_all is_in_core items && list_all has_writable_stamp items
 
 -- the items are those of the entries, satisfy the repository's invariants, and each has a datestamp that can be written
 pub record IsIndexed (config : RepositoryConfig) (index : ItemIndex) (sets : List NamedSet) (lists : VersionLists) : Type 0 where

@@ -18,12 +18,13 @@ use Rattle.oai_item.specs.declared.formats.Format.{Format}
 use Rattle.oai_args.specs.Asks.{AskOrError, asks}
 use Rattle.oai_args.specs.declared.requests.Ask.TheVariants as ask
 use Rattle.oai_answers.specs.Answers.{Attributes, Continuation, Page, VerbAnswer, completes, remains}
+use Rattle.oai_lists.specs.OpenLists.{highest_given}
 use Rattle.oai_repo.specs.Answers.{arguments_of_request}
 use Rattle.oai_settings.specs.Config.{RepositoryConfig}
 use Rattle.oai_laws.specs.Effects.{IsSound, is_given}
 use Rattle.oai_args.specs.Verbs.{is_of_records}
 use Rattle.oai_laws.specs.Following.{AreLasting, ArePagesAt, AreNext, IsLasting, IsNextRequest, IsPageAt, TokenOffer, answer_in, are_complete, extent_in, is_later, joined, next_request, offer_in, page_in}
-use Rattle.oai_repo.specs.Listing.{Response, request_response, continued_response, carried_on, extent_at, highest_given, is_of_number, is_continued, is_handed_out, is_same_verb, is_valid_cursor, items_from, next_cursor, part_from, part_answer, prolonged, with_answer, answer_by_verb, token_response, retry_after, where_continued, with_carried_on}
+use Rattle.oai_repo.specs.Listing.{Response, request_response, continued_response, carried_on, extent_at, is_of_number, is_continued, is_handed_out, is_same_verb, is_valid_cursor, items_from, next_cursor, part_from, part_answer, prolonged, with_answer, answer_by_verb, token_response, retry_after, where_continued, with_carried_on}
 use Rattle.oai_repo.specs.Machine.{Command, act, requesting, outcome_of}
 use Rattle.oai_laws.specs.Runs.{IsPart, Timed, Transition, performed, run}
 use Rattle.oai_repo.specs.State.{FrozenList, OpenLists, RepoState, moved}

@@ -21,8 +21,9 @@ use Rattle.oai_args.specs.declared.requests.Ask.TheVariants as ask
 use Rattle.oai_answers.specs.Answers.{Attributes, Page, fails, identifies}
 use Rattle.oai_answers.specs.declared.errors.ErrorCode.TheVariants.{BadArgument, BadResumptionToken, BadVerb, CannotDisseminateFormat, NoSetHierarchy}
 use Rattle.oai_settings.specs.Config.{IsConfig, RepositoryConfig}
+use Rattle.oai_lists.specs.OpenLists.{highest_given}
 use Rattle.oai_repo.specs.Answers.{arguments_of_request, description, filter_of, formats_answer, record_answer, sets_answer}
-use Rattle.oai_repo.specs.Listing.{Response, answer_by_verb, carried_on, carried_on_at, continued_response, complete_answer, format_response, has_no_sets, highest_given, is_continued, is_handed_out, is_of_number, is_same_verb, is_valid_cursor, new_list, next_cursor, opens_list, part_answer, part_from, prolonged, request_response, retry_after, selection_response, token_response, wait_at, where_continued, with_answer}
+use Rattle.oai_repo.specs.Listing.{Response, answer_by_verb, carried_on, carried_on_at, continued_response, complete_answer, format_response, has_no_sets, is_continued, is_handed_out, is_of_number, is_same_verb, is_valid_cursor, new_list, next_cursor, opens_list, part_answer, part_from, prolonged, request_response, retry_after, selection_response, token_response, wait_at, where_continued, with_answer}
 use Rattle.oai_repo.specs.Machine.{Command, Outcome, act, changing, outcome_of, rejecting, requesting}
 use Rattle.oai_repo.specs.State.{FrozenList, OpenLists, RepoState, empty_state, is_open_at, moved}
 use Rattle.oai_laws.specs.Effects.{IsSound, is_frozen_of_format}

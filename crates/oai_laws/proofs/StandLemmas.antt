@@ -11,7 +11,8 @@ use Rattle.std.proofs.lemmas.List.Folds.{find-append}
 use Rattle.oai_time.specs.Clock.{tick}
 use Rattle.oai_settings.specs.Config.{RepositoryConfig}
 use Rattle.oai_laws.specs.Effects.{Effect, IsSound, effected, is_given, item_put, item_taken, items_purged, list_carried_on, list_opened, set_added, unchanged}
-use Rattle.oai_repo.specs.Listing.{carried_on, carried_on_at, highest_given, is_of_number, with_carried_on, with_new_list}
+use Rattle.oai_lists.specs.OpenLists.{highest_given}
+use Rattle.oai_repo.specs.Listing.{carried_on, carried_on_at, is_of_number, with_carried_on, with_new_list}
 use Rattle.oai_repo.specs.State.{FrozenList, OpenLists, RepoState, is_open_at, moved}
 use Rattle.oai_laws.proofs.EffectLemmas.{same_number}
 

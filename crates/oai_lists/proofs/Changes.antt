@@ -1,14 +1,17 @@
 -- One list is changed, and the others stay as they are.
-use Rattle.std.proofs.Common.{◌≡◌, ◌∙◌, inl, inr, ℕ, ℤ, ◌+◌, true, not, ◌&&◌, eqb, List, [], ◌∷◌, ◌++◌, Option, Some, take, drop, get_or, set, refl, sym, ap, subst, arith, IsSome}
-use Rattle.std.specs.Prelude.{find, int_le, nat_lt}
+use Rattle.std.proofs.Common.{◌≡◌, ◌∙◌, ◌<◌, ℕ, ℤ, ◌+◌, zero, suc, true, cond, not, ◌&&◌, eqb, List, [], ◌∷◌, ◌++◌, Some, length, take, drop, get_or, set, refl, sym, ap, arith, IsSome}
+use Rattle.std.specs.Prelude.{int_le, nat_lt, slice_get}
 use Rattle.std.specs.List.{list_all}
-use Rattle.std.proofs.lemmas.Bool.{and_from, and_parts, cases_Bool, cond-true, cond-false, cond_both, not-true}
-use Rattle.std.proofs.lemmas.Bool.Decides.{nat_tests}
+use Rattle.std.specs.Ordering.{nat_cmp}
+use Rattle.std.specs.declared.cmp.Ordering.TheVariants.{Less, Equal, Greater}
+use Rattle.std.proofs.lemmas.Bool.{and_from, and_parts, cond-true, cond-false, cond_both, eq-eqb, false≢true, le-ltb, not-true}
 use Rattle.std.proofs.lemmas.List.{map-append}
-use Rattle.oai_names.proofs.Lists.{all-weaker, cut, set_cut}
+use Rattle.std.proofs.lemmas.Option.{get_or_from_slice_get, slice_get_read}
+use Rattle.oai_names.proofs.Lists.{cut, set_cut}
+use Rattle.oai_names.proofs.Numbered.{found_at}
 use Rattle.oai_names.specs.Numbered.{is_lower}
 use Rattle.oai_lists.specs.HeldTable.{IsHeldTable, IsListPlace, no_list_numbered}
-use Rattle.oai_lists.specs.OpenLists.{are_numbered_lists, changed_one, has_list_number, list_number, list_numbered, with_change}
+use Rattle.oai_lists.specs.OpenLists.{are_numbered_lists, changed_one, has_list_number, list_number, with_change}
 use Rattle.oai_lists.specs.declared.open_lists.OpenList.{OpenList}
 
 -- the change leaves the number
@@ -85,54 +88,22 @@ change-placed number change lists at d placed =
     ∙ ap (λ ys. take at lists ++ (change x ∷ ys)) (unchanged_lists number change rest placed.3)
     ∙ sym (set_cut lists at (change x) placed.0)
 
--- the list that was opened last
-pub change-last : (next : ℕ) (change : OpenList → OpenList) (lists : List OpenList) (x : OpenList) → list_all (λ list. nat_lt list.number next) lists ≡ true → x.number ≡ next
-    → with_change next change (lists ++ x ∷ []) ≡ lists ++ change x ∷ []
-change-last next change lists x given is =
-    map-append (changed_one next change) lists (x ∷ [])
-    ∙ ap (λ ys. ys ++ changed_one next change x ∷ [])
-    (unchanged_lists next change lists (all-weaker (λ (list : OpenList). nat_lt list.number next) (λ list. not (has_list_number next list)) (λ list below. other list.number below) lists given))
-    ∙ ap (λ y. lists ++ y ∷ []) (cond-true (has_list_number next x) (change x) x (own x.number is))
+-- a list that is there
+pub within_some : (lists : List OpenList) (at : ℕ) → IsSome (slice_get lists at) → at < length lists
+within_some [] at there = absurd (false≢true there)
+within_some (x ∷ lists) zero there = omega arith
+within_some (x ∷ lists) (suc at) there = let rest = within_some lists at there in omega (arith, rest)
+
+pub at_place : (lists : List OpenList) (at : ℕ) (x list : OpenList) → at < length lists → x ≡ get_or lists at x → slice_get lists at ≡ Some list → x ≡ list
+at_place lists at x list within is there = is ∙ get_or_from_slice_get lists at list x there
+
+-- the list at a position stands at the place of its number
+pub change-at : (change : OpenList → OpenList) (lists : List OpenList) (at : ℕ) (x : OpenList) → are_numbered_lists lists ≡ true → at < length lists → x ≡ get_or lists at x
+    → with_change x.number change lists ≡ set lists at (change x)
+change-at change lists at x rising within is =
+    change-placed x.number change lists at x
+    (found_at list_number x.number lists at rising within (λ d. ap (λ (y : OpenList). nat_cmp y.number x.number) (get_or_from_slice_get lists at x d (slice_get_read lists (length lists) at x refl within is)) ∙ itself x.number))
+    ∙ ap (λ (y : OpenList). set lists at (change y)) (sym is)
   where
-    other : (n : ℕ) → nat_lt n next ≡ true → not (eqb n next) ≡ true
-    other n below = grind (arith, nat_tests)
-
-    own : (n : ℕ) → n ≡ next → eqb n next ≡ true
-    own n same = grind (arith, nat_tests)
-
--- ---- one change after another
-
-pub changed_twice : (number : ℕ) (first second : OpenList → OpenList) → KeepsNumber first → (lists : List OpenList)
-    → with_change number second (with_change number first lists) ≡ with_change number (λ x. second (first x)) lists
-changed_twice number first second keeps [] = refl
-changed_twice number first second keeps (x ∷ lists) =
-    ap (λ (y : OpenList). y ∷ with_change number second (with_change number first lists)) one ∙ ap (λ ys. changed_one number (λ y. second (first y)) x ∷ ys) (changed_twice number first second keeps lists)
-  where
-    one : changed_one number second (changed_one number first x) ≡ changed_one number (λ y. second (first y)) x
-    one = elim (cases_Bool (has_list_number number x)) [
-      | inl here ↦
-          ap (changed_one number second) (cond-true (has_list_number number x) (first x) x here)
-          ∙ cond-true (has_list_number number (first x)) (second (first x)) (first x) (ap (λ n. eqb n number) (keeps x) ∙ here)
-          ∙ sym (cond-true (has_list_number number x) (second (first x)) x here)
-      | inr other ↦
-          ap (changed_one number second) (cond-false (has_list_number number x) (first x) x other)
-          ∙ cond-false (has_list_number number x) (second x) x other
-          ∙ sym (cond-false (has_list_number number x) (second (first x)) x other)
-    ]
-
--- the list of that number is still there
-pub still_numbered : (number : ℕ) (change : OpenList → OpenList) → KeepsNumber change → (lists : List OpenList) → IsSome (list_numbered number lists) → IsSome (list_numbered number (with_change number change lists))
-unfolding list_numbered
-still_numbered number change keeps [] h = h
-still_numbered number change keeps (x ∷ lists) h =
-    elim (cases_Bool (has_list_number number x)) [
-      | inl here ↦
-          let y : OpenList = changed_one number change x in
-          subst (λ (o : Option OpenList). IsSome o)
-          (sym (cond-true (has_list_number number y) (Some y) (find (has_list_number number) (with_change number change lists)) (ap (λ n. eqb n number) (changed_number number change keeps x) ∙ here))) refl
-      | inr other ↦
-          let y : OpenList = changed_one number change x in
-          subst (λ (o : Option OpenList). IsSome o)
-          (sym (cond-false (has_list_number number y) (Some y) (find (has_list_number number) (with_change number change lists)) (ap (λ n. eqb n number) (changed_number number change keeps x) ∙ other)))
-          (still_numbered number change keeps lists (subst (λ (o : Option OpenList). IsSome o) (cond-false (has_list_number number x) (Some x) (find (has_list_number number) lists) other) h))
-    ]
+    itself : (n : ℕ) → nat_cmp n n ≡ Equal
+    itself n = cond-false (nat_lt n n) Less (cond (eqb n n) Equal Greater) (le-ltb n n (omega arith)) ∙ cond-true (eqb n n) Equal Greater (eq-eqb n n refl)

@@ -1,9 +1,9 @@
 -- Which lists have ended, and what is kept of the others.
-use Rattle.std.proofs.Common.{◌≡◌, ◌-◌, ◌&&◌, ◌≢◌, ◌∙◌, ℕ, ℤ, ◌+◌, ◌<◌, ◌≤◌, ◌<ℤ◌, ◌≤ℤ◌, inl, inr, ◌⊎◌, Bool, true, false, not, cond, eqb, List, [], ◌∷◌, ◌++◌, Option, None, Some, Ok, Err, length, take, drop, get_or, refl, sym, ap, subst, arith, add-one, unwrap_or, IsSome, is_some, append-nil}
+use Rattle.std.proofs.Common.{◌≡◌, ◌-◌, ◌&&◌, ◌≢◌, ◌∙◌, ℕ, ℤ, ◌+◌, ◌<◌, ◌≤◌, ◌<ℤ◌, ◌≤ℤ◌, inl, inr, ◌⊎◌, Bool, true, false, not, cond, eqb, List, [], ◌∷◌, ◌++◌, Option, None, Some, Ok, Err, length, take, drop, get_or, refl, sym, ap, subst, arith, add-one, unwrap_or, append-nil}
 use Rattle.std.specs.Prelude.{find, int_le, int_lt, nat_lt, nat_le, position, slice_get}
 use Rattle.std.specs.Int.{int_min}
 use Rattle.std.specs.List.{after_first, before_first, list_all, position_or_len, remove}
-use Rattle.std.proofs.lemmas.Bool.{false≢true, and_from, and_parts, cond-true, cond-false, cond_both, cases_Bool, eqb-false, le-leb, lt-leb, lt-ltb, ltb-true, not-true, not_from_false}
+use Rattle.std.proofs.lemmas.Bool.{and_from, and_parts, cond-true, cond-false, cond_both, cases_Bool, eqb-false, le-leb, lt-leb, lt-ltb, ltb-true, not-true, not_from_false}
 use Rattle.std.proofs.lemmas.Int.{ints}
 use Rattle.std.proofs.lemmas.List.{drop_all, get_or-take, get_or_default, length-take-le, take_all, take_more}
 use Rattle.std.proofs.lemmas.List.Elements.{All-nil, All-push, All-weaker, Contains-append_left, Contains-push, filter-append}
@@ -11,7 +11,7 @@ use Rattle.std.proofs.lemmas.List.Folds.{list_all-append}
 use Rattle.std.proofs.lemmas.List.Quantifiers.{position-Some}
 use Rattle.std.proofs.lemmas.List.Sums.{AllPass-from_list_all, list_all-from_AllPass, position_or_len_is}
 use Rattle.oai_lists.specs.HeldTable.{IsHeldTable, earlier}
-use Rattle.oai_lists.specs.OpenLists.{IsEarliest, IsListOpening, Table, may_reopen, number_or_fault, are_numbered_lists, has_ended, is_open, list_numbered, list_number, open_fault, open_ones, with_opened, with_reopened}
+use Rattle.oai_lists.specs.OpenLists.{IsEarliest, IsListOpening, Table, may_reopen, number_or_fault, are_numbered_lists, has_ended, is_open, list_number, open_fault, open_ones, with_opened, with_reopened}
 use Rattle.oai_lists.specs.declared.lists.OpenListFault.{OpenListFault}
 use Rattle.oai_lists.specs.declared.lists.OpenListFault.TheVariants.{Full, NumbersSpent}
 use Rattle.oai_lists.specs.declared.open_lists.OpenList.{OpenList}
@@ -337,11 +337,6 @@ open_test now list h = grind (arith, ints)
 
 pub closed_test : (now : ℤ) (list : OpenList) → list.end ≤ℤ now → is_open now list ≡ false
 closed_test now list h = grind (arith, ints)
-
--- ---- a list that stands
-
-pub stands_not : (number : ℕ) (lists : List OpenList) → list_numbered number lists ≡ None → IsSome (list_numbered number lists) → ⊥
-stands_not number lists none stands = false≢true (sym (ap is_some none) ∙ stands)
 
 -- a list of lists that has a place has a list
 pub some_item : (lists : List OpenList) (at : ℕ) → at < length lists → (P : Type 0) → (OpenList → P) → P

@@ -4,9 +4,8 @@ use Rattle.std.specs.Prelude.{find}
 use Rattle.std.specs.List.{list_all}
 use Rattle.std.proofs.lemmas.Bool.{not-true, not_from_false}
 use Rattle.oai_names.proofs.Lists.{all-weaker, cut, find_none, find_past}
-use Rattle.oai_names.proofs.Numbered.{found-none, found-placed}
 use Rattle.oai_lists.specs.HeldTable.{IsListPlace, no_list_numbered}
-use Rattle.oai_lists.specs.OpenLists.{has_list_number, is_open, list_numbered, list_number, open_numbered}
+use Rattle.oai_lists.specs.OpenLists.{has_list_number, is_open, open_numbered}
 use Rattle.oai_lists.specs.declared.open_lists.OpenList.{OpenList}
 
 free_of : (number : ℕ) (q : OpenList → Bool) (lists : List OpenList) → no_list_numbered number lists → list_all (λ list. not (has_list_number number list && q list)) lists ≡ true
@@ -31,11 +30,3 @@ open_numbered-placed number now lists at d placed =
     ∙ find_past p (take at lists) (x ∷ drop (at + 1) lists) (free_of number (is_open now) (take at lists) placed.2)
     ∙ ap (λ b. cond b (Some x) (find p (drop (at + 1) lists))) (both (has_list_number number x) (is_open now x) (placed.1 d))
     ∙ ap (cond (is_open now x) (Some x)) (find_none p (drop (at + 1) lists) (free_of number (is_open now) (drop (at + 1) lists) placed.3))
-
-pub list_numbered-placed : (number : ℕ) (lists : List OpenList) (at : ℕ) (d : OpenList) → IsListPlace number lists (Some at) → list_numbered number lists ≡ Some (get_or lists at d)
-unfolding list_numbered
-list_numbered-placed number lists at d placed = found-placed list_number number lists at d placed
-
-pub list_numbered-none : (number : ℕ) (lists : List OpenList) → no_list_numbered number lists → list_numbered number lists ≡ None
-unfolding list_numbered
-list_numbered-none number lists h = found-none list_number number lists h

@@ -36,10 +36,6 @@ without_ended now lists = before_first (has_ended now) lists ++ after_first (has
 abbrev pub has_list_number : ℕ → OpenList → Bool
 has_list_number number list = list.number == number
 
--- the list with that number
-unfoldable pub list_numbered : ℕ → List OpenList → Option OpenList
-list_numbered number lists = find (has_list_number number) lists
-
 -- the list with that number, if it is open
 unfoldable pub open_numbered : ℕ → ℤ → List OpenList → Option OpenList
 open_numbered number now lists = find (λ list. has_list_number number list && is_open now list) lists
@@ -63,7 +59,7 @@ number_or_fault (Some fault) next = Err fault
 abbrev pub with_opened : Table → OpenList → Table
 with_opened table list = record table { next = table.next + 1; lists = table.lists ++ list ∷ [] }
 
--- the list with that number, and without a mark
+-- the list with that number
 abbrev pub opened_list : ℕ → NewList → OpenList
 opened_list number list = record {
   number = number;
@@ -73,7 +69,7 @@ opened_list number list = record {
   size = list.size;
   end = list.end;
   given = list.given;
-  mark = None;
+  mark = list.mark;
 }
 
 -- the result of opening the list at that moment, and the table afterwards: it is the last one, or the first cause that
@@ -111,17 +107,15 @@ changed_one number change list = if has_list_number number list then change list
 abbrev pub with_change : ℕ → (OpenList → OpenList) → List OpenList → List OpenList
 with_change number change lists = map (changed_one number change) lists
 
--- the list with that end
-abbrev pub open_until : ℤ → OpenList → OpenList
-open_until end list = record list { end = end }
+-- the highest cursor that was handed out, after a token with that one is, if there is one
+abbrev pub highest_given : Option ℕ → ℕ → ℕ
+highest_given None given = given
+highest_given (Some cursor) given = max given cursor
 
--- the list, with that cursor given too
-abbrev pub given_too : ℕ → OpenList → OpenList
-given_too cursor list = record list { given = max list.given cursor }
-
--- the list with that mark, or with none
-abbrev pub with_mark : Option Mark → OpenList → OpenList
-with_mark mark list = record list { mark = mark }
+-- the list of which a part was answered: it has another end and another mark, and a token with that cursor was given,
+-- if there is one
+abbrev pub kept_open : ℤ → Option ℕ → Option Mark → OpenList → OpenList
+kept_open end next mark list = record list { end = end; given = highest_given next list.given; mark = mark }
 
 -- ---- the earliest end
 

@@ -1,9 +1,9 @@
-ghost use Rattle.std.specs.Prelude.{◌≡◌, ◌<◌, [], get_or, vec_len, true, length, nat_le, nat_lt, position, slice_get, IsSome, OnSome};
+ghost use Rattle.std.specs.Prelude.{◌≡◌, ◌<◌, [], get_or, vec_len, true, length, nat_le, nat_lt, position, slice_get, IfSome, IsSome};
 ghost use Rattle.std.specs.List.{find, list_all, remove};
 ghost use Rattle.oai_lists.specs.declared.open_lists.OpenList.{OpenList as Opened};
 ghost use Rattle.std.specs.Option.{option_copied, option_map};
 ghost use Rattle.oai_lists.specs.HeldTable.{IsListPlace, earlier};
-ghost use Rattle.oai_lists.specs.OpenLists.{IsEarliest, IsListOpening, IsListTable, IsReopening, may_reopen, number_or_fault, are_numbered_lists, has_ended, list_numbered, given_too, open_fault, open_numbered, open_ones, open_until, with_change, with_mark, opened_list, without_ended};
+ghost use Rattle.oai_lists.specs.OpenLists.{IsEarliest, IsListOpening, IsListTable, IsReopening, may_reopen, number_or_fault, are_numbered_lists, has_ended, highest_given, kept_open, open_fault, open_numbered, open_ones, opened_list, with_change, without_ended};
 
 use crate::open_lists::{Mark, NewList, OpenList};
 use std::alloc::Global;
@@ -89,9 +89,9 @@ impl Lists {
         Ok(self.next)
     }
 
-    /// Opens the list at `now`, in seconds from 1970 on, and returns its number, which is the next one. It has no mark.
-    /// The error is the first cause of `OpenListFault` that applies, and the lists are unchanged. It scans the lists only
-    /// if `next` does, and allocates space for one more list.
+    /// Opens the list at `now`, in seconds from 1970 on, and returns its number, which is the next one. The error is the
+    /// first cause of `OpenListFault` that applies, and the lists are unchanged. It scans the lists only if `next` does,
+    /// and allocates space for one more list.
     pub fn open(&mut self, now: i64, list: NewList) -> Result<u64, OpenListFault>
         ensures opened { IsListOpening self.old now (opened_list self.old.next list) result self.new }
         ensures valid { IsListTable self.old }
@@ -138,17 +138,21 @@ impl Lists {
         Ok(())
     }
 
-    /// The list with that number, if its end is above `now`, in seconds from 1970 on. Allocates nothing. Binary search,
-    /// O(log n).
-    pub fn find(&self, number: u64, now: i64) -> Option<&OpenList>
-        ensures found { option_copied result ≡ open_numbered number now self.now.lists }
-        ensures held { OnSome result (IsSome (list_numbered number self.now.lists)) }
+    /// The list with that number, if its end is above `now`, in seconds from 1970 on, and its position, as `get` counts.
+    /// Allocates nothing. Binary search, O(log n).
+    pub fn find(&self, number: u64, now: i64) -> Option<(usize, &OpenList)>
+        ensures found { option_map (λ r. r.1.now) result ≡ open_numbered number now self.now.lists }
+        ensures placed { IfSome result (λ r. slice_get self.now.lists r.0 ≡ Some r.1.now) }
         ensures valid { IsListTable self.now }
     {
         match place_of(self.lists.as_slice(), number) {
             Some(at) => {
                 let list = &self.lists[at];
-                if now < list.end { Some(list) } else { None }
+                if now < list.end {
+                    Some((at, list))
+                } else {
+                    None
+                }
             }
             None => None,
         }
@@ -162,45 +166,19 @@ impl Lists {
         self.lists.get(at)
     }
 
-    /// Sets the end of the list with that number, in seconds from 1970 on. Allocates nothing. O(log n).
-    pub fn renew(&mut self, number: u64, end: i64)
-        requires { IsSome (list_numbered number self.old.lists) }
-        ensures { self.new
-            ≡ record self.old { lists = with_change number (open_until end) self.old.lists } }
+    /// Notes that a part of the list at that position was answered: it ends at `end`, in seconds from 1970 on, the cursor
+    /// `next` of the part's token was given too, if there is one, and its mark is `mark`, or none. Allocates nothing.
+    /// O(1).
+    pub fn carry_on(&mut self, at: usize, end: i64, next: Option<u64>, mark: Option<Mark>)
+        requires { IsSome (slice_get self.old.lists at) }
+        ensures { (list : Opened) → slice_get self.old.lists at ≡ Some list → self.new
+            ≡ record self.old { lists = with_change list.number (kept_open end next mark) self.old.lists } }
     {
-        let Some(at) = place_of(self.lists.as_slice(), number) else {
-            unreachable!()
-        };
         let list = &mut self.lists[at];
         list.end = end;
-        self.earliest = self.earliest.min(end);
-    }
-
-    /// Notes that a token with that cursor was given for the list with that number: raises its highest cursor given to
-    /// this one. Allocates nothing. O(log n).
-    pub fn give(&mut self, number: u64, cursor: u64)
-        requires { IsSome (list_numbered number self.old.lists) }
-        ensures { self.new
-            ≡ record self.old { lists = with_change number (given_too cursor) self.old.lists } }
-    {
-        let Some(at) = place_of(self.lists.as_slice(), number) else {
-            unreachable!()
-        };
-        let list = &mut self.lists[at];
-        list.given = list.given.max(cursor);
-    }
-
-    /// Sets the mark of the list with that number, or removes it if `mark` is None. Allocates nothing. O(log n).
-    pub fn set_mark(&mut self, number: u64, mark: Option<Mark>)
-        requires { IsSome (list_numbered number self.old.lists) }
-        ensures { self.new
-            ≡ record self.old { lists = with_change number (with_mark mark) self.old.lists } }
-    {
-        let Some(at) = place_of(self.lists.as_slice(), number) else {
-            unreachable!()
-        };
-        let list = &mut self.lists[at];
+        list.given = highest_given(next, list.given);
         list.mark = mark;
+        self.earliest = self.earliest.min(end);
     }
 
     /// Drops the first list whose end is at or below `now`, in seconds from 1970 on, and returns the number of its
@@ -261,7 +239,7 @@ impl Lists {
     }
 }
 
-/// The list with that number, and without a mark.
+/// The list with that number.
 fn opened_list(list: NewList, number: u64) -> OpenList
     ensures { result ≡ opened_list number list }
 {
@@ -273,7 +251,17 @@ fn opened_list(list: NewList, number: u64) -> OpenList
         size: list.size,
         end: list.end,
         given: list.given,
-        mark: None,
+        mark: list.mark,
+    }
+}
+
+/// The highest cursor given, if `given` is the highest so far and `next` is given too, if there is one.
+fn highest_given(next: Option<u64>, given: u64) -> u64
+    ensures { result ≡ highest_given next given }
+{
+    match next {
+        Some(cursor) => given.max(cursor),
+        None => given,
     }
 }
 

@@ -22,7 +22,7 @@ pub struct OpenList {
     pub mark: Option<Mark>,
 }
 
-/// A list that is opened: an `OpenList` that has no number yet, and no mark.
+/// A list that is opened: an `OpenList` that has no number yet.
 #[derive(Debug, Drop)]
 pub struct NewList {
     /// The verb of the request.
@@ -37,6 +37,8 @@ pub struct NewList {
     pub end: i64,
     /// The highest cursor given in a token.
     pub given: u64,
+    /// The position after the first part, or None if it is not known.
+    pub mark: Option<Mark>,
 }
 
 /// A position in a list, after one of its records.

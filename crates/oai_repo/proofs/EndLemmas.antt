@@ -7,10 +7,10 @@ use Rattle.std.proofs.lemmas.Bool.{and_from, and_parts, cases_Bool, cond-true, c
 use Rattle.std.proofs.lemmas.Int.{ints}
 use Rattle.std.proofs.lemmas.List.{length-map, length_push}
 use Rattle.oai_catalogue.specs.Store.{VersionLists}
-use Rattle.oai_lists.specs.OpenLists.{Table, changed_one, has_ended, is_open, open_ones, with_change, without_ended}
+use Rattle.oai_lists.specs.OpenLists.{Table, changed_one, has_ended, is_open, kept_open, open_ones, with_change, without_ended}
 use Rattle.oai_lists.specs.declared.open_lists.OpenList.{OpenList}
 use Rattle.oai_repo.specs.Fields.{AreInUse, KeepsOthers, are_different, has, versions_in}
-use Rattle.oai_repo.specs.Tables.{HoldsFew, IsAskedTable, dropped_at, kept_open, version_ended, without_version}
+use Rattle.oai_repo.specs.Tables.{HoldsFew, IsAskedTable, dropped_at, version_ended, without_version}
 use Rattle.oai_repo.proofs.NumberLemmas.{clash, kept_same, some_true, turned, used_at, used_each}
 
 abbrev pub versions : List OpenList → List ℕ

@@ -27,7 +27,7 @@ is_new config clock index sets table v before after opens_list bare none empty u
       unused = unused;
       listed = listed;
       empty = ap (λ (items : List ItemState). state_with config items) (no_items config v before after listed);
-      held = record { indexed = new_held config v before after listed; agrees = record { counted = refl; marked = refl } };
+      held = record { indexed = new_held config v before after listed; agrees = record { counted = refl; marked = refl; whole = refl } };
       stands = new_stands v before after listed;
     })
   where

@@ -14,20 +14,20 @@ use Rattle.oai_item.specs.Item.{ItemState}
 use Rattle.oai_item.specs.Selection.{selected}
 use Rattle.oai_catalogue.specs.Store.{VersionLists, list_at, with_list}
 use Rattle.oai_catalogue.proofs.ListsLemmas.{list_at-with}
-use Rattle.oai_lists.proofs.Changes.{change-last, changed_twice, unchanged_lists}
+use Rattle.oai_lists.proofs.Changes.{unchanged_lists}
 use Rattle.oai_lists.specs.HeldTable.{no_list_numbered}
-use Rattle.oai_lists.specs.OpenLists.{IsListTable, Table, are_numbered_lists, changed_one, given_too, has_list_number, is_open, list_number, list_numbered, open_numbered, open_ones, open_until, with_change, with_mark, with_opened as opening, with_reopened, without_ended}
+use Rattle.oai_lists.specs.OpenLists.{IsListTable, Table, are_numbered_lists, changed_one, has_list_number, is_open, kept_open, list_number, open_numbered, open_ones, with_change, with_opened as opening, with_reopened, without_ended}
 use Rattle.oai_lists.specs.declared.open_lists.Mark.{Mark}
 use Rattle.oai_lists.specs.declared.open_lists.OpenList.{OpenList}
 use Rattle.oai_settings.specs.Config.{RepositoryConfig}
-use Rattle.oai_holdings.specs.Index.{IndexAgrees, IsIndexed, ItemIndex, has_writable_stamp}
-use Rattle.oai_repo.specs.Fields.{AreInUse, KeepsOthers, TableAgrees, are_different, open_lists_of, frozen_in, has, is_counted, is_marked, is_place_in, items_frozen, versions_in}
+use Rattle.oai_holdings.specs.Index.{IndexAgrees, IsIndexed, ItemIndex, are_whole, has_writable_stamp}
+use Rattle.oai_repo.specs.Fields.{AreInUse, KeepsOthers, TableAgrees, are_different, open_lists_of, frozen_in, has, has_whole_items, is_counted, is_marked, is_place_in, items_frozen, versions_in}
 use Rattle.oai_holdings.specs.Kept.{AreKept}
 use Rattle.oai_repo.specs.Listing.{carried_on, carried_on_at, is_of_number, with_carried_on, with_new_list}
 use Rattle.oai_holdings.specs.Holdings.{NamedSet}
 use Rattle.oai_repo.specs.Saved.{with_begun}
 use Rattle.oai_repo.specs.State.{FrozenList, OpenLists, is_open_at, still_open}
-use Rattle.oai_repo.specs.Tables.{IsKeptTable, IsLeftOpen, IsPutBack, dropped_at, has_end, is_of_known_format, kept_open, version_ended, without_version}
+use Rattle.oai_repo.specs.Tables.{IsKeptTable, IsLeftOpen, IsPutBack, dropped_at, has_end, is_of_known_format, version_ended, without_version}
 use Rattle.oai_repo.proofs.EndLemmas.{left_same, open_here, open_later, open_same, rest_all, versions}
 use Rattle.oai_repo.proofs.NumberLemmas.{clash, in_use_end, kept_end, kept_same, same_number, turned, unused_lacks}
 
@@ -38,12 +38,12 @@ frozen_same a b list same =
     let made : Option (List ItemState) → FrozenList = λ o. record { number = list.number; verb = list.verb; prefix = list.filter.prefix; items = selected list.filter (unwrap_or o []); end = list.end; given = list.given } in
     ap made same
 
--- what is asked of a list and of the items of its selection
+-- what is asked of a list and of the items of its version
 abbrev pub agrees_by : (OpenList → List ItemState → Bool) → VersionLists → OpenList → Bool
-agrees_by q lists list = q list (items_frozen lists list)
+agrees_by q lists list = q list (list_at lists list.version)
 
 agrees_at : (q : OpenList → List ItemState → Bool) (a b : VersionLists) (list : OpenList) → b list.version ≡ a list.version → agrees_by q b list ≡ agrees_by q a list
-agrees_at q a b list same = ap (λ (o : Option (List ItemState)). q list (selected list.filter (unwrap_or o []))) same
+agrees_at q a b list same = ap (λ (o : Option (List ItemState)). q list (unwrap_or o [])) same
 
 map_frozen : (a b : VersionLists) (lists : List OpenList) → ((n : ℕ) → has (versions lists) n ≡ true → b n ≡ a n) → map (frozen_in b) lists ≡ map (frozen_in a) lists
 map_frozen a b [] same = refl
@@ -59,18 +59,22 @@ all_agree q a b (x ∷ lists) same h =
     (agrees_at q a b x (same x.version (or_left (eqb x.version x.version) (has (versions lists) x.version) (same_number x.version))) ∙ parts.0)
     (all_agree q a b lists (λ n there. same n (or_right (eqb x.version n) (has (versions lists) n) there)) parts.1)
 
--- the size is that of the items, and the mark is a place among them
+-- the size is that of the selected items, the mark is a place among them, and the items can be read as a whole
 abbrev pub by_size : OpenList → List ItemState → Bool
-by_size list items = eqb list.size (length items)
+by_size list items = eqb list.size (length (selected list.filter items))
 
 abbrev pub by_mark : OpenList → List ItemState → Bool
-by_mark list items = is_place_in items list.mark
+by_mark list items = is_place_in (selected list.filter items) list.mark
+
+abbrev pub by_items : OpenList → List ItemState → Bool
+by_items list items = are_whole items
 
 -- a table agrees with other lists that hold the same under its numbers
 pub table_agrees_same : (table : Table) (a b : VersionLists) → ((n : ℕ) → has (versions_in table) n ≡ true → b n ≡ a n) → TableAgrees table a → TableAgrees table b
 table_agrees_same table a b same agrees = record {
   counted = all_agree by_size a b table.lists same agrees.counted;
   marked = all_agree by_mark a b table.lists same agrees.marked;
+  whole = all_agree by_items a b table.lists same agrees.whole;
 }
 
 -- an open one is among all
@@ -150,6 +154,7 @@ pub table_agrees_dropped : (now : ℤ) (v : ℕ) (table : Table) (all : VersionL
 table_agrees_dropped now v table all apart agrees = record {
   counted = all_dropped by_size now v table all apart agrees.counted;
   marked = all_dropped by_mark now v table all apart agrees.marked;
+  whole = all_dropped by_items now v table all apart agrees.whole;
 }
 
 pub table_dropped : (config : RepositoryConfig) (now : ℤ) (table : Table) → IsKeptTable config table → IsKeptTable config (dropped_at now table)
@@ -207,18 +212,6 @@ open_parts number now q lists x found h =
 pub all_true : (lists : List OpenList) → list_all (λ _. true) lists ≡ true
 all_true [] = refl
 all_true (x ∷ lists) = all_true lists
-
--- it is one of those of its number
-pub numbered_there : (number : ℕ) (now : ℤ) (lists : List OpenList) (x : OpenList) → open_numbered number now lists ≡ Some x → IsSome (list_numbered number lists)
-unfolding open_numbered list_numbered
-numbered_there number now [] x found = cc
-numbered_there number now (y ∷ lists) x found =
-    elim (cases_Bool (has_list_number number y)) [
-      | inl here ↦ subst (λ (o : Option OpenList). IsSome o) (sym (cond-true (has_list_number number y) (Some y) (find (has_list_number number) lists) here)) refl
-      | inr other ↦
-          subst (λ (o : Option OpenList). IsSome o) (sym (cond-false (has_list_number number y) (Some y) (find (has_list_number number) lists) other))
-          (numbered_there number now lists x (sym (cond-false (opened_as number now y) (Some y) (find (opened_as number now) lists) (and_left (has_list_number number y) (is_open now y) other)) ∙ found))
-    ]
 
 -- the same list, as the state has it
 pub found_frozen : (number : ℕ) (now : ℤ) (all : VersionLists) (lists : List OpenList)
@@ -295,17 +288,6 @@ kept_lists config now end next mark number all (x ∷ lists) is later alone =
           ∙ rest
           ∙ ap (λ ls. map (carried_on_at config now number next) (map (frozen_in all) ls)) (sym (open_later now x lists over))
     ]
-
--- the calls that keep it open, one after the other
-pub kept_with : (number : ℕ) (end : ℤ) (cursor : ℕ) (mark : Option Mark) (lists : List OpenList)
-    → with_change number (with_mark mark) (with_change number (given_too cursor) (with_change number (open_until end) lists)) ≡ with_change number (kept_open end (Some cursor) mark) lists
-kept_with number end cursor mark lists =
-    ap (with_change number (with_mark mark)) (changed_twice number (open_until end) (given_too cursor) (λ x. refl) lists)
-    ∙ changed_twice number (λ x. given_too cursor (open_until end x)) (with_mark mark) (λ x. refl) lists
-
-pub kept_without : (number : ℕ) (end : ℤ) (mark : Option Mark) (lists : List OpenList)
-    → with_change number (with_mark mark) (with_change number (open_until end) lists) ≡ with_change number (kept_open end None mark) lists
-kept_without number end mark lists = changed_twice number (open_until end) (with_mark mark) (λ x. refl) lists
 
 -- the table in which that list is kept open
 abbrev pub kept_table : ℤ → Option ℕ → Option Mark → ℕ → Table → Table
@@ -387,6 +369,7 @@ table_agrees_kept now end next mark number table all x numbers found place agree
     record {
       counted = changed_all (is_counted all) number change table.lists (λ y counted. counted) agrees.counted;
       marked = (one_changed now number (is_marked all) change table.lists x numbers.numbered found place agrees.marked).0;
+      whole = changed_all (has_whole_items all) number change table.lists (λ y whole. whole) agrees.whole;
     }
 
 pub table_kept : (config : RepositoryConfig) (end : ℤ) (next : Option ℕ) (mark : Option Mark) (number : ℕ) (table : Table) → int_le end (pos 253_402_300_799) ≡ true → IsKeptTable config table → IsKeptTable config (kept_table end next mark number table)
@@ -457,51 +440,31 @@ open_lists_reopened now v table all list items stands free lasts =
     let made : List FrozenList → OpenLists = λ lists. record { lists = lists; next = table.next } in
     ap made (frozen_end now v table all list items stands free lasts)
 
--- the list that was opened last is there, and its mark is set
-pub numbered_last : (number : ℕ) (lists : List OpenList) (x : OpenList) → x.number ≡ number → IsSome (list_numbered number (lists ++ x ∷ []))
-unfolding list_numbered
-numbered_last number [] x is = subst (λ (o : Option OpenList). IsSome o) (sym (cond-true (has_list_number number x) (Some x) None (eq-eqb x.number number is))) refl
-numbered_last number (y ∷ lists) x is =
-    elim (cases_Bool (has_list_number number y)) [
-      | inl here ↦ subst (λ (o : Option OpenList). IsSome o) (sym (cond-true (has_list_number number y) (Some y) (find (has_list_number number) (lists ++ x ∷ [])) here)) refl
-      | inr other ↦
-          subst (λ (o : Option OpenList). IsSome o) (sym (cond-false (has_list_number number y) (Some y) (find (has_list_number number) (lists ++ x ∷ [])) other)) (numbered_last number lists x is)
-    ]
-
-pub opened_marked : (number : ℕ) (table opened new : Table) (list : OpenList) (mark : Option Mark) → IsListTable table → number ≡ table.next → list.number ≡ table.next → opened ≡ opening table list
-    → new ≡ record opened { lists = with_change number (with_mark mark) opened.lists } → new ≡ opening table (with_mark mark list)
-opened_marked number table opened new list mark numbers is own made set =
-    let marked : ℕ → Table → Table = λ n t. record t { lists = with_change n (with_mark mark) t.lists } in
-    let with_lists : List OpenList → Table = λ lists. record table { next = table.next + 1; lists = lists } in
-    set
-    ∙ ap (marked number) made
-    ∙ ap (λ (n : ℕ). marked n (opening table list)) is
-    ∙ ap with_lists (change-last table.next (with_mark mark) table.lists list numbers.given own)
-
 all_end : (p : OpenList → Bool) (lists : List OpenList) (x : OpenList) → list_all p lists ≡ true → p x ≡ true → list_all p (lists ++ x ∷ []) ≡ true
 all_end p [] x h there = and_from (p x) true there refl
 all_end p (y ∷ lists) x h there = let parts = and_parts (p y) (list_all p lists) h in and_from (p y) (list_all p (lists ++ x ∷ [])) parts.0 (all_end p lists x parts.1 there)
 
 opened_agrees : (q : OpenList → List ItemState → Bool) (v : ℕ) (table : Table) (all : VersionLists) (list : OpenList) (items : List ItemState) → AreInUse (v ∷ versions_in table) all → all list.version ≡ None
-    → list_all (agrees_by q all) table.lists ≡ true → q list (selected list.filter items) ≡ true → list_all (agrees_by q (with_list list.version items all)) (table.lists ++ list ∷ []) ≡ true
+    → list_all (agrees_by q all) table.lists ≡ true → q list items ≡ true → list_all (agrees_by q (with_list list.version items all)) (table.lists ++ list ∷ []) ≡ true
 opened_agrees q v table all list items stands free h own =
     let after : VersionLists = with_list list.version items all in
     all_end (agrees_by q after) table.lists list
     (all_agree q all after table.lists (λ n there. other_lists v table list.version items all stands free n there) h)
-    (ap (λ (xs : List ItemState). q list (selected list.filter xs)) (list_at-with list.version items all) ∙ own)
+    (ap (q list) (list_at-with list.version items all) ∙ own)
 
 pub table_agrees_opened : (v : ℕ) (table : Table) (all : VersionLists) (list : OpenList) (items : List ItemState) → AreInUse (v ∷ versions_in table) all → all list.version ≡ None
-    → list.size ≡ length (selected list.filter items) → is_place_in (selected list.filter items) list.mark ≡ true → TableAgrees table all → TableAgrees (opening table list) (with_list list.version items all)
-table_agrees_opened v table all list items stands free size place agrees = record {
+    → list.size ≡ length (selected list.filter items) → is_place_in (selected list.filter items) list.mark ≡ true → are_whole items ≡ true → TableAgrees table all → TableAgrees (opening table list) (with_list list.version items all)
+table_agrees_opened v table all list items stands free size place whole agrees = record {
   counted = opened_agrees by_size v table all list items stands free agrees.counted (eq-eqb list.size (length (selected list.filter items)) size);
   marked = opened_agrees by_mark v table all list items stands free agrees.marked place;
+  whole = opened_agrees by_items v table all list items stands free agrees.whole whole;
 }
 
 pub table_agrees_reopened : (v : ℕ) (table : Table) (all : VersionLists) (list : OpenList) (items : List ItemState) → AreInUse (v ∷ versions_in table) all → all list.version ≡ None
-    → list.size ≡ length (selected list.filter items) → is_place_in (selected list.filter items) list.mark ≡ true → TableAgrees table all → TableAgrees (with_reopened table list) (with_list list.version items all)
-table_agrees_reopened v table all list items stands free size place agrees =
-    let opened = table_agrees_opened v table all list items stands free size place agrees in
-    record { counted = opened.counted; marked = opened.marked }
+    → list.size ≡ length (selected list.filter items) → is_place_in (selected list.filter items) list.mark ≡ true → are_whole items ≡ true → TableAgrees table all → TableAgrees (with_reopened table list) (with_list list.version items all)
+table_agrees_reopened v table all list items stands free size place whole agrees =
+    let opened = table_agrees_opened v table all list items stands free size place whole agrees in
+    record { counted = opened.counted; marked = opened.marked; whole = opened.whole }
 
 pub put_back : (config : RepositoryConfig) (v : ℕ) (table : Table) (all : VersionLists) (list : OpenList) (items : List ItemState) → IsKeptTable config table → AreInUse (v ∷ versions_in table) all → all list.version ≡ None
     → int_le list.end (pos 253_402_300_799) ≡ true → is_of_known_format config list ≡ true

@@ -11,7 +11,7 @@ use Rattle.oai_lists.specs.declared.open_lists.Mark.{Mark}
 use Rattle.oai_lists.specs.declared.open_lists.OpenList.{OpenList}
 use Rattle.oai_settings.specs.Config.{RepositoryConfig}
 use Rattle.oai_holdings.specs.Holdings.{NamedSet}
-use Rattle.oai_holdings.specs.Index.{IsIndexed, ItemIndex, holdings_of}
+use Rattle.oai_holdings.specs.Index.{IsIndexed, ItemIndex, are_whole, holdings_of}
 use Rattle.oai_repo.specs.State.{FrozenList, OpenLists, RepoState, empty_state}
 
 -- ---- the fields
@@ -76,10 +76,15 @@ is_marked lists list = is_place_in (items_frozen lists list) list.mark
 abbrev pub are_marked : Table → VersionLists → Bool
 are_marked table lists = list_all (is_marked lists) table.lists
 
+-- the version of a list has items that can be read as a whole
+abbrev pub has_whole_items : VersionLists → OpenList → Bool
+has_whole_items lists list = are_whole (list_at lists list.version)
+
 -- the table agrees with the lists that its versions hold
 pub record TableAgrees (table : Table) (lists : VersionLists) : Type 0 where
   pub counted : are_counted table lists ≡ true
   pub marked : are_marked table lists ≡ true
+  pub whole : list_all (has_whole_items lists) table.lists ≡ true
 
 -- what an honest store holds of a repository
 pub record IsStored (held : RepoFields) (lists : VersionLists) : Type 0 where

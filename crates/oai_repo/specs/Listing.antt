@@ -1,5 +1,5 @@
 -- Lists that are answered in parts, and the tokens that request the next one. OAI-PMH 2.0, sections 3.5, 4.3 and 4.5.
-use Rattle.std.specs.Prelude.{ℕ, ℤ, pos, max, ◌+◌, ◌%◌, ◌+ℤ◌, ◌-ℤ◌, Bool, true, false, ◌&&◌, ◌==◌, nat_le, nat_lt, List, [], ◌∷◌, ◌++◌, length, map, take, drop, Option, Some, None, is_some, if◌then◌else◌, find}
+use Rattle.std.specs.Prelude.{ℕ, ℤ, pos, ◌+◌, ◌%◌, ◌+ℤ◌, ◌-ℤ◌, Bool, true, false, ◌&&◌, ◌==◌, nat_le, nat_lt, List, [], ◌∷◌, ◌++◌, length, map, take, drop, Option, Some, None, is_some, if◌then◌else◌, find}
 use Rattle.std.specs.Int.{int_min}
 use Rattle.oai_names.specs.declared.list_verbs.ListVerb.{ListVerb}
 use Rattle.oai_names.specs.declared.list_verbs.ListVerb.TheVariants as list
@@ -8,6 +8,7 @@ use Rattle.oai_item.specs.Item.{ItemState}
 use Rattle.oai_item.specs.Items.{item_named}
 use Rattle.oai_item.specs.Selection.{selected}
 use Rattle.oai_item.specs.declared.formats.Format.{Format}
+use Rattle.oai_lists.specs.OpenLists.{highest_given}
 use Rattle.oai_lists.specs.Tokens.{token_of, token_text}
 use Rattle.oai_lists.specs.declared.lists.TheConstants.{LAST_NUMBER}
 use Rattle.oai_lists.specs.declared.tokens.Token.{Token}
@@ -159,11 +160,6 @@ cursor_behind size next = if nat_lt next size then Some next else None
 -- the cursor of the token of the part that begins after the first `cursor` records of the list
 abbrev pub next_cursor : RepositoryConfig → FrozenList → ℕ → Option ℕ
 next_cursor config list cursor = cursor_behind (length list.items) (cursor + length (items_from config list cursor))
-
--- the highest cursor that was handed out, after a token with that one is, if there is one
-abbrev pub highest_given : Option ℕ → ℕ → ℕ
-highest_given None given = given
-highest_given (Some cursor) given = max given cursor
 
 -- the list after a part of it was answered, with a token of that cursor or none: it is open for its lifetime from now
 -- on

@@ -7,14 +7,14 @@ use Rattle.oai_catalogue.specs.Store.{VersionLists, list_at, without_list}
 use Rattle.oai_item.specs.Formats.{format_named}
 use Rattle.oai_item.specs.Item.{ItemState}
 use Rattle.oai_names.specs.declared.list_verbs.ListVerb.{ListVerb}
-use Rattle.oai_lists.specs.OpenLists.{Table, has_ended, open_numbered, open_ones, with_change, with_opened, without_ended}
+use Rattle.oai_lists.specs.OpenLists.{Table, has_ended, kept_open, open_numbered, open_ones, with_change, with_opened, without_ended}
 use Rattle.oai_lists.specs.declared.tokens.Token.{Token}
 use Rattle.oai_lists.specs.declared.open_lists.Mark.{Mark}
 use Rattle.oai_lists.specs.declared.open_lists.OpenList.{OpenList}
 use Rattle.oai_settings.specs.Config.{RepositoryConfig, is_in_years}
 use Rattle.oai_holdings.specs.Entries.{IndexEntries}
 use Rattle.oai_repo.specs.Fields.{AreInUse, KeepsOthers, ends_at, versions_in}
-use Rattle.oai_repo.specs.Listing.{highest_given, is_continued}
+use Rattle.oai_repo.specs.Listing.{is_continued}
 
 -- ---- what has ended
 
@@ -55,11 +55,6 @@ pub record IsRepo (config : RepositoryConfig) (clock : ℤ) (entries : IndexEntr
 -- the first list that has ended is gone
 abbrev pub dropped_at : ℤ → Table → Table
 dropped_at now table = record table { lists = without_ended now table.lists }
-
--- the list of which a part was answered: it has another end and another mark, and a token with that cursor was given,
--- if there is one
-abbrev pub kept_open : ℤ → Option ℕ → Option Mark → OpenList → OpenList
-kept_open end next mark list = record list { end = end; given = highest_given next list.given; mark = mark }
 
 -- the mark is after these items, before the record `next`: the last of them has its datestamp and identifier
 abbrev pub IsMarkBehind : List ItemState → ℕ → Mark → Type 0

@@ -14,6 +14,7 @@ use Rattle.oai_catalogue.specs.Store.{VersionLists, list_at, with_list}
 use Rattle.oai_catalogue.specs.declared.versions.Versions.{Ghosts}
 use Rattle.oai_item.specs.declared.faults.Fault.{Fault}
 use Rattle.oai_lists.specs.OpenLists.{IsListTable, Table, open_fault, opened_list, with_opened}
+use Rattle.oai_lists.specs.declared.open_lists.Mark.{Mark}
 use Rattle.oai_lists.specs.declared.open_lists.OpenList.{OpenList}
 use Rattle.oai_lists.specs.Tokens.{token_of}
 use Rattle.oai_args.specs.Asks.{AskOrError}
@@ -119,26 +120,27 @@ pub record IsOfFormat (config : RepositoryConfig) (selection : Selection) : Type
   pub known : IsSome (format_named selection.filter.prefix config.formats)
   pub lists : is_of_records selection.verb ≡ true
 
--- the list of that many records of that selection, under that number and in that version: it ends its lifetime from now
--- on, the cursor behind its first part was given, and it has no mark
-abbrev pub view_begun_list : RepoView → Selection → ℕ → ℕ → ℕ → OpenList
-view_begun_list repo selection number version size = opened_list number (record {
+-- the list of that many records of that selection, under that number, in that version and with that mark: it ends its
+-- lifetime from now on, and the cursor behind its first part was given
+abbrev pub view_begun_list : RepoView → Selection → ℕ → ℕ → ℕ → Option Mark → OpenList
+view_begun_list repo selection number version size mark = opened_list number (record {
   verb = selection.verb;
   filter = selection.filter;
   version = version;
   size = size;
   end = repo.clock +ℤ pos repo.config.now.lifetime;
   given = repo.config.now.chunk;
+  mark = mark;
 })
 
--- a list of that many records of that selection has begun, after the others and without a mark: its version, which was
+-- a list of that many records of that selection has begun, after the others and with that mark: its version, which was
 -- not in use, is a snapshot of the items
-pub record HasListBegun {V : Type 0} (g : Ghosts V) (repo : RepoView) (selection : Selection) (size : ℕ) (old : Table) (before : V) (new : Table) (after : V) : Type 0 where
+pub record HasListBegun {V : Type 0} (g : Ghosts V) (repo : RepoView) (selection : Selection) (size : ℕ) (mark : Option Mark) (old : Table) (before : V) (new : Table) (after : V) : Type 0 where
   pub version : ℕ
   pub unused : g.lists before version ≡ None
   pub frozen : g.lists after ≡ with_list version (list_at (g.lists before) repo.index.now.version) (g.lists before)
   pub room : open_fault old repo.clock ≡ None
-  pub opened : new ≡ with_opened old (view_begun_list repo selection old.next version size)
+  pub opened : new ≡ with_opened old (view_begun_list repo selection old.next version size mark)
   pub valid : IsListTable old
 
 -- a part of an open list may be answered, after that many of its records: there are more than that, the list is of a

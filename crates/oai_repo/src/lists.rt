@@ -12,7 +12,7 @@ ghost use Rattle.oai_catalogue.specs.Store.{Spares, Spends, VersionLists as Vers
 ghost use Rattle.oai_lists.specs.OpenLists.{number_or_fault, open_fault};
 ghost use Rattle.oai_settings.specs.Config.{is_in_years};
 ghost use Rattle.oai_repo.specs.Answers as spec;
-ghost use Rattle.oai_repo.specs.Fields.{AreInUse, open_lists_of, versions_in};
+ghost use Rattle.oai_repo.specs.Fields.{AreInUse, is_place_in, open_lists_of, versions_in};
 ghost use Rattle.oai_repo.specs.Listing as listing;
 ghost use Rattle.oai_repo.specs.Replays.{AreAsBefore};
 ghost use Rattle.oai_repo.specs.Tables.{dropped_at, has_end, version_ended, without_version};
@@ -26,7 +26,7 @@ use oai_answers::{Body, ErrorCode, Extent, Listed, Resumption};
 use oai_args::BoundText;
 use oai_catalogue::{Filter, Versions};
 use oai_item::{Fault, Format, Item};
-use oai_lists::{Lists, NewList, OpenListFault};
+use oai_lists::{Lists, Mark, NewList, OpenListFault};
 use oai_names::{ListVerb, Prefix, SetTree, Text};
 use oai_time::{FIRST_SECOND, LAST_SECOND, lower, upper};
 use std::alloc::{AllocError, Global};
@@ -254,26 +254,28 @@ fn start_list<V: Versions>(
     };
     let items = &first[..repo.config.chunk() as usize];
     let reply = reply_with_part(repo, selection.verb, selection.format, items, part)?;
-    start_unread(repo, lists, store, selection, size)?;
     let mark = mark_behind(repo.alloc, items, repo.config.chunk());
-    lists.set_mark(number, mark);
+    start_unread(repo, lists, store, selection, size, mark)?;
     Ok(Replied::with_part(reply))
 }
 
-/// Opens a list of that many records, without reading a part: a snapshot of the items is taken for it, and it gets a
-/// copy of the filter.
+/// Opens a list of that many records with that mark, without reading a part: a snapshot of the items is taken for it, and
+/// it gets a copy of the filter.
 pub(crate) fn start_unread<V: Versions>(
     repo: &RepoView<'_>,
     lists: &mut Lists,
     store: &mut V,
     selection: &Selection<'_>,
     size: u64,
+    mark: Option<Mark>,
 ) -> Result<(), Fault>
     requires ready { IsReady V.Versions repo.now lists.old store.old }
     requires selection { IsOfFormat repo.now.config.now selection.now }
     requires size { IsTrue (V.honest store.old)
         → size ≡ length (view_selected repo.now (V.lists store.old) selection.now.filter) }
-    ensures begun { OnOk result (HasListBegun V.Versions repo.now selection.now size lists.old store.old
+    requires mark { IsTrue (V.honest store.old)
+        → is_place_in (view_selected repo.now (V.lists store.old) selection.now.filter) mark ≡ true }
+    ensures begun { OnOk result (HasListBegun V.Versions repo.now selection.now size mark lists.old store.old
         lists.new store.new) }
     ensures passed { OnOk result (IsTrue (V.honest store.old)
         → view_open_lists repo.now lists.new (V.lists store.new)
@@ -291,6 +293,7 @@ pub(crate) fn start_unread<V: Versions>(
         size,
         end,
         given: repo.config.chunk(),
+        mark,
     };
     match lists.open(repo.clock, list) {
         Ok(_) => Ok(()),

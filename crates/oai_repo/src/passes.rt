@@ -13,7 +13,7 @@ ghost use Rattle.oai_repo.specs.Tables.{IsKeptTable, IsLeftOpen};
 ghost use Rattle.oai_repo.specs.Views.{IsOfFormat, IsReady, LeavesTableAndLists, view_ask_response, view_list_response, view_numbers, view_open_lists, view_response, view_selected, view_selection_response, view_token_response};
 
 use crate::lists::{ListRequest, Selection, selection_of, start_unread};
-use crate::tokens::{carry_on, chunk_of, continued, cursor_behind};
+use crate::tokens::{chunk_of, continued, cursor_behind};
 use crate::view::RepoView;
 use oai_args::{ArgFault, Ask, read_request};
 use oai_catalogue::Versions;
@@ -155,7 +155,7 @@ fn pass_counted<V: Versions>(
         return Ok(());
     }
     match lists.next(repo.clock) {
-        Ok(_) => start_unread(repo, lists, store, selection, size),
+        Ok(_) => start_unread(repo, lists, store, selection, size, None),
         Err(OpenListFault::Full) => Ok(()),
         Err(OpenListFault::NumbersSpent) => Ok(()),
         Err(OpenListFault::NoMemory) => Err(Fault::NoMemory),
@@ -177,12 +177,11 @@ fn pass_part(repo: &RepoView<'_>, lists: &mut Lists, verb: ListVerb, token: &str
     ensures agrees { (all : Versioned) → TableAgrees lists.old all → TableAgrees lists.new all }
 {
     let chunk = chunk_of(repo);
-    let Some((list, cursor)) = continued(lists, repo.clock, chunk, verb, token) else {
+    let Some((at, list, cursor)) = continued(lists, repo.clock, chunk, verb, token) else {
         return;
     };
-    let number = list.number;
     let next = next_cursor(list, chunk, cursor);
-    carry_on(lists, number, repo.end(), next, None);
+    lists.carry_on(at, repo.end(), next, None);
 }
 
 /// The cursor of the token of the part of the list that begins after its first `cursor` records, at most `chunk` of

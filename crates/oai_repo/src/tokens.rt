@@ -1,18 +1,18 @@
 //! Resumption tokens (OAI-PMH 2.0, section 3.5): parts of a list, and the token for the next one.
-ghost use Rattle.std.specs.Prelude.{◌≡◌, ◌≢◌, ◌<◌, ◌≤◌, ◌+◌, ◌+ℤ◌, pos, length, true, IfOk, IsSome, IsTrue, OnSome};
+ghost use Rattle.std.specs.Prelude.{◌≡◌, ◌≢◌, ◌<◌, ◌≤◌, ◌+◌, ◌+ℤ◌, pos, length, slice_get, true, Some, IfOk, IfSome, IsSome, IsTrue, OnSome};
 ghost use Rattle.std.specs.Option.{option_map};
 ghost use Rattle.oai_time.specs.Stamp.{IsWritable};
 ghost use Rattle.oai_item.specs.Formats.{format_named};
 ghost use Rattle.oai_args.specs.Verbs.{is_of_records};
 ghost use Rattle.oai_catalogue.specs.Calls.{OnlyReads};
 ghost use Rattle.oai_catalogue.specs.Store.{Spends};
-ghost use Rattle.oai_lists.specs.OpenLists.{IsListTable, list_numbered, with_change};
+ghost use Rattle.oai_lists.specs.OpenLists.{IsListTable};
 ghost use Rattle.oai_lists.specs.Tokens.{token_of};
 ghost use Rattle.oai_settings.specs.Config.{is_in_years};
 ghost use Rattle.oai_repo.specs.Fields.{frozen_in, is_place_in, items_frozen};
 ghost use Rattle.oai_repo.specs.Listing as listing;
 ghost use Rattle.oai_repo.specs.Replays.{AreAsBefore};
-ghost use Rattle.oai_repo.specs.Tables.{kept_open, table_continued};
+ghost use Rattle.oai_repo.specs.Tables.{table_continued};
 ghost use Rattle.oai_repo.specs.Views.{IsContinuing, IsReady, IsViewReply, LeavesTableAndLists, document_reply, view_token_response};
 
 use crate::lists::answer_by_verb;
@@ -67,13 +67,12 @@ pub(crate) fn reply_with_next_part<V: Versions>(
     ensures store { Spends V.room V.failures V.honest 0 result store.old store.new }
 {
     let chunk = chunk_of(repo);
-    let Some((list, cursor)) = continued(lists, repo.clock, chunk, verb, token) else {
+    let Some((at, list, cursor)) = continued(lists, repo.clock, chunk, verb, token) else {
         let reply = reply_with_error(repo, ErrorCode::BadResumptionToken)?;
         return Ok(Replied::listless(reply));
     };
-    let number = list.number;
     let part = reply_from(repo, store, verb, list, cursor)?;
-    carry_on(lists, number, repo.end(), part.next, part.mark);
+    lists.carry_on(at, repo.end(), part.next, part.mark);
     Ok(Replied::with_part(part.reply))
 }
 
@@ -86,24 +85,25 @@ pub(crate) fn chunk_of(repo: &RepoView<'_>) -> u64
     repo.config.chunk()
 }
 
-/// The open list that the token continues by that verb, and how many of its records precede the requested part. Each
-/// part but the last has `chunk` records.
+/// The open list that the token continues by that verb, its position in the table, which comes first, and how many of its
+/// records precede the requested part. Each part but the last has `chunk` records.
 pub(crate) fn continued<'a>(
     lists: &'a Lists,
     now: i64,
     chunk: u64,
     verb: ListVerb,
     token: &str,
-) -> Option<(&'a OpenList, u64)>
+) -> Option<(usize, &'a OpenList, u64)>
     requires some { chunk ≢ 0 }
-    ensures found { option_map (λ r. (r.0.now, r.1)) result
+    ensures found { option_map (λ r. (r.1.now, r.2)) result
         ≡ table_continued now chunk verb lists.now.lists (token_of token.now) }
+    ensures placed { IfSome result (λ r. slice_get lists.now.lists r.0 ≡ Some r.1.now) }
     ensures valid { OnSome result (IsListTable lists.now) }
 {
     let token = Token::read(token)?;
-    let list = lists.find(token.list, now)?;
+    let (at, list) = lists.find(token.list, now)?;
     if is_same_verb(list.verb, verb) && is_valid_cursor(list, chunk, token.cursor) {
-        Some((list, token.cursor))
+        Some((at, list, token.cursor))
     } else {
         None
     }
@@ -123,28 +123,6 @@ fn is_handed_out(chunk: u64, given: u64, cursor: u64) -> bool
     ensures { result ≡ listing.is_handed_out chunk given cursor }
 {
     0 < cursor && cursor % chunk == 0 && cursor <= given
-}
-
-/// Changes the list with that number, of which a part was answered: it ends at `end`, in seconds from 1970 on, the
-/// cursor `next` of the part's token, if it has one, was given, and its mark is `mark`. It allocates nothing.
-pub(crate) fn carry_on(
-    lists: &mut Lists,
-    number: u64,
-    end: i64,
-    next: Option<u64>,
-    mark: Option<Mark>,
-)
-    requires held { IsSome (list_numbered number lists.old.lists) }
-    ensures { lists.new ≡ record lists.old {
-      lists = with_change number (kept_open end next mark) lists.old.lists;
-    } }
-{
-    lists.renew(number, end);
-    match next {
-        Some(cursor) => lists.give(number, cursor),
-        None => {}
-    }
-    lists.set_mark(number, mark);
 }
 
 /// Whether both verbs are ListIdentifiers, or both are ListRecords: the verbs whose lists tokens continue.

@@ -8,7 +8,7 @@ use Rattle.oai_item.specs.Item.{ItemState}
 use Rattle.oai_catalogue.specs.Store.{VersionLists, list_at}
 use Rattle.oai_catalogue.specs.declared.versions.Versions.{Ghosts}
 use Rattle.oai_item.specs.Items.{are_apart}
-use Rattle.oai_holdings.specs.Index.{has_writable_stamp}
+use Rattle.oai_holdings.specs.Index.{are_whole, has_writable_stamp}
 use Rattle.oai_holdings.specs.Missing.{IsReadableVersion}
 use Rattle.oai_holdings.specs.Purges.{is_in_core}
 use Rattle.oai_holdings.specs.Differences.{ItemDifference}
@@ -20,7 +20,7 @@ use Rattle.oai_repo.proofs.NumberLemmas.{clash, kept_same, same_number, some_tru
 use Rattle.oai_snapshots.specs.Batches.{HasHandedOutMore, HoldsSnapshot, LeavesSnapshot, all_come, all_go, has_nothing_left, parts_of_batch}
 use Rattle.oai_snapshots.specs.Passing.{HandsOutChange, HasPassed, changes_left}
 use Rattle.oai_snapshots.specs.Reading.{AreNextDifferences, place_in_differences}
-use Rattle.oai_snapshots.specs.Snapshots.{HandsOut, SnapshotFields, SnapshotPlace, are_apart_from, are_whole, differences_left, going, have_whole, is_of_others, items_before, list_parts, numbers_of_snapshot, parts_left, versions_left, versions_of, with_before, without_lists}
+use Rattle.oai_snapshots.specs.Snapshots.{HandsOut, SnapshotFields, SnapshotPlace, are_apart_from, differences_left, going, have_whole, is_of_others, items_before, list_parts, numbers_of_snapshot, parts_left, versions_left, versions_of, with_before, without_lists}
 use Rattle.oai_snapshots.specs.declared.batches.Batch.{Batch}
 use Rattle.oai_snapshots.specs.declared.batches.Batch.TheVariants.{Gone, Come}
 use Rattle.oai_snapshots.specs.declared.places.DifferencePlace.{DifferencePlace}

@@ -2,6 +2,7 @@
 use Rattle.std.proofs.Common.{◌≡◌, ◌∙◌, ◌≤◌, ℕ, Bool, true, false, not, ◌&&◌, cond, inl, inr, unwrap_or, List, [], ◌∷◌, ◌++◌, append-nil, append_assoc, drop, length, map, take, Option, None, Some, IfSome, is_some, refl, sym, ap, arith}
 use Rattle.std.specs.List.{flat_map, list_all}
 use Rattle.std.proofs.lemmas.Bool.{and_from, and_parts, cases_Bool, not-true, not_from_false}
+use Rattle.std.proofs.lemmas.List.Folds.{list_all-map}
 use Rattle.std.proofs.lemmas.List.{map-append, take-append-le, take_all}
 use Rattle.oai_item.specs.Item.{ItemState}
 use Rattle.oai_item.specs.Items.{are_apart}
@@ -12,17 +13,18 @@ use Rattle.oai_lists.specs.declared.open_lists.OpenList.{OpenList}
 use Rattle.oai_names.proofs.Lists.{all-filter}
 use Rattle.oai_holdings.specs.Differences.{AreInOrderAndApart, ItemDifference, comes, goes}
 use Rattle.oai_holdings.specs.Holdings.{NamedSet, no_holdings}
-use Rattle.oai_holdings.specs.Index.{has_writable_stamp}
+use Rattle.oai_holdings.specs.Index.{are_whole, has_writable_stamp}
 use Rattle.oai_holdings.specs.Missing.{IsBatch, differences_of, goes_on, is_after, items_past, missing_in}
 use Rattle.oai_holdings.specs.Purges.{is_in_core}
 use Rattle.oai_holdings.specs.declared.differences.MissingItems.{MissingItems}
 use Rattle.oai_holdings.specs.declared.differences.OwnedKey.{OwnedKey}
 use Rattle.oai_holdings.proofs.BatchLemmas.{from_first}
+use Rattle.oai_holdings.proofs.RestoreLemmas.{indexed_whole}
 use Rattle.oai_holdings.proofs.MissingLaws.{last_batch, missing_lead, next_batch}
-use Rattle.oai_repo.specs.Fields.{KeepsOthers, RepoFields, frozen_in, has, numbers_of, state_of, versions_in}
+use Rattle.oai_repo.specs.Fields.{IsStored, KeepsOthers, RepoFields, frozen_in, has, numbers_of, state_of, versions_in}
 use Rattle.oai_repo.specs.Saved.{SavedListState, SavedPartState, has_clock, has_list, has_named_set, with_parts}
 use Rattle.oai_repo.specs.SavedLists.{AreBeginnings, Beginning, part_of_difference, parts_of_beginning}
-use Rattle.oai_snapshots.specs.Snapshots.{AreFrozen, IsSnapshot, IsSnapshotTaken, SnapshotFields, SnapshotPlace, after_gone, are_apart_from, are_whole, arriving, differences_left, going, have_whole, is_of_others, items_before, left_to_come, list_parts, numbers_of_snapshot, parts_left, saved_of, versions_left, with_before}
+use Rattle.oai_snapshots.specs.Snapshots.{AreFrozen, IsSnapshot, IsSnapshotTaken, SnapshotFields, SnapshotPlace, after_gone, are_apart_from, arriving, differences_left, going, have_whole, is_of_others, items_before, left_to_come, list_parts, numbers_of_snapshot, parts_left, saved_of, versions_left, with_before}
 use Rattle.oai_snapshots.specs.declared.versions.SnapshotVersion.{SnapshotVersion}
 use Rattle.oai_repo.specs.State.{FrozenList, RepoState}
 use Rattle.oai_repo.proofs.SavedListLemmas.{listed_restored}
@@ -87,19 +89,18 @@ begun_from items (list ∷ lists) v before (s ∷ versions) after ordered stands
           ∙ sym (append_assoc (parts_of_beginning first) (flat_map parts_of_beginning later.beginnings) (map part_of_difference later.last));
     }
 
--- the versions of the lists that are open are among those of the repository
-whole_lists : (before : VersionLists) (lists : List OpenList) → list_all (λ (v : ℕ). are_whole (list_at before v)) (map (λ (list : OpenList). list.version) lists) ≡ true
-    → list_all (λ (list : OpenList). are_whole (list_at before list.version)) lists ≡ true
-whole_lists before [] h = refl
-whole_lists before (list ∷ lists) h =
-    let parts = and_parts (are_whole (list_at before list.version)) (list_all (λ (v : ℕ). are_whole (list_at before v)) (map (λ (one : OpenList). one.version) lists)) h in
-    and_from (are_whole (list_at before list.version)) (list_all (λ (one : OpenList). are_whole (list_at before one.version)) lists) parts.0 (whole_lists before lists parts.1)
+-- what an honest store holds of a repository can be read as a whole
+pub stored_whole : (repo : RepoFields) (lists : VersionLists) → IsStored repo lists → have_whole (numbers_of repo) lists ≡ true
+stored_whole repo lists held =
+    and_from (are_whole (list_at lists repo.index.version)) (have_whole (versions_in repo.table) lists)
+    (indexed_whole repo.config repo.index repo.sets lists held.indexed)
+    (list_all-map (λ (v : ℕ). are_whole (list_at lists v)) (λ (list : OpenList). list.version) repo.table.lists ∙ held.agrees.whole)
 
 pub snapshot_taken : (repo : RepoFields) (before after : VersionLists) (snapshot : SnapshotFields) → AreInOrder before → have_whole (numbers_of repo) before ≡ true
     → IsSnapshotTaken repo before snapshot after → IsSnapshot (state_of repo before) repo.sets after snapshot
 snapshot_taken repo before after snapshot ordered whole taken =
     let both = and_parts (are_whole (list_at before repo.index.version)) (list_all (λ (v : ℕ). are_whole (list_at before v)) (versions_in repo.table)) whole in
-    let open_whole = all-filter (λ (list : OpenList). are_whole (list_at before list.version)) (is_open repo.clock) repo.table.lists (whole_lists before repo.table.lists both.1) in
+    let open_whole = all-filter (λ (list : OpenList). are_whole (list_at before list.version)) (is_open repo.clock) repo.table.lists (sym (list_all-map (λ (v : ℕ). are_whole (list_at before v)) (λ (list : OpenList). list.version) repo.table.lists) ∙ both.1) in
     let none : AreInOrderAndApart [] = record { ordered = refl; apart = refl } in
     let begun = begun_from [] (open_ones repo.clock repo.table.lists) repo.index.version before snapshot.versions after ordered none open_whole both.0 taken.frozen in
     let sets : drop snapshot.given (take snapshot.sets repo.sets) ≡ repo.sets =

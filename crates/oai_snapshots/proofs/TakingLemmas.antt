@@ -5,6 +5,7 @@ use Rattle.std.specs.List.{list_all}
 use Rattle.std.proofs.lemmas.Bool.{and_from, and_parts, cases_Bool, cond-false, cond-true, cond_both, eqb-true, false_from_ne_true, not-true, not_from_false, or_left, or_right}
 use Rattle.std.proofs.lemmas.List.{length-map, map-append, take_more}
 use Rattle.std.proofs.lemmas.List.Elements.{filter-append}
+use Rattle.std.proofs.lemmas.List.Folds.{list_all-map}
 use Rattle.oai_item.specs.Item.{ItemState}
 use Rattle.oai_catalogue.specs.Store.{Spares, VersionLists, list_at, with_list, without_list}
 use Rattle.oai_catalogue.specs.declared.versions.Versions.{Ghosts}
@@ -111,18 +112,12 @@ all_sources p (list ∷ lists) v all last =
     let parts = and_parts (p list.version) (list_all (λ (one : OpenList). p one.version) lists) all in
     and_from (p list.version) (list_all (λ (s : SnapshotVersion). p s.version) (map source_of lists ++ source_of_items v ∷ [])) parts.0 (all_sources p lists v parts.1 last)
 
-all_lists : (p : ℕ → Bool) (lists : List OpenList) → list_all p (map (λ (list : OpenList). list.version) lists) ≡ true → list_all (λ (list : OpenList). p list.version) lists ≡ true
-all_lists p [] h = refl
-all_lists p (list ∷ lists) h =
-    let parts = and_parts (p list.version) (list_all p (map (λ (one : OpenList). one.version) lists)) h in
-    and_from (p list.version) (list_all (λ (one : OpenList). p one.version) lists) parts.0 (all_lists p lists parts.1)
-
 -- what is so of each number of a repository is so of each source
 pub all_of_repo : (p : ℕ → Bool) (repo : RepoFields) → list_all p (numbers_of repo) ≡ true → list_all (λ (s : SnapshotVersion). p s.version) (sources_of repo) ≡ true
 all_of_repo p repo all =
     let parts = and_parts (p repo.index.version) (list_all p (versions_in repo.table)) all in
     all_sources p (open_ones repo.clock repo.table.lists) repo.index.version
-    (all-filter (λ (list : OpenList). p list.version) (is_open repo.clock) repo.table.lists (all_lists p repo.table.lists parts.1))
+    (all-filter (λ (list : OpenList). p list.version) (is_open repo.clock) repo.table.lists (sym (list_all-map p (λ (list : OpenList). list.version) repo.table.lists) ∙ parts.1))
     parts.0
 
 -- what is so of the items of each source is so of those of each copy

@@ -3,15 +3,13 @@
 use Rattle.std.specs.Prelude.{◌≡◌, ℕ, ℤ, Bool, false, ◌&&◌, if◌then◌else◌, List, [], ◌∷◌, ◌++◌, drop, length, map, not, take, Option, None, Some, is_some}
 use Rattle.std.specs.List.{list_all}
 use Rattle.oai_item.specs.Item.{ItemState}
-use Rattle.oai_item.specs.Items.{are_apart}
 use Rattle.oai_catalogue.specs.Store.{VersionLists, list_at}
 use Rattle.oai_lists.specs.OpenLists.{open_ones}
 use Rattle.oai_lists.specs.declared.open_lists.OpenList.{OpenList}
 use Rattle.oai_holdings.specs.Differences.{ItemDifference, comes, goes}
 use Rattle.oai_holdings.specs.Holdings.{NamedSet}
-use Rattle.oai_holdings.specs.Index.{has_writable_stamp}
+use Rattle.oai_holdings.specs.Index.{are_whole}
 use Rattle.oai_holdings.specs.Missing.{items_past, missing_in}
-use Rattle.oai_holdings.specs.Purges.{is_in_core}
 use Rattle.oai_holdings.specs.declared.differences.OwnedKey.{OwnedKey}
 use Rattle.oai_repo.specs.Fields.{RepoFields, has}
 use Rattle.oai_repo.specs.SavedLists.{AreBeginnings, Beginning, listed_parts, part_of_difference}
@@ -121,11 +119,6 @@ pub record IsSnapshotTaken (repo : RepoFields) (before : VersionLists) (snapshot
   pub first : snapshot.before ≡ None
   pub place : snapshot.place ≡ going None
   pub frozen : AreFrozen (open_ones repo.clock repo.table.lists) repo.index.version before snapshot.versions after
-
--- the items are as those that a repository holds: distinct identifiers, a record in unqualified Dublin Core each
--- (OAI-PMH 2.0, section 2.5), and datestamps that can be written. A version with such items can be read as a whole
-abbrev pub are_whole : List ItemState → Bool
-are_whole items = are_apart items && list_all is_in_core items && list_all has_writable_stamp items
 
 -- the versions can be read as a whole
 abbrev pub have_whole : List ℕ → VersionLists → Bool

@@ -8,19 +8,21 @@ ghost use Rattle.oai_holdings.specs.Holdings.{NamedSet, no_holdings};
 ghost use Rattle.oai_holdings.specs.Missing.{IsBatch, is_after};
 ghost use Rattle.oai_holdings.specs.declared.differences.MissingItems.{MissingItems};
 ghost use Rattle.oai_holdings.specs.declared.differences.OwnedKey.{OwnedKey};
-ghost use Rattle.oai_repo.specs.Fields.{KeepsOthers, RepoFields, has, numbers_of, state_of};
+ghost use Rattle.oai_repo.specs.Fields.{IsStored, KeepsOthers, RepoFields, has, numbers_of, state_of};
 ghost use Rattle.oai_repo.specs.Saved.{with_parts};
 ghost use Rattle.oai_repo.specs.State.{RepoState};
 ghost use Rattle.oai_snapshots.specs.Batches.{HoldsSnapshot, LeavesSnapshot};
 ghost use Rattle.oai_snapshots.specs.Snapshots.{IsSnapshot, IsSnapshotTaken, SnapshotFields, after_gone, are_apart_from, arriving, differences_left, going, have_whole, left_to_come, parts_left};
 
-/// What a snapshot hands out are the parts of the repository's state when it was taken, with all its open lists
-/// (`taken`), and they restore it (`restored`). What is left does not depend on what the repository does meanwhile, since
+/// What an honest store holds of a repository can be read as a whole (`whole`). What a snapshot hands out are the parts
+/// of the repository's state when it was taken, with all its open lists (`taken`), and they restore it (`restored`). What is left does not depend on what the repository does meanwhile, since
 /// the snapshot's versions are not the repository's, and sets are only added (`kept`); and the next batch can be handed
 /// out then (`held`). Handing out a batch changes none of the repository's versions, and the snapshot's are none of them
 /// after it (`apart`). The changes from a version to the next are handed out in batches of items that go, and then of
 /// items that come (`goes`, `comes`). A theorem, proved by an empty function.
 pub fn snapshot_law()
+    ensures whole { (repo : RepoFields) (lists : VersionLists) → IsStored repo lists
+        → have_whole (numbers_of repo) lists ≡ true }
     ensures taken { (repo : RepoFields) (before after : VersionLists) (snapshot : SnapshotFields)
         → AreInOrder before → have_whole (numbers_of repo) before ≡ true
         → IsSnapshotTaken repo before snapshot after

@@ -55,7 +55,7 @@ impl Snapshot {
         requires { Owns (V.honest store.old) repo.now (V.lists store.old) }
         ensures taken { IfOk result (λ snapshot. IsSnapshotTaken repo.now (V.lists store.old) snapshot
             (V.lists store.new)) }
-        ensures stands { IfOk result (λ snapshot. AreInUse (numbers_of_snapshot snapshot) (V.lists store.new)) }
+        ensures holds { IfOk result (λ snapshot. HoldsSnapshot (V.honest store.old) snapshot (V.lists store.new)) }
         ensures whole { have_whole (numbers_of repo.now) (V.lists store.old) ≡ true
             → IfOk result (λ snapshot. have_whole (numbers_of_snapshot snapshot) (V.lists store.new) ≡ true) }
         ensures others { IfOk result (λ snapshot. KeepsOthers [] (V.lists store.old)

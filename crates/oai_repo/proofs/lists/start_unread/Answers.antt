@@ -1,5 +1,5 @@
 -- The list stands behind the others, and its version holds the items as they stand.
-use Rattle.std.proofs.Common.{◌≡◌, ◌∙◌, ◌+ℤ◌, pos, ℤ, ℕ, List, None, ap, FitsSigned, w64, to_z, of_z, refl, arith}
+use Rattle.std.proofs.Common.{◌≡◌, ◌∙◌, ◌+ℤ◌, pos, ℤ, ℕ, List, ap, FitsSigned, w64, to_z, of_z, refl, arith}
 use Rattle.std.proofs.lemmas.Int.{to_z-of_z}
 use Rattle.oai_item.specs.Item.{ItemState}
 use Rattle.oai_item.specs.Selection.{selected}
@@ -7,6 +7,7 @@ use Rattle.oai_catalogue.specs.Store.{list_at, without_list}
 use Rattle.oai_catalogue.proofs.ListsLemmas.{stands-with, without_with}
 use Rattle.oai_lists.specs.OpenLists.{opened_list, with_opened}
 use Rattle.oai_lists.specs.declared.open_lists.OpenList.{OpenList}
+use Rattle.oai_holdings.proofs.RestoreLemmas.{indexed_whole}
 use Rattle.oai_repo.specs.Fields.{open_lists_of}
 use Rattle.oai_repo.specs.Listing.{new_list, with_new_list}
 use Rattle.oai_repo.specs.State.{FrozenList}
@@ -29,7 +30,7 @@ returns-in-Ok-clause-passed g c = λ honest.
     let items : List ItemState = list_at all v in
     let chosen : List ItemState = view_selected repo all selection.filter in
     let list : FrozenList = new_list config repo.clock (view_open_lists repo table all) selection.verb selection.format.now.prefix chosen in
-    let entry : OpenList = record { number = table.next; verb = selection.verb; filter = selection.filter; version = c.in_ok-frozen.frozen; size = c.args.size; end = c.end-end.result; given = c.chunk.result; mark = None } in
+    let entry : OpenList = record { number = table.next; verb = selection.verb; filter = selection.filter; version = c.in_ok-frozen.frozen; size = c.args.size; end = c.end-end.result; given = c.chunk.result; mark = c.args.mark } in
     let frozen = rw c.version.ensures at c.in_ok-frozen.ensures.ok in
     let opened = rw c.in_ok-filter.ensures at (simp to_z-of_z at c.in-Ok.ensures.opened) in
     let open_lists = open_lists_opened repo.clock v table all entry items c.requires.ready.stands c.in_ok-frozen.ensures.unused c.end-end.ensures.later in
@@ -51,14 +52,14 @@ returns-in-Ok-clause-left g c =
     let all = g.V.Versions.lists c.args.store.now in
     let selection = c.args.selection.now in
     let v = repo.index.now.version in
-    let entry : OpenList = record { number = table.next; verb = selection.verb; filter = selection.filter; version = c.in_ok-frozen.frozen; size = c.args.size; end = c.end-end.result; given = c.chunk.result; mark = None } in
+    let entry : OpenList = record { number = table.next; verb = selection.verb; filter = selection.filter; version = c.in_ok-frozen.frozen; size = c.args.size; end = c.end-end.result; given = c.chunk.result; mark = c.args.mark } in
     let frozen = rw c.version.ensures at c.in_ok-frozen.ensures.ok in
     let opened = rw c.in_ok-filter.ensures at (simp to_z-of_z at c.in-Ok.ensures.opened) in
     record {
       left = rw (opened.2, frozen) (left_opened config repo.clock v table all entry (list_at all v) c.requires.ready.kept c.requires.ready.stands c.in_ok-frozen.ensures.unused c.end-end.ensures.last c.requires.selection.known refl (room_for_one table repo.clock opened.0));
       agrees = λ honest.
           rw (opened.2, frozen)
-          (table_agrees_opened v table all entry (list_at all v) c.requires.ready.stands c.in_ok-frozen.ensures.unused (c.requires.size honest) refl (c.requires.ready.agrees honest));
+          (table_agrees_opened v table all entry (list_at all v) c.requires.ready.stands c.in_ok-frozen.ensures.unused (c.requires.size honest) (c.requires.mark honest) (indexed_whole config repo.index.now repo.sets.now all (c.requires.ready.indexed honest)) (c.requires.ready.agrees honest));
       err = tt;
       err_lists = tt;
     }
@@ -76,7 +77,7 @@ returns-in-Err-clause-left g c =
     let all = g.V.Versions.lists c.args.store.now in
     let frozen = rw c.version.ensures at c.in_ok-frozen.ensures.ok in
     let same_lists = c.release.ensures.ok ∙ ap (without_list c.in_ok-frozen.frozen) frozen ∙ without_with c.in_ok-frozen.frozen (list_at all repo.index.now.version) all c.in_ok-frozen.ensures.unused in
-    let entry : OpenList = record { number = table.next; verb = c.args.selection.now.verb; filter = c.in_ok-filter.filter; version = c.in_ok-frozen.frozen; size = c.args.size; end = to_z w64 (of_z w64 c.end-end.result); given = c.chunk.result; mark = None } in
+    let entry : OpenList = record { number = table.next; verb = c.args.selection.now.verb; filter = c.in_ok-filter.filter; version = c.in_ok-frozen.frozen; size = c.args.size; end = to_z w64 (of_z w64 c.end-end.result); given = c.chunk.result; mark = c.args.mark } in
     let same_table = opening_failed table (to_z w64 (of_z w64 repo.clock)) entry c.in-Err.field-0 c.open.new.self c.in-Err.ensures.opened in
     record {
       left = rw (same_table, same_lists) (left_same_table repo.config.now repo.clock repo.index.now.version table all c.requires.ready.kept c.requires.ready.stands);
@@ -102,7 +103,7 @@ returns-in-Ok-clause-begun g c =
     let table = c.args.lists.now in
     let selection = c.args.selection.now in
     let opened = rw c.in_ok-filter.ensures at (simp to_z-of_z at c.in-Ok.ensures.opened) in
-    let made : ℤ → ℕ → OpenList = λ end given. opened_list table.next (record { verb = selection.verb; filter = selection.filter; version = c.in_ok-frozen.frozen; size = c.args.size; end = end; given = given }) in
+    let made : ℤ → ℕ → OpenList = λ end given. opened_list table.next (record { verb = selection.verb; filter = selection.filter; version = c.in_ok-frozen.frozen; size = c.args.size; end = end; given = given; mark = c.args.mark }) in
     record {
       version = c.in_ok-frozen.frozen;
       unused = c.in_ok-frozen.ensures.unused;

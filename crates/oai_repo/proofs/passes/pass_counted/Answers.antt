@@ -1,5 +1,5 @@
 -- How many items are selected says whether a list begins.
-use Rattle.std.proofs.Common.{◌≡◌, ◌∙◌, ◌<◌, ◌≤◌, List, Some, None, Err, IsTrue, sym, ap, length, FitsSigned, w64}
+use Rattle.std.proofs.Common.{◌≡◌, ◌∙◌, ◌<◌, ◌≤◌, List, Some, None, Err, IsTrue, refl, sym, ap, length, FitsSigned, w64}
 use Rattle.std.proofs.lemmas.Int.{to_z-of_z}
 use Rattle.oai_item.specs.Item.{ItemState}
 use Rattle.oai_lists.specs.OpenLists.{number_or_fault, open_fault}
@@ -19,6 +19,9 @@ returns-then-size-chunk-clause-passed g c = λ honest.
     let chosen : List ItemState = view_selected repo all selection.filter in
     let few : length chosen ≤ repo.config.now.chunk = rw (c.chunk.ensures.chunk, c.requires.size honest) at c.if-size-chunk.true in
     sym (selection_few repo.config.now repo.clock (view_open_lists repo c.args.lists.now all) selection.verb selection.format.now chosen few)
+
+pub start_unread-requires-clause-mark : goal.start_unread-requires-clause-mark
+start_unread-requires-clause-mark g c = λ honest. refl
 
 pub returns-in-Ok-clause-passed : goal.returns-in-Ok-clause-passed
 returns-in-Ok-clause-passed g c =

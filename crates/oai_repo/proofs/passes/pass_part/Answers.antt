@@ -6,7 +6,7 @@ use Rattle.oai_lists.specs.Tokens.{token_of}
 use Rattle.oai_repo.specs.Fields.{frozen_in, is_counted, open_lists_of}
 use Rattle.oai_repo.specs.Listing.{Response, with_carried_on}
 use Rattle.oai_repo.specs.State.{OpenLists}
-use Rattle.oai_repo.proofs.OpenListLemmas.{all_true, left_kept, left_same_table, numbered_there, open_lists_kept, open_parts, table_agrees_kept}
+use Rattle.oai_repo.proofs.OpenListLemmas.{all_true, left_kept, left_same_table, open_lists_kept, open_parts, table_agrees_kept}
 use Rattle.oai_repo.proofs.ClockLemmas.{years_fit}
 use Rattle.oai_repo.proofs.PassLemmas.{next_by_size}
 use Rattle.oai_repo.proofs.TokenLemmas.{goes_on, stops, token_found, valid_within}
@@ -20,12 +20,7 @@ next_cursor-next-requires c =
     record { within = ltb-true c.in-Some.cursor list.size (valid_within c.chunk_of-chunk.result list.size list.given c.in-Some.cursor found.2.valid) }
 
 pub carry_on-requires : goal.carry_on-requires
-carry_on-requires c =
-    let fits_now : FitsSigned w64 c.args.repo.now.clock = years_fit c.args.repo.now.clock c.requires.dated in
-    let found = token_found c.args.repo.now.clock c.chunk_of-chunk.result c.args.verb c.args.lists.now.lists (token_of c.args.token.now) c.in-Some.list.now c.in-Some.cursor (simp to_z-of_z at c.in-Some.ensures.found) in
-    let lists = c.args.lists.now.lists in
-    let parts = open_parts found.0.list c.args.repo.now.clock (λ _. true) lists c.in-Some.list.now found.2.there (all_true lists) in
-    record { held = rw parts.0 (numbered_there found.0.list c.args.repo.now.clock lists c.in-Some.list.now found.2.there) }
+carry_on-requires c = ap is_some c.in-Some.ensures.placed
 
 pub returns-in_default-clause-passed : goal.returns-in_default-clause-passed
 returns-in_default-clause-passed c = λ all agrees.
@@ -54,7 +49,7 @@ returns-clause-passed c = λ all agrees.
     let opened = rw (sym there.0) at token.2.there in
     let next = rw c.chunk_of-chunk.ensures.chunk at c.next_cursor-next.ensures in
     let behind = next ∙ next_by_size config (frozen_in all list) list.size cursor (eqb-true list.size _ there.2) in
-    let kept = simp to_z-of_z at c.carry_on.ensures in
+    let kept = simp to_z-of_z at (c.carry_on.ensures list c.in-Some.ensures.placed) in
     rw kept
     (open_lists_kept config repo.clock c.end.result c.next_cursor-next.result None list.number table all list c.end.ensures.end c.end.ensures.later c.in-Some.ensures.valid opened
     ∙ ap (λ (next : Option ℕ). with_carried_on config repo.clock list.number next (open_lists_of repo.clock table all)) behind
@@ -70,7 +65,7 @@ returns-clause-left c = λ all stands.
     let found = token_found repo.clock c.chunk_of-chunk.result c.args.verb table.lists (token_of c.args.token.now) list c.in-Some.cursor (simp to_z-of_z at c.in-Some.ensures.found) in
     let there = open_parts found.0.list repo.clock (λ _. true) table.lists list found.2.there (all_true table.lists) in
     let opened = rw (sym there.0) at found.2.there in
-    let kept = simp to_z-of_z at c.carry_on.ensures in
+    let kept = simp to_z-of_z at (c.carry_on.ensures list c.in-Some.ensures.placed) in
     rw kept (left_kept repo.config.now repo.clock c.end.result c.next_cursor-next.result None list.number repo.index.now.version table all c.end.ensures.last c.requires.kept stands (ap is_some opened))
 
 pub returns-clause-agrees : goal.returns-clause-agrees
@@ -83,5 +78,5 @@ returns-clause-agrees c = λ all agrees.
     let found = token_found repo.clock c.chunk_of-chunk.result c.args.verb table.lists (token_of c.args.token.now) list c.in-Some.cursor (simp to_z-of_z at c.in-Some.ensures.found) in
     let there = open_parts found.0.list repo.clock (λ _. true) table.lists list found.2.there (all_true table.lists) in
     let opened = rw (sym there.0) at found.2.there in
-    let kept = simp to_z-of_z at c.carry_on.ensures in
+    let kept = simp to_z-of_z at (c.carry_on.ensures list c.in-Some.ensures.placed) in
     rw kept (table_agrees_kept repo.clock c.end.result c.next_cursor-next.result None list.number table all list c.in-Some.ensures.valid opened refl agrees)

@@ -3,6 +3,7 @@ use Rattle.std.proofs.Common.{◌∙◌, ap, sym, refl}
 use Rattle.oai_catalogue.specs.Store.{list_at, without_list}
 use Rattle.oai_catalogue.proofs.ListsLemmas.{without_with}
 use Rattle.oai_lists.specs.declared.open_lists.OpenList.{OpenList}
+use Rattle.oai_holdings.proofs.RestoreLemmas.{indexed_whole}
 use Rattle.oai_repo.specs.Saved.{list_state, reopened_list}
 use Rattle.oai_repo.proofs.OpenListLemmas.{open_lists_reopened, put_back, table_agrees_reopened}
 use Rattle.oai_repo.proofs.ReopenLemmas.{may_parts, reopening_failed}
@@ -48,7 +49,7 @@ returns-in-Ok-clause-agrees g c = λ honest.
     let frozen = rw (c.version-2.ensures, c.count.ensures.same) at c.in_ok-frozen.ensures.ok in
     let opened = rw (c.reopened.ensures, c.in_ok-filter.ensures) at c.in-Ok.ensures.reopened in
     let size = rw c.version.ensures at (c.in_ok-size.ensures.number honest) in
-    rw (opened.1, frozen) (table_agrees_reopened v table all entry (list_at all v) c.requires.ready.stands unused size refl (c.requires.ready.agrees honest))
+    rw (opened.1, frozen) (table_agrees_reopened v table all entry (list_at all v) c.requires.ready.stands unused size refl (indexed_whole repo.config.now repo.index.now repo.sets.now all (c.requires.ready.indexed honest)) (c.requires.ready.agrees honest))
 
 pub returns-in-Err-clause-agrees : goal.returns-in-Err-clause-agrees
 returns-in-Err-clause-agrees g c = λ honest.

@@ -8,7 +8,7 @@ use Rattle.oai_repo.specs.Fields.{frozen_in, has, is_counted, is_marked, open_li
 use Rattle.oai_repo.specs.Listing.{prolonged, with_carried_on}
 use Rattle.oai_repo.specs.declared.responses.Replay.TheVariants.{Request, Tick}
 use Rattle.oai_repo.specs.Tables.{is_of_known_format}
-use Rattle.oai_repo.proofs.OpenListLemmas.{all_true, open_lists_kept, table_agrees_kept, left_kept, numbered_there, open_parts}
+use Rattle.oai_repo.proofs.OpenListLemmas.{all_true, open_lists_kept, table_agrees_kept, left_kept, open_parts}
 use Rattle.oai_repo.proofs.ClockLemmas.{years_fit}
 use Rattle.oai_repo.proofs.NumberLemmas.{some_true, used_at}
 use Rattle.oai_repo.proofs.TokenLemmas.{goes_on, records_continued, stops, token_found, valid_within}
@@ -39,12 +39,7 @@ reply_from-requires-clause-list g c =
     }
 
 pub carry_on-requires : goal.carry_on-requires
-carry_on-requires g c =
-    let fits_now : FitsSigned w64 c.args.repo.now.clock = years_fit c.args.repo.now.clock c.requires.ready.dated in
-    let found = token_found c.args.repo.now.clock c.chunk_of-chunk.result c.args.verb c.args.lists.now.lists (token_of c.args.token.now) c.in-Some.list.now c.in-Some.cursor (simp to_z-of_z at c.in-Some.ensures.found) in
-    let lists = c.args.lists.now.lists in
-    let parts = open_parts found.0.list c.args.repo.now.clock (λ _. true) lists c.in-Some.list.now found.2.there (all_true lists) in
-    record { held = rw parts.0 (numbered_there found.0.list c.args.repo.now.clock lists c.in-Some.list.now found.2.there) }
+carry_on-requires g c = ap is_some c.in-Some.ensures.placed
 
 pub returns-in_default-clause-reply : goal.returns-in_default-clause-reply
 returns-in_default-clause-reply g c = λ honest.
@@ -76,11 +71,11 @@ returns-clause-reply g c = λ honest.
     open_lists_kept config repo.clock c.end.result part.next part.mark list.number table all list c.end.ensures.end c.end.ensures.later c.in-Some.ensures.valid opened
     ∙ ap (λ (next : Option ℕ). with_carried_on config repo.clock list.number next (open_lists_of repo.clock table all)) (c.in_ok-part.ensures.next honest)
     in
-    let kept = simp to_z-of_z at c.carry_on.ensures in
+    let kept = simp to_z-of_z at (c.carry_on.ensures list c.in-Some.ensures.placed) in
     let known = (open_parts token.0.list repo.clock (is_of_known_format config) table.lists list token.2.there c.requires.ready.kept.known).2 in
     let is_part = part_continued config c.args.verb _ (prolonged config repo.clock (frozen_in all list)) c.in-Some.cursor known (records_continued list.verb c.args.verb token.2.right) in
     rw c.with_part.ensures
-    (reply_as repo (attributes_of repo.asked) _ _ (record { reply = part.reply; replay = Request }) c.carry_on.new.lists (g.V.Versions.lists c.reply_from.new.store) on
+    (reply_as repo (attributes_of repo.asked) _ _ (record { reply = part.reply; replay = Request }) c.carry_on.new.self (g.V.Versions.lists c.reply_from.new.store) on
     (rw (kept, c.reply_from.ensures.reads.same) ((record { written = c.in_ok-part.ensures.reply honest; part = sym is_part; open_lists = left }))))
 
 pub returns-clause-left : goal.returns-clause-left
@@ -96,7 +91,7 @@ returns-clause-left g c =
     let found = token_found repo.clock c.chunk_of-chunk.result c.args.verb table.lists (token_of c.args.token.now) list c.in-Some.cursor (simp to_z-of_z at c.in-Some.ensures.found) in
     let there = open_parts found.0.list repo.clock (λ _. true) table.lists list found.2.there (all_true table.lists) in
     let opened = rw (sym there.0) at found.2.there in
-    let kept = simp to_z-of_z at c.carry_on.ensures in
+    let kept = simp to_z-of_z at (c.carry_on.ensures list c.in-Some.ensures.placed) in
     record {
       left =
           rw (kept, c.reply_from.ensures.reads.same)

@@ -1,6 +1,9 @@
 use Rattle.oai_snapshots.proofs.PassingLemmas.{apart_left, holds_kept}
-use Rattle.oai_snapshots.proofs.SnapshotLemmas.{batch_comes, batch_goes, snapshot_kept, snapshot_restored, snapshot_taken}
+use Rattle.oai_snapshots.proofs.SnapshotLemmas.{batch_comes, batch_goes, snapshot_kept, snapshot_restored, snapshot_taken, stored_whole}
 use Rattle.oai_snapshots.proofs.laws.snapshot_law.Goals as goal
+
+pub returns-clause-whole : goal.returns-clause-whole
+returns-clause-whole c = stored_whole
 
 pub returns-clause-taken : goal.returns-clause-taken
 returns-clause-taken c = snapshot_taken

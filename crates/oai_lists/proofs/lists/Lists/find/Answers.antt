@@ -1,10 +1,12 @@
-use Rattle.std.proofs.Common.{rules, ◌≡◌, ◌∙◌, ◌<ℤ◌, ◌≤ℤ◌, FitsSigned, List, None, Some, ap, arith, cond, get_or, is_some, sym, w64}
+use Rattle.std.proofs.Common.{rules, ◌≡◌, ◌∙◌, ◌<ℤ◌, ◌≤ℤ◌, FitsSigned, List, None, Some, ap, arith, cond, get_or, length, refl, sym, w64}
+use Rattle.std.specs.Prelude.{slice_get}
 use Rattle.std.proofs.lemmas.Bool.{cond-true, cond-false}
 use Rattle.std.proofs.lemmas.Int.{ints}
+use Rattle.std.proofs.lemmas.Option.{slice_get_read}
 use Rattle.oai_lists.specs.HeldTable.{IsListPlace, no_list_numbered}
-use Rattle.oai_lists.specs.OpenLists.{Table, is_open, list_numbered, open_numbered}
+use Rattle.oai_lists.specs.OpenLists.{Table, is_open, open_numbered}
 use Rattle.oai_lists.specs.declared.open_lists.OpenList.{OpenList}
-use Rattle.oai_lists.proofs.Tables.{list_numbered-placed, open_numbered-none, open_numbered-placed}
+use Rattle.oai_lists.proofs.Tables.{open_numbered-none, open_numbered-placed}
 use Rattle.oai_lists.proofs.Ends.{closed_test, open_test}
 use Rattle.oai_lists.proofs.lists.Lists.find.Goals as goal
 
@@ -42,9 +44,9 @@ returns-in-None-clause-found c =
     let none : no_list_numbered c.args.number items = rw c.as_slice.ensures.value at c.in-None.ensures in
     sym (ap (λ (t : Table). open_numbered c.args.number c.args.now t.lists) (sym c.self.view_is) ∙ open_numbered-none c.args.number c.args.now items none)
 
-pub returns-then-now-list-clause-held : goal.returns-then-now-list-clause-held
-returns-then-now-list-clause-held c =
+pub returns-then-now-list-clause-placed : goal.returns-then-now-list-clause-placed
+returns-then-now-list-clause-placed c =
     let items : List OpenList = c.self.inside.lists.items in
     let x : OpenList = c.index-list.result.now in
     let place : IsListPlace c.args.number items (Some c.in-Some.at) = rw c.as_slice.ensures.value at c.in-Some.ensures in
-    ap (λ (t : Table). is_some (list_numbered c.args.number t.lists)) (sym c.self.view_is) ∙ ap is_some (list_numbered-placed c.args.number items c.in-Some.at x place)
+    ap (λ (t : Table). slice_get t.lists c.in-Some.at) (sym c.self.view_is) ∙ slice_get_read items (length items) c.in-Some.at x refl place.0 c.index-list.ensures

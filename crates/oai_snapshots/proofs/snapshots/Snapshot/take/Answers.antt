@@ -3,10 +3,11 @@ use Rattle.std.proofs.Common.{FitsSigned, of_z, rules, to_z, w64, ◌≡◌, ◌
 use Rattle.std.specs.List.{list_all}
 use Rattle.std.proofs.lemmas.Int.{to_z-of_z}
 use Rattle.oai_catalogue.specs.Store.{VersionLists, list_at}
+use Rattle.oai_holdings.specs.Index.{are_whole}
 use Rattle.oai_repo.specs.Fields.{RepoFields, numbers_of}
-use Rattle.oai_snapshots.specs.Snapshots.{are_whole}
 use Rattle.oai_snapshots.specs.Taking.{HasFrozen, are_in_use, sources_of}
 use Rattle.oai_snapshots.specs.declared.versions.SnapshotVersion.{SnapshotVersion}
+use Rattle.oai_snapshots.proofs.SnapshotLemmas.{stored_whole}
 use Rattle.oai_snapshots.proofs.TakingLemmas.{all_copies, all_of_repo, frozen_repo, taken_apart}
 use Rattle.oai_snapshots.proofs.snapshots.Snapshot.take.Goals as goal
 
@@ -36,9 +37,6 @@ returns-clause-taken g c =
       frozen = frozen_repo repo before versions after frozen.copies;
     }
 
-pub returns-clause-stands : goal.returns-clause-stands
-returns-clause-stands g c = c.in_ok-versions.ensures.frozen.stands
-
 pub returns-clause-whole : goal.returns-clause-whole
 returns-clause-whole g c whole =
     let repo : RepoFields = c.args.repo.now in
@@ -48,6 +46,12 @@ returns-clause-whole g c whole =
     let sources : list_all (λ (s : SnapshotVersion). are_whole (list_at before s.version)) c.in_ok-sources.sources.items ≡ true =
     ap (list_all (λ (s : SnapshotVersion). are_whole (list_at before s.version))) c.in_ok-sources.ensures ∙ all_of_repo (λ v. are_whole (list_at before v)) repo whole in
     all_copies are_whole c.in_ok-sources.sources.items before versions after sources c.in_ok-versions.ensures.frozen.copies
+
+pub returns-clause-holds : goal.returns-clause-holds
+returns-clause-holds g c = record {
+  stands = c.in_ok-versions.ensures.frozen.stands;
+  whole = λ honest. returns-clause-whole g c (stored_whole c.args.repo.now (g.V.Versions.lists c.args.store.now) (c.requires.held honest));
+}
 
 pub returns-clause-others : goal.returns-clause-others
 returns-clause-others g c = c.in_ok-versions.ensures.frozen.others
