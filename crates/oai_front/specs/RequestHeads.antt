@@ -9,7 +9,7 @@ use Rattle.oai_front.specs.declared.request_heads.HeadParse.{HeadParse}
 use Rattle.oai_front.specs.declared.request_heads.HeadParse.TheVariants.{Unknown, Fault, Whole}
 use Rattle.oai_front.specs.declared.request_heads.Head.{Head}
 use Rattle.oai_front.specs.declared.request_heads.TheConstants.{MAX_HEAD_BYTES}
-use Rattle.oai_http.specs.Targets.{endpoint_of}
+use Rattle.oai_http.specs.Targets.{parsed_path}
 use Rattle.oai_http.specs.declared.statuses.Status.TheVariants.{BadRequest}
 use Rattle.oai_front.specs.declared.framings.Framing.TheVariants.{Body}
 
@@ -24,7 +24,7 @@ pub record IsHead (bytes : List ℕ) (kept : Head) : Type 0 where
   pub method : span_bytes bytes kept.method ≡ head.method
   pub target_in : IsWithin (length bytes) kept.target
   pub target : span_bytes bytes kept.target ≡ head.target
-  pub endpoint : kept.endpoint ≡ endpoint_of head.target
+  pub path : kept.path ≡ parsed_path head.target
   pub type_in : IfSome kept.content_type (IsWithin (length bytes))
   pub content_type : option_map (span_bytes bytes) kept.content_type
       ≡ first_value (values_named (codes "Content-Type") (head_fields head))

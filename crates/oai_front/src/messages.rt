@@ -3,7 +3,6 @@ ghost use Rattle.std.specs.List.{concat};
 ghost use Rattle.std.specs.Option.{option_copied, option_map};
 ghost use Rattle.httparse.specs.Spans.{IsWithin, span_bytes};
 ghost use Rattle.oai_http.specs.Exchanges.{asked_by};
-ghost use Rattle.oai_http.specs.Targets.{endpoint_of};
 ghost use Rattle.oai_front.specs.Queues.{AreFilled, IsTaken};
 ghost use Rattle.oai_front.specs.RequestHeads.{IsHead};
 ghost use Rattle.oai_front.specs.Pipelining.{IsRemainder, IsNext, behind_message, message_behind};
@@ -12,7 +11,7 @@ ghost use Rattle.oai_front.specs.Pipelining as spec;
 use crate::queues::{perform_message, put_fault};
 use crate::request_heads::{Head, HeadParse, read_head};
 use httparse::spans::Span;
-use oai_http::{Exchange, Handler, Status};
+use oai_http::{Exchange, Handler, Status, Target};
 use oai_names::Sequence;
 use std::alloc::Global;
 use std::collections::VecDeque;
@@ -35,7 +34,8 @@ pub enum Left {
     Waiting(usize, Option<Head>),
     /// Nothing: the connection is closed.
     Nothing,
-    /// After that many bytes, what could not be answered for lack of memory, with its head if that is complete.
+    /// After that many bytes, what was not answered: for lack of memory, or since another message was answered before it
+    /// in the same turn. With its head if that is complete.
     Refused(usize, Option<Head>),
 }
 
@@ -70,7 +70,7 @@ pub(crate) fn perform_all<H: Handler>(
             }
             Next::Message(head) => {
                 let exchange = exchange_of(rest, &head);
-                match perform_message(alloc, handler, moment, &exchange, &head, queue) {
+                match perform_message(alloc, handler, moment, &exchange, head.last, queue) {
                     Ok(()) => {}
                     Err(_) => return Left::Refused(bytes.len() - rest.len(), Some(head)),
                 }
@@ -109,7 +109,7 @@ pub(crate) fn perform_first<H: Handler>(
         },
         Next::Message(head) => {
             let exchange = exchange_of(bytes, &head);
-            match perform_message(alloc, handler, moment, &exchange, &head, queue) {
+            match perform_message(alloc, handler, moment, &exchange, head.last, queue) {
                 Ok(()) => {}
                 Err(_) => return Left::Refused(0, Some(head)),
             }
@@ -182,11 +182,10 @@ fn exchange_of<'b>(bytes: &'b [u8], head: &Head) -> Exchange<'b>
     requires head { IsHead bytes.now head.now }
     requires whole { head.now.size ≤ length (drop head.now.start bytes.now) }
     ensures asked { asked_by result ≡ message_behind bytes.now head.now }
-    ensures endpoint { head.now.endpoint ≡ endpoint_of result.target.now }
 {
     Exchange {
         method: head.method.of(bytes),
-        target: head.target.of(bytes),
+        target: Target::parsed(head.target.of(bytes), head.path),
         content_type: part_of(bytes, head.content_type),
         authorization: part_of(bytes, head.authorization),
         body: &behind_head(bytes, head)[..head.size],

@@ -4,33 +4,30 @@ ghost use Rattle.std.specs.VecDeque.{deque_capacity, deque_len};
 ghost use Rattle.oai_http.specs.declared.exchanges.Answer.{Answer as Given};
 ghost use Rattle.oai_front.specs.Heads.{answer_bytes, fault_bytes};
 ghost use Rattle.oai_http.specs.Exchanges.{asked_by};
-ghost use Rattle.oai_http.specs.Targets.{endpoint_of};
 ghost use Rattle.oai_front.specs.Connections.{IsFrontOf};
 ghost use Rattle.oai_front.specs.Queues.{AreFilled, IsTaken};
 ghost use Rattle.oai_front.specs.Queues as spec;
 
 use crate::heads::{AnswerHead, HEAD_ROOM, write_head};
-use crate::request_heads::Head;
-use oai_http::{Answer, Exchange, Handler, Status};
+use oai_http::{Answer, Exchange, Handler, Status, Target};
 use oai_names::Sequence;
 use std::alloc::{AllocError, Global};
 use std::collections::VecDeque;
 
-/// Performs a message with that head and appends its answer to the output. Space for the answer's head, and in the
-/// queue, is reserved before the message is performed; the body is moved, not copied. The error is out of memory;
-/// nothing was performed then.
+/// Performs a message, which may be the `last` of its connection, and appends its answer to the output. Space for the
+/// answer's head, and in the queue, is reserved before the message is performed; the body is moved, not copied. The
+/// error is out of memory; nothing was performed then.
 pub(crate) fn perform_message<H: Handler>(
     alloc: Global,
     handler: &mut H,
     moment: i64,
     exchange: &Exchange<'_>,
-    head: &Head,
+    last: bool,
     queue: &mut VecDeque<Sequence<u8>>,
 ) -> Result<(), AllocError>
-    requires endpoint { head.now.endpoint ≡ endpoint_of exchange.now.target.now }
-    requires filled { AreFilled queue.old.items }
+    requires { AreFilled queue.old.items }
     ensures ok { OnOk result ((answer : Given) × H.step handler.old moment (asked_by exchange.now) answer handler.new
-        × (concat queue.new.items ≡ concat queue.old.items ++ answer_bytes exchange.now.target.now head.now.last answer)) }
+        × (concat queue.new.items ≡ concat queue.old.items ++ answer_bytes exchange.now.target last answer)) }
     ensures err { OnErr result ((handler.new ≡ handler.old) × (queue.new.items ≡ queue.old.items)) }
     ensures filled { AreFilled queue.new.items }
     ensures taken { (taken : ℕ) → IsTaken taken queue.old.items → IsTaken taken queue.new.items }
@@ -38,7 +35,7 @@ pub(crate) fn perform_message<H: Handler>(
     queue.try_reserve(2)?;
     let bytes = Vec::with_capacity(alloc, HEAD_ROOM)?;
     let answer = handler.exchange(moment, exchange);
-    put_answer(head, answer, bytes, queue);
+    put_answer(&exchange.target, last, answer, bytes, queue);
     Ok(())
 }
 
@@ -70,25 +67,30 @@ pub(crate) fn put_fault(
     Ok(())
 }
 
-/// Appends the answer to a message with that head to the output, which has the capacity; the answer's own head is
-/// written into that buffer.
+/// Appends the answer to a message with that target to the output, which has the capacity; the answer's head is written
+/// into that buffer.
 #[tactic(auto, unfolding(crate::specs::Heads::answer_bytes))]
-fn put_answer(head: &Head, answer: Answer, mut bytes: Vec<u8>, queue: &mut VecDeque<Sequence<u8>>)
+fn put_answer(
+    target: &Target<'_>,
+    last: bool,
+    answer: Answer,
+    mut bytes: Vec<u8>,
+    queue: &mut VecDeque<Sequence<u8>>,
+)
     requires empty { bytes.items ≡ [] }
     requires room { HEAD_ROOM ≤ vec_capacity bytes }
     requires places { deque_len queue.old + 2 ≤ deque_capacity queue.old }
     requires filled { AreFilled queue.old.items }
-    ensures put { (target : List ℕ) → head.now.endpoint ≡ endpoint_of target
-        → concat queue.new.items ≡ concat queue.old.items ++ answer_bytes target head.now.last answer }
+    ensures put { concat queue.new.items ≡ concat queue.old.items ++ answer_bytes target.now last answer }
     ensures filled { AreFilled queue.new.items }
     ensures taken { (taken : ℕ) → IsTaken taken queue.old.items → IsTaken taken queue.new.items }
 {
     let head = AnswerHead {
-        endpoint: head.endpoint,
+        endpoint: target.endpoint(),
         status: answer.status,
         seconds: answer.seconds,
         done: answer.done,
-        last: head.last,
+        last,
         size: answer.body.as_slice().len(),
     };
     write_head(&head, &mut bytes);

@@ -6,7 +6,7 @@ use crate::fields::read_fields;
 use crate::framings::{Framing, framing_of};
 use httparse::spans::{EMPTY_HEADER_SPAN, HeaderSpan, RequestSpans, Span, parse_request};
 use httparse::{Error, Status as Parsed};
-use oai_http::{Endpoint, Status, endpoint_of};
+use oai_http::{Status, TargetPath, parse_path};
 
 /// The maximum length of a head, in bytes. Empty lines before it count.
 pub const MAX_HEAD_BYTES: usize = 16_384;
@@ -21,8 +21,8 @@ pub struct Head {
     pub method: Span,
     /// The target.
     pub target: Span,
-    /// The endpoint of the target.
-    pub endpoint: Option<Endpoint>,
+    /// What was parsed of the target.
+    pub path: TargetPath,
     /// The value of the first field Content-Type, if there is one.
     pub content_type: Option<Span>,
     /// The value of the first field Authorization, if there is one.
@@ -101,13 +101,13 @@ fn kept_of(bytes: &[u8], spans: &RequestSpans, headers: &[HeaderSpan]) -> HeadPa
     ensures { IsHeadResult bytes.now result }
 {
     let fields = read_fields(bytes, &headers[..spans.headers]);
-    let endpoint = endpoint_of(spans.path.of(bytes));
-    match framing_of(bytes, spans.version, endpoint, &fields) {
+    let path = parse_path(spans.path.of(bytes));
+    match framing_of(bytes, spans.version, path.endpoint, &fields) {
         Framing::Refused(status) => HeadParse::Fault(status),
         Framing::Body(size, last) => HeadParse::Whole(Head {
             method: spans.method,
             target: spans.path,
-            endpoint,
+            path,
             content_type: fields.content_type.first,
             authorization: fields.authorization.first,
             start: spans.len,

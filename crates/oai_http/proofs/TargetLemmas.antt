@@ -1,8 +1,9 @@
 -- Where targets lead.
-use Rattle.std.proofs.Common.{◌≡◌, ◌∙◌, inl, inr, ℕ, Bool, true, false, ◌||◌, List, [], ◌∷◌, ◌++◌, Some, refl, sym, ap}
+use Rattle.std.proofs.Common.{◌≡◌, ◌∙◌, ◌⊎◌, ◌≤◌, ◌+◌, ◌-◌, inl, inr, ℕ, Bool, true, false, ◌||◌, List, [], ◌∷◌, ◌++◌, None, Some, arith, cond, drop, length, refl, subst, sym, take, ap}
 use Rattle.std.specs.Str.{bytes_eq}
 use Rattle.std.proofs.lemmas.Bool.{and_from, and_parts, cases_Bool, eq-eqb, eqb-true, false≢true, false_from_ne_true, or_from, or_left}
-use Rattle.oai_http.specs.Targets.{endpoint_at, endpoint_of, front_of, leads_to, leads_to_repository, path_of}
+use Rattle.std.proofs.lemmas.List.{drop-take, length-append, length-take, take-append-drop}
+use Rattle.oai_http.specs.Targets.{endpoint_at, endpoint_of, front_of, leads_to, leads_to_repository, path_len, path_of}
 use Rattle.oai_http.specs.declared.targets.Endpoint.{Endpoint}
 use Rattle.oai_http.specs.declared.targets.Endpoint.TheVariants.{Deposits, Requests}
 
@@ -74,3 +75,31 @@ one_leads one other target first second =
       | inl same ↦ bytes_equal one other same
       | inr apart ↦ clash (leads_to_repository other target) second (leads_not by.0 one other target by.1 apart)
     ]
+
+-- ---- the name behind the front
+
+one_of : (requests deposits : Bool) (endpoint : Endpoint) → cond requests (Some Requests) (cond deposits (Some Deposits) None) ≡ Some endpoint
+    → ((requests ≡ true) × (endpoint ≡ Requests)) ⊎ ((deposits ≡ true) × (endpoint ≡ Deposits))
+one_of true deposits endpoint at = let same : endpoint ≡ Requests = cc in inl (refl, same)
+one_of false true endpoint at = let same : endpoint ≡ Deposits = cc in inr (refl, same)
+one_of false false endpoint at = absurd cc
+
+behind : (n : ℕ) (front path : List ℕ) → bytes_eq (take n path) front ≡ true → path ≡ front ++ drop n path
+behind n front path begins = sym (take-append-drop n path) ∙ ap (λ (xs : List ℕ). xs ++ drop n path) (bytes_equal (take n path) front begins)
+
+front_there : (endpoint : Endpoint) (path : List ℕ) → endpoint_at path ≡ Some endpoint → path ≡ front_of endpoint ++ drop (length (front_of endpoint)) path
+front_there endpoint path at = elim (one_of (bytes_eq (take 5 path) (front_of Requests)) (bytes_eq (take 9 path) (front_of Deposits)) endpoint at) [
+  | inl one ↦ subst (λ (e : Endpoint). path ≡ front_of e ++ drop (length (front_of e)) path) (sym one.1) (behind 5 (front_of Requests) path one.0)
+  | inr one ↦ subst (λ (e : Endpoint). path ≡ front_of e ++ drop (length (front_of e)) path) (sym one.1) (behind 9 (front_of Deposits) path one.0)
+]
+
+pub name_end : (endpoint : Endpoint) (target : List ℕ) (n p : ℕ) → n ≡ length (front_of endpoint) → p ≡ path_len target → endpoint_of target ≡ Some endpoint
+    → path_of target ≡ front_of endpoint ++ take (p - n) (drop n target)
+name_end endpoint target n p long ends at =
+    let path : List ℕ = take p target in
+    let same : path_of target ≡ path = ap (λ (k : ℕ). take k target) (sym ends) in
+    let there : path ≡ front_of endpoint ++ drop n path =
+    subst (λ (k : ℕ). path ≡ front_of endpoint ++ drop k path) (sym long) (front_there endpoint path (ap endpoint_at (sym same) ∙ at)) in
+    let fits : n ≤ p = omega (arith, long, ap (λ (xs : List ℕ). length xs) there, length-append (front_of endpoint) (drop n path), length-take p target) in
+    let sum : n + (p - n) ≡ p = omega (arith, fits) in
+    same ∙ there ∙ ap (λ (xs : List ℕ). front_of endpoint ++ xs) (ap (λ (k : ℕ). drop n (take k target)) (sym sum) ∙ drop-take n (p - n) target)

@@ -17,7 +17,7 @@ pub record Asked : Type 0 where
 abbrev pub asked_by : Exchange → Asked
 asked_by exchange = record {
   method = exchange.method.now;
-  target = exchange.target.now;
+  target = exchange.target;
   content_type = option_copied exchange.content_type;
   authorization = option_copied exchange.authorization;
   body = exchange.body.now;
@@ -38,7 +38,7 @@ abbrev pub call_of : ℤ → Exchange → Call
 call_of moment exchange = record {
   moment = moment;
   method = exchange.method.now;
-  target = exchange.target.now;
+  target = exchange.target;
   content_type = option_copied exchange.content_type;
   body = exchange.body.now;
 }

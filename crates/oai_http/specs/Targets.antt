@@ -1,10 +1,11 @@
 -- The endpoint of a target: RFC 3986, sections 3.3 and 3.4; RFC 9112, section 3.2.1. The two paths of a repository are
 -- this repository's own.
 use Rattle.std.specs.Prelude.{ℕ, Bool, ◌==◌, ◌||◌, if◌then◌else◌, List, ◌++◌, take, codes, Option, None, Some}
-use Rattle.std.specs.List.{after_first, before_first}
+use Rattle.std.specs.List.{after_first, before_first, position_or_len}
 use Rattle.std.specs.Str.{bytes_eq}
 use Rattle.oai_http.specs.declared.targets.Endpoint.{Endpoint}
 use Rattle.oai_http.specs.declared.targets.Endpoint.TheVariants.{Deposits, Requests}
+use Rattle.oai_http.specs.declared.targets.TargetPath.{TargetPath}
 
 -- the byte is `?`
 abbrev pub is_question_mark : ℕ → Bool
@@ -37,6 +38,13 @@ endpoint_at path =
 -- the endpoint of a target, by how its path begins
 abbrev pub endpoint_of : List ℕ → Option Endpoint
 endpoint_of target = endpoint_at (path_of target)
+
+-- what is parsed of a target: its endpoint, and the length of its path
+abbrev pub path_len : List ℕ → ℕ
+path_len target = position_or_len is_question_mark target
+
+abbrev pub parsed_path : List ℕ → TargetPath
+parsed_path target = record { endpoint = endpoint_of target; len = path_len target }
 
 -- the path of the target is that of the repository's requests, or of its deposits
 abbrev pub leads_to : Endpoint → List ℕ → List ℕ → Bool

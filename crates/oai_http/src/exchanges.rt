@@ -4,6 +4,7 @@ ghost use Rattle.oai_http.specs.Answers as spec;
 ghost use Rattle.oai_http.specs.Exchanges.{call_of};
 
 use crate::statuses::Status;
+use crate::targets::Target;
 use oai_item::Fault;
 use oai_names::Sequence;
 use std::alloc::Global;
@@ -12,12 +13,12 @@ use std::alloc::Global;
 const ROOM_SECONDS: i64 = 60;
 
 /// A message, without the moment at which it comes.
-#[derive(Clone, Copy, Debug)]
+#[derive(Debug, Drop)]
 pub struct Exchange<'a> {
     /// The method, such as `GET`.
     pub method: &'a [u8],
-    /// The target, such as `/oai/a?verb=Identify`.
-    pub target: &'a [u8],
+    /// The target, such as `/oai/a?verb=Identify`, with what was parsed of it.
+    pub target: Target<'a>,
     /// The value of the field Content-Type, if there is one.
     pub content_type: Option<&'a [u8]>,
     /// The value of the field Authorization, if there is one (RFC 9110, section 11.6.2).
@@ -65,7 +66,7 @@ impl Call {
     {
         Exchange {
             method: self.method.as_slice(),
-            target: self.target.as_slice(),
+            target: Target::new(self.target.as_slice()),
             content_type: match &self.content_type {
                 Some(value) => Some(value.as_slice()),
                 None => None,

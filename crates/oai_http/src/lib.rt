@@ -16,7 +16,6 @@ pub use exchanges::{Answer, Call, Exchange};
 pub use handlers::{Handler, SettleFault, Settled};
 pub use statuses::Status;
 pub use targets::{
-    DEPOSITS_FRONT, Endpoint, REQUESTS_FRONT, endpoint_of, is_rooted, named, path_law, path_of,
-    query_of,
+    DEPOSITS_FRONT, Endpoint, REQUESTS_FRONT, Target, TargetPath, parse_path, path_law,
 };
 pub use texts::trim;

@@ -10,7 +10,7 @@ ghost use Rattle.oai_keys.specs.declared.rings.Ring.{Ring as Held};
 
 use crate::rings::Ring;
 use crate::tokens::bearer_key;
-use oai_http::{Endpoint, Exchange, named};
+use oai_http::{Endpoint, Exchange};
 use sha2::{Digest, Sha256};
 
 /// Whether a message is admitted: for each of the rings it is no deposit into that repository (its path is not
@@ -20,7 +20,7 @@ use sha2::{Digest, Sha256};
 pub fn is_admitted(rings: &[Ring], exchange: &Exchange<'_>) -> bool
     ensures { result ≡ spec.is_admitted rings.now (asked_by exchange.now) }
 {
-    match named(exchange.target) {
+    match exchange.target.named() {
         Some((Endpoint::Deposits, name)) => may_deposit(rings, name, exchange.authorization),
         Some((Endpoint::Requests, _)) => true,
         None => true,

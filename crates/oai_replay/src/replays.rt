@@ -60,7 +60,7 @@ pub trait Replayed: Handler {
             → result.answer ≡ reply (kept self.old) (call_at moment (asked_by exchange.now)) }
         ensures name { IfSome result.performed (λ p. IsTrue (is_short_name p.name.now)) }
         ensures size { IfSome result.performed (λ p. length p.bytes.now
-            ≤ max (length exchange.now.target.now) (length exchange.now.body.now)) }
+            ≤ max (length exchange.now.target) (length exchange.now.body.now)) }
         ensures honesty { is_honest self.new ≡ is_honest self.old };
 
     /// Replays, at the moment, in seconds from 1970 on, what was performed, and makes no answer. The error is the fault

@@ -5,7 +5,7 @@ ghost use Rattle.oai_cli.specs.ExchangeLines as spec;
 
 use crate::input::spaces::has_two_spaces;
 use oai_bytes::{read_moment, split_at_space};
-use oai_http::{Exchange, FORM};
+use oai_http::{Exchange, FORM, Target};
 
 /// Parses a line: three or four parts between single spaces, of which the last extends to the end: a moment in seconds
 /// from 1970 on, a method, a target and a body; the body of a POST is a form.
@@ -24,7 +24,7 @@ pub(crate) fn parse_exchange(line: &[u8]) -> Option<(i64, Exchange<'_>)>
         moment,
         Exchange {
             method,
-            target,
+            target: Target::new(target),
             content_type: type_of(method),
             authorization: None,
             body,
