@@ -266,6 +266,6 @@ performed_name endpoint name bytes None is named = tt
 performed_name endpoint name bytes (Some p) is named = ap is_short_name is.1 ∙ short_name name named
 
 pub performed_size : (exchange : Exchange) (endpoint : Endpoint) (name : List ℕ) (bytes : Option (List ℕ)) (performed : Option Performed) → IsPerformedAt endpoint name bytes performed → IsNoLonger exchange bytes
-    → IfSome performed (λ (p : Performed). length p.bytes.now ≤ max (length exchange.target.now) (length exchange.body.now))
+    → IfSome performed (λ (p : Performed). length p.bytes.now ≤ max (length exchange.target) (length exchange.body.now))
 performed_size exchange endpoint name bytes None is within = tt
 performed_size exchange endpoint name bytes (Some p) is within = subst (λ (b : Option (List ℕ)). IsNoLonger exchange b) is.2 within

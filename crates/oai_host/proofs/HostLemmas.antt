@@ -13,14 +13,15 @@ use Rattle.oai_host.specs.Hosts.{AreSteps, HostState, IsExchanged, Repository, b
 use Rattle.oai_host.specs.Performed.{StoreState}
 use Rattle.oai_host.specs.NamedRepos.{repo_names, place_in, repositories_of}
 use Rattle.oai_settings.specs.Config.{is_repository_name}
-use Rattle.oai_http.specs.Targets.{front_of, leads_to_repository, path_of}
+use Rattle.oai_http.specs.Targets.{endpoint_of, front_of, leads_to_repository, path_of}
 use Rattle.oai_host.specs.Places.{IsRepoPlace, LeadsNowhere}
 use Rattle.oai_http.specs.declared.exchanges.Answer.{Answer}
 use Rattle.oai_http.specs.declared.exchanges.Call.{Call}
 use Rattle.oai_host.specs.declared.repositories.NamedRepo.{NamedRepo}
 use Rattle.oai_http.specs.declared.targets.Endpoint.{Endpoint}
-use Rattle.oai_http.proofs.TargetLemmas.{bytes_same, bytes_turned, clash, leads_by, leads_there}
+use Rattle.oai_http.proofs.TargetLemmas.{bytes_same, bytes_turned, clash, endpoint_is, leads_by, leads_there}
 use Rattle.oai_host.proofs.PlaceLemmas.{nothing_there, place_none, place_there, same_one}
+use Rattle.oai_host.proofs.RouteLemmas.{one_some, same_front}
 
 -- a path that is none of the two
 pub nowhere_path : (repos : List NamedRepo) (target : List ℕ) → list_all is_repository_name (repo_names repos) ≡ true → ((endpoint : Endpoint) (name : List ℕ) → is_repository_name name ≡ true → path_of target ≡ front_of endpoint ++ name → ⊥)
@@ -29,6 +30,22 @@ nowhere_path [] target named never = tt
 nowhere_path (x ∷ repos) target named never =
     let parts = and_parts (is_repository_name x.name) (list_all is_repository_name (repo_names repos)) named in
     (false_from_ne_true (leads_to_repository x.name target) (λ leads. let by = leads_by x.name target leads in never by.0 x.name parts.0 by.1), nowhere_path repos target parts.1 never)
+
+-- a target that has no endpoint
+pub nowhere_else : (repos : List NamedRepo) (target : List ℕ) → list_all is_repository_name (repo_names repos) ≡ true → endpoint_of target ≡ None → LeadsNowhere repos target
+nowhere_else repos target named none = nowhere_path repos target named (λ endpoint name is path. nothing_there endpoint (sym none ∙ endpoint_is endpoint name target path))
+
+-- a path has one endpoint, and one end
+pub one_end : (endpoint other : Endpoint) (behind name target : List ℕ) → path_of target ≡ front_of endpoint ++ behind → path_of target ≡ front_of other ++ name → behind ≡ name
+one_end endpoint other behind name target path also =
+    let same : other ≡ endpoint = one_some other endpoint (sym (endpoint_is other name target also) ∙ endpoint_is endpoint behind target path) in
+    same_front endpoint behind name (sym path ∙ also ∙ ap (λ (e : Endpoint). front_of e ++ name) same)
+
+-- one that ends with no name
+pub nowhere_behind : (repos : List NamedRepo) (endpoint : Endpoint) (behind target : List ℕ) → list_all is_repository_name (repo_names repos) ≡ true → path_of target ≡ front_of endpoint ++ behind
+    → is_repository_name behind ≡ false → LeadsNowhere repos target
+nowhere_behind repos endpoint behind target named path no_name =
+    nowhere_path repos target named (λ other name is also. clash (is_repository_name behind) (ap is_repository_name (one_end endpoint other behind name target path also) ∙ is) no_name)
 
 -- a name that none has
 nowhere_among : (repos : List NamedRepo) (target name : List ℕ) → list_all is_repository_name (repo_names repos) ≡ true → list_any (λ (one : List ℕ). bytes_eq one name) (repo_names repos) ≡ false

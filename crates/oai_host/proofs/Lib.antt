@@ -15,3 +15,4 @@ pub mod SavedLemmas
 pub mod PieceLemmas
 pub mod RestoreLemmas
 pub mod ListLemmas
+pub mod SavingLemmas

@@ -1,19 +1,13 @@
 -- The lines of a body, one after the other.
-use Rattle.std.proofs.Common.{◌≡◌, ◌∙◌, ◌++◌, ◌⊎◌, inl, inr, ◌≤◌, ◌<◌, ℕ, zero, suc, ◌+◌, ◌-◌, Bool, true, false, not, get_or, List, [], ◌∷◌, length, filter, take, drop, cond, refl, sym, ap, arith}
+use Rattle.std.proofs.Common.{◌≡◌, ◌∙◌, ◌++◌, ◌≤◌, ◌<◌, ℕ, zero, suc, ◌+◌, ◌-◌, Bool, true, false, not, get_or, List, [], ◌∷◌, length, filter, take, drop, cond, refl, subst, sym, ap, arith}
 use Rattle.std.specs.List.{All, after_first, before_first, position_or_len, slice_split}
 use Rattle.std.proofs.lemmas.List.{take_all}
-use Rattle.std.proofs.lemmas.Bool.{cond_both, eqb-true}
-use Rattle.std.proofs.lemmas.List.{get_or-take}
-use Rattle.std.proofs.lemmas.List.Splits.{length-slice_split, slice_split_at, slice_split_first, slice_split_none}
-use Rattle.std.proofs.lemmas.List.Sums.{count_by-le-length, fails_before_first, passes_at_first}
+use Rattle.std.proofs.lemmas.Bool.{cond-true, eqb-true}
+use Rattle.std.proofs.lemmas.List.{get_or-take, length-drop}
+use Rattle.std.proofs.lemmas.List.Splits.{slice_split_at, slice_split_first, slice_split_none}
+use Rattle.std.proofs.lemmas.List.Sums.{fails_before_first, passes_at_first}
 use Rattle.oai_host.specs.Bodies.{is_blank, is_line_end, lines_in}
-use Rattle.oai_host.specs.DepositLines.{AreTaken, from_line}
-
-at_most : (p : List ℕ → Bool) (xs : List (List ℕ)) → length (filter p xs) ≤ length xs
-at_most p [] = omega arith
-at_most p (x ∷ xs) =
-    let others = at_most p xs in
-    cond_both (p x) (x ∷ filter p xs) (filter p xs) (λ ys. length ys ≤ suc (length xs)) (λ _. omega (arith, others)) (λ _. omega (arith, others))
+use Rattle.oai_host.specs.DepositLines.{AreTaken, FollowsLines, from_line}
 
 from_blank : (line : List ℕ) (pieces : List (List ℕ)) → filter (λ (text : List ℕ). not (is_blank text)) (line ∷ pieces) ≡ from_line line (filter (λ (text : List ℕ). not (is_blank text)) pieces)
 from_blank line pieces = turned (is_blank line)
@@ -22,13 +16,6 @@ from_blank line pieces = turned (is_blank line)
         ≡ cond b (filter (λ (text : List ℕ). not (is_blank text)) pieces) (line ∷ filter (λ (text : List ℕ). not (is_blank text)) pieces)
     turned true = refl
     turned false = refl
-
-pub few_lines : (body : List ℕ) → length (lines_in body) ≤ length body + 1
-few_lines body =
-    let one = at_most (λ (text : List ℕ). not (is_blank text)) (slice_split is_line_end body) in
-    let all = length-slice_split is_line_end body in
-    let few = count_by-le-length is_line_end body in
-    omega (arith, one, all, few)
 
 -- a line that ends
 pub first_line : (text : List ℕ) → position_or_len is_line_end text < length text → lines_in text ≡ from_line (before_first is_line_end text) (lines_in (after_first is_line_end text))
@@ -120,7 +107,7 @@ taken_last size left others text all is =
     ∙ one_taken (is_blank text) text left others is
     ∙ ap (take left) (sym (last_line text all))
 
--- nothing more is taken: no line is left to take, or none is there
+-- nothing more is taken
 taken_none : (text : List ℕ) → AreTaken text 0 0
 taken_none [] = refl
 taken_none (b ∷ text) = none_first (lines_in (b ∷ text))
@@ -129,9 +116,46 @@ taken_none (b ∷ text) = none_first (lines_in (b ∷ text))
     none_first [] = refl
     none_first (line ∷ lines) = refl
 
-pub taken_end : (text : List ℕ) (size left : ℕ) → size ≡ 0 → (length text ≡ 0) ⊎ (left ≡ 0) → AreTaken text size left
-taken_end [] zero left is (inl none) = sym (none_taken left)
-taken_end (b ∷ text) zero left is (inl none) = absurd (omega (arith, none))
-taken_end text zero zero is (inr none) = taken_none text
-taken_end text zero (suc left) is (inr none) = absurd (omega (arith, none))
-taken_end text (suc size) left is cause = absurd (omega (arith, is))
+-- ---- what stands behind the first lines
+
+pub behind_start : (body : List ℕ) → FollowsLines body body 0
+behind_start body size more taken =
+    let none : size ≡ length body - length body + size = omega arith in
+    let all : more ≡ 0 + more = omega arith in
+    subst (λ (k : ℕ). AreTaken body k (0 + more)) none (subst (λ (k : ℕ). AreTaken body size k) all taken)
+
+pub behind_on : (body between rest : List ℕ) (n m : ℕ) → length between ≤ length body → length rest ≤ length between → FollowsLines body between n → FollowsLines between rest m → FollowsLines body rest (n + m)
+behind_on body between rest n m one two first last size more taken =
+    let sizes : length body - length between + (length between - length rest + size) ≡ length body - length rest + size = omega (arith, one, two) in
+    let counts : n + (m + more) ≡ n + m + more = omega arith in
+    subst (λ (k : ℕ). AreTaken body k (n + m + more)) sizes
+    (subst (λ (k : ℕ). AreTaken body (length body - length between + (length between - length rest + size)) k) counts (first (length between - length rest + size) (m + more) (last size more taken)))
+
+-- what stands before it are these lines
+pub behind_taken : (body rest : List ℕ) (n : ℕ) → FollowsLines body rest n → AreTaken body (length body - length rest) n
+behind_taken body rest n behind =
+    let size : length body - length rest + 0 ≡ length body - length rest = omega arith in
+    let count : n + 0 ≡ n = omega arith in
+    subst (λ (k : ℕ). AreTaken body k n) size (subst (λ (k : ℕ). AreTaken body (length body - length rest + 0) k) count (behind 0 0 (taken_none rest)))
+
+counted : (blank : Bool) (more : ℕ) → cond blank 0 1 + more ≡ cond blank more (more + 1)
+counted true more = let none : 0 + more ≡ more = omega arith in none
+counted false more = let one : 1 + more ≡ more + 1 = omega arith in one
+
+pub behind_line : (n : ℕ) (text : List ℕ) → n ≡ position_or_len is_line_end text → n < length text → FollowsLines text (drop (suc n) text) (cond (is_blank (take n text)) 0 1)
+behind_line n text at within size more taken =
+    let passed : suc n + size ≡ length text - length (drop (suc n) text) + size = omega (arith, within, length-drop (suc n) text) in
+    subst (λ (k : ℕ). AreTaken text k (cond (is_blank (take n text)) 0 1 + more)) passed
+    (taken_line n size (cond (is_blank (take n text)) 0 1 + more) more text at within (counted (is_blank (take n text)) more) taken)
+
+pub behind_last : (text : List ℕ) → position_or_len is_line_end text ≡ length text → FollowsLines text [] (cond (is_blank text) 0 1)
+behind_last text all size more taken =
+    let passed : length text + size ≡ length text - 0 + size = omega arith in
+    subst (λ (k : ℕ). AreTaken text k (cond (is_blank text) 0 1 + more)) passed (taken_last size (cond (is_blank text) 0 1 + more) more text all (counted (is_blank text) more))
+
+pub no_lines : (text : List ℕ) → length text ≡ 0 → lines_in text ≡ []
+no_lines [] none = refl
+no_lines (b ∷ text) none = absurd (omega (arith, none))
+
+pub from_empty : (line : List ℕ) (lines : List (List ℕ)) → is_blank line ≡ true → from_line line lines ≡ lines
+from_empty line lines blank = cond-true (is_blank line) lines (line ∷ lines) blank

@@ -1,7 +1,7 @@
 -- What an exchange left is what is left again by as much of it as was performed.
-use Rattle.std.proofs.Common.{◌≡◌, ◌∙◌, inl, inr, ℕ, ℤ, Bool, true, false, not, ◌&&◌, IsTrue, List, [], ◌∷◌, length, take, Option, None, Some, Result, Ok, Err, refl, sym, ap, arith}
-use Rattle.std.specs.Prelude.{OnOk}
-use Rattle.std.proofs.lemmas.Bool.{cases_Bool, cond-true, cond-false}
+use Rattle.std.proofs.Common.{◌≡◌, ◌∙◌, inl, inr, ℕ, ℤ, Bool, true, false, not, ◌&&◌, ◌==◌, ◌≤◌, IsTrue, List, [], ◌∷◌, length, take, Option, None, Some, Result, Ok, Err, refl, sym, ap, arith}
+use Rattle.std.specs.Prelude.{MatchOption, OnOk}
+use Rattle.std.proofs.lemmas.Bool.{cases_Bool, cond-true, cond-false, eqb-true}
 use Rattle.oai_item.specs.declared.faults.Fault.{Fault}
 use Rattle.oai_item.specs.declared.faults.Fault.TheVariants.{Damaged, Device, NoMemory, TooManyPages}
 use Rattle.oai_settings.specs.Config.{RepositoryConfig}
@@ -31,10 +31,10 @@ use Rattle.oai_http.specs.declared.statuses.Status.{Status}
 use Rattle.oai_host.specs.Alone.{done_alone, exchanged_alone}
 use Rattle.oai_host.specs.Answers.{IsReply, answer_of, failure, failure_in}
 use Rattle.oai_host.specs.Bodies.{lines_in}
-use Rattle.oai_host.specs.DepositLines.{AreTaken}
+use Rattle.oai_host.specs.DepositLines.{HasDone}
 use Rattle.oai_host.specs.Hosts.{AreSteps, HostState, IsExchanged, Repository, is_of_none, refused, store_of}
 use Rattle.oai_host.specs.Performed.{HasStopped, IsDone, IsPerformed, StoreState}
-use Rattle.oai_host.specs.Redone.{AreNoLonger, IsLeftBy, IsRedone, LeavesLines, arguments_to_replay, redone_at, redone_repositories, reply_all}
+use Rattle.oai_host.specs.Redone.{AreNoLonger, IsLeftBy, IsRedone, arguments_to_replay, lines_to_replay, redone_at, redone_repositories, reply_all}
 use Rattle.oai_host.specs.Tasks.{Task, asking, depositing, refusing, task_of}
 use Rattle.oai_host.proofs.DepositLemmas.{lines_exact}
 use Rattle.oai_host.proofs.RoomLemmas.{fault_told}
@@ -100,7 +100,7 @@ module _ (config : RepositoryConfig) (moment : ℤ) (task : Task) (answer : Answ
   whole_reply none = ap (λ (p : Answer × RepoState). p.0) (sym (whole_done none))
 
   -- what failed with no count of lines has left all
-  pub none_left : (fault : Fault) → answer.fault ≡ Some fault → answer.done ≡ None → after ≡ before
+  none_left : (fault : Fault) → answer.fault ≡ Some fault → answer.done ≡ None → after ≡ before
   none_left fault is none = elim performed.ended [
     | inl done ↦ never fault (sym (done_whole done) ∙ is)
     | inr stopped ↦ of_task task stopped.0 stopped.1
@@ -111,25 +111,56 @@ module _ (config : RepositoryConfig) (moment : ℤ) (task : Task) (answer : Answ
       of_task (asking arguments) f stopped = stopped.1
       of_task (depositing lines) f stopped = never stopped.0 (sym none ∙ ap (λ (a : Answer). a.done) stopped.2 ∙ failed_done f (Some stopped.0))
 
--- a deposit that failed has done its first lines
-pub lines_left : (config : RepositoryConfig) (moment : ℤ) (body : List ℕ) (answer : Answer) (before : RepoState) (old : StoreState) (after : RepoState) (new : StoreState) → IsTrue old.honest
-    → IsPerformed config moment (depositing (lines_in body)) answer before old after new → (fault : Fault) (n size : ℕ) → answer.fault ≡ Some fault → answer.done ≡ Some n → AreTaken body size n
-    → after ≡ (done_alone config before moment (depositing (lines_in (take size body)))).1
-lines_left config moment body answer before old after new honest performed fault n size is count taken = elim performed.ended [
-  | inl done ↦ never fault (sym (done_whole config moment (depositing (lines_in body)) answer before old after new honest performed done) ∙ is)
-  | inr stopped ↦
-      let part = stopped.1 in
-      let some : Some part.0 ≡ Some n = sym (failed_done stopped.0 (Some part.0)) ∙ sym (ap (λ (a : Answer). a.done) part.2) ∙ count in
-      let same : part.0 ≡ n = cc in
-      ap (λ (p : List ℕ × RepoState). p.1) (sym (lines_exact old.honest config moment (take part.0 (lines_in body)) before part.3 after honest part.4))
-      ∙ ap (λ (k : ℕ). (done_alone config before moment (depositing (take k (lines_in body)))).1) same
-      ∙ ap (λ (lines : List (List ℕ)). (done_alone config before moment (depositing lines)).1) (sym taken)
-]
+module _ (config : RepositoryConfig) (moment : ℤ) (body : List ℕ) (answer : Answer) (before : RepoState) (old : StoreState) (after : RepoState) (new : StoreState) (honest : IsTrue old.honest)
+    (performed : IsPerformed config moment (depositing (lines_in body)) answer before old after new) where
+  -- a deposit that failed has done its first lines
+  first_left : (fault : Fault) (n : ℕ) (lines : List ℕ) → answer.fault ≡ Some fault → answer.done ≡ Some n → lines_in lines ≡ take n (lines_in body)
+      → after ≡ (done_alone config before moment (depositing (lines_in lines))).1
+  first_left fault n lines is count taken = elim performed.ended [
+    | inl done ↦ never fault (sym (done_whole config moment (depositing (lines_in body)) answer before old after new honest performed done) ∙ is)
+    | inr stopped ↦
+        let part = stopped.1 in
+        let some : Some part.0 ≡ Some n = sym (failed_done stopped.0 (Some part.0)) ∙ sym (ap (λ (a : Answer). a.done) part.2) ∙ count in
+        let same : part.0 ≡ n = cc in
+        ap (λ (p : List ℕ × RepoState). p.1) (sym (lines_exact old.honest config moment (take part.0 (lines_in body)) before part.3 after honest part.4))
+        ∙ ap (λ (k : ℕ). (done_alone config before moment (depositing (take k (lines_in body)))).1) same
+        ∙ ap (λ (its : List (List ℕ)). (done_alone config before moment (depositing its)).1) (sym taken)
+  ]
 
--- no lines leave all
-pub no_lines_left : (body : List ℕ) (answer : Answer) (lines : List ℕ) → length lines ≡ 0 → LeavesLines body answer (Some lines) → LeavesLines body answer None
-no_lines_left body answer [] none left = left
-no_lines_left body answer (b ∷ lines) none left = absurd (omega (arith, none))
+  -- the lines that were done leave what the deposit did
+  done_left : (fault : Option Fault) (count : Option ℕ) (lines : List ℕ) → answer.fault ≡ fault → answer.done ≡ count
+      → MatchOption fault (lines ≡ body) (λ (f : Fault). MatchOption count (lines ≡ []) (λ (n : ℕ). lines_in lines ≡ take n (lines_in body)))
+      → after ≡ (done_alone config before moment (depositing (lines_in lines))).1
+  done_left None count lines none counts all =
+      whole_left config moment (depositing (lines_in body)) answer before old after new honest performed none
+      ∙ ap (λ (text : List ℕ). (done_alone config before moment (depositing (lines_in text))).1) (sym all)
+  done_left (Some fault) None lines is none nothing =
+      none_left config moment (depositing (lines_in body)) answer before old after new honest performed fault is none
+      ∙ ap (λ (text : List ℕ). (done_alone config before moment (depositing (lines_in text))).1) (sym nothing)
+  done_left (Some fault) (Some n) lines is count taken = first_left fault n lines is count taken
+
+  pub lines_left : (lines : List ℕ) → HasDone body answer lines → IsLeftBy config moment Deposits (lines_to_replay lines) before after
+  lines_left [] done = done_left answer.fault answer.done [] refl refl done
+  lines_left (b ∷ lines) done = done_left answer.fault answer.done (b ∷ lines) refl refl done
+
+-- a deposit that failed, and its first lines
+pub failed_lines : (body lines : List ℕ) (fault : Fault) (n : ℕ) → lines_in lines ≡ take n (lines_in body) → HasDone body (failed fault (Some n)) lines
+failed_lines body lines NoMemory n is = is
+failed_lines body lines TooManyPages n is = is
+failed_lines body lines Device n is = is
+failed_lines body lines Damaged n is = is
+
+pub lines_within : (body lines : List ℕ) → length lines ≤ length body → AreNoLonger body (lines_to_replay lines)
+lines_within body [] within = tt
+lines_within body (b ∷ lines) within = within
+
+pub no_lines : (lines : List ℕ) → (length lines == 0) ≡ true → None ≡ lines_to_replay lines
+no_lines [] none = refl
+no_lines (b ∷ lines) none = absurd (omega (arith, eqb-true _ 0 none))
+
+pub some_lines : (lines : List ℕ) → (length lines == 0) ≡ false → Some lines ≡ lines_to_replay lines
+some_lines [] some = absurd cc
+some_lines (b ∷ lines) some = refl
 
 -- ---- what of a request is to be replayed
 

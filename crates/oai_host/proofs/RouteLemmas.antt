@@ -1,17 +1,18 @@
--- Which of the two routes a path is found to match.
-use Rattle.std.proofs.Common.{◌≡◌, ◌∙◌, ◌<◌, ℕ, zero, suc, ◌+◌, ◌-◌, Bool, true, false, ◌&&◌, ◌==◌, nat_lt, List, [], ◌∷◌, ◌++◌, Option, None, Some, length, take, drop, cond, refl, sym, ap, ap₂, subst, arith, tests, ◌≤◌, ltb, codes, lit<, is_some, unwrap_or, inl, inr, le_refl, leb}
+-- The paths that the route of a repository matches.
+use Rattle.std.proofs.Common.{◌≡◌, ◌∙◌, ◌<◌, ℕ, zero, suc, ◌+◌, ◌-◌, Bool, true, false, ◌&&◌, ◌==◌, nat_lt, List, [], ◌∷◌, ◌++◌, Option, None, Some, length, take, drop, cond, refl, sym, ap, subst, arith, tests, ◌≤◌, codes, lit<, is_some, unwrap_or, le_refl, leb, Bor}
 use Rattle.std.specs.List.{list_all}
+use Rattle.std.specs.Option.{IfNone}
+use Rattle.std.specs.Prelude.{IfSome, MatchOption}
 use Rattle.std.specs.Str.{IsAscii, IsUtf8}
-use Rattle.std.proofs.lemmas.Bool.{and_from, and_parts, cases_Bool, cond-false, cond-true, eqb-true, false≢true, le-leb, lt-ltb, ltb-true}
-use Rattle.std.proofs.lemmas.List.{length-append, take_all}
-use Rattle.std.proofs.Math.Seq.{drop-append_seam}
-use Rattle.std.proofs.lemmas.Str.{IsUtf8-from_ascii, IsUtf8-past_char, encode_ascii}
-use Rattle.matchit.specs.Params.{AllText, named, next_at, part_of, walk, wild_from, wild_stop}
+use Rattle.std.proofs.lemmas.Bool.{and_from, and_parts, cond-false, cond-true, false_from_ne_true, false≢true, le-leb, ltb-true}
+use Rattle.std.proofs.lemmas.List.{take_all}
+use Rattle.std.proofs.lemmas.Str.{IsUtf8-from_ascii}
+use Rattle.matchit.specs.Params.{AllText, named, part_of, walk}
 use Rattle.matchit.specs.Router.{RouteOf}
 use Rattle.matchit.specs.Rows.{RowsOf, param_token}
 use Rattle.matchit.specs.Seek.{first, has_slash, or_else, own, param_step, seek, step}
 use Rattle.oai_settings.specs.Config.{is_repository_byte, is_repository_name}
-use Rattle.oai_host.specs.Rows.{both_rows, deposits_row, endpoint_in, requests_row}
+use Rattle.oai_host.specs.Rows.{name_route, name_rows}
 use Rattle.oai_http.specs.Targets.{front_of}
 use Rattle.oai_http.specs.declared.targets.Endpoint.{Endpoint}
 use Rattle.oai_http.specs.declared.targets.Endpoint.TheVariants.{Deposits, Requests}
@@ -36,12 +37,6 @@ seek_end : {T : Type 0} (rows : RowsOf T) (path : List ℕ) → seek (length pat
 unfolding seek
 seek_end rows [] = refl
 seek_end rows (b ∷ path) = seek_end rows path
-
--- a byte leads on to the rows that begin with it
-on : {T : Type 0} (rows : RowsOf T) (b : ℕ) (path : List ℕ) (found : T) → seek 0 (step b rows) path ≡ Some found → seek 0 rows (b ∷ path) ≡ Some found
-unfolding seek
-on {T} rows b path found h =
-    ap (λ o. or_else o (or_else (seek {K = T} ((param_step (step param_token rows) (b ∷ path)).0 - 1) (param_step (step param_token rows) (b ∷ path)).1 path) (own (step 257 rows)))) h
 
 -- the one row that is a parameter takes all of a path without a slash
 ends_with : {T : Type 0} (found : T) (path : List ℕ) (s t : Bool) → s ≡ false → t ≡ false
@@ -73,58 +68,28 @@ no_slash (b ∷ name) h =
 no_token : (b : ℕ) → b < 128 → (param_token == b) ≡ false
 no_token b low = grind (arith, tests)
 
-pub found_endpoint : (endpoint : Endpoint) (name : List ℕ) → is_repository_name name ≡ true → endpoint_in (first both_rows (front_of endpoint ++ name)) ≡ Some endpoint
+matched : (name : List ℕ) → is_repository_name name ≡ true → first name_rows name ≡ Some name_route
 unfolding is_repository_name
-found_endpoint endpoint [] named = absurd (false≢true named)
-found_endpoint Requests (b ∷ name) named =
+matched [] named = absurd (false≢true named)
+matched (b ∷ name) named =
     let bytes = (and_parts _ _ named).1 in
-    let end = at_end requests_row.1 b name (no_token b (byte_plain b (and_parts _ _ bytes).0).1) (no_slash (b ∷ name) bytes) in
-    ap endpoint_in (on both_rows 47 (111 ∷ 97 ∷ 105 ∷ 47 ∷ b ∷ name) requests_row.1
-    (on _ 111 (97 ∷ 105 ∷ 47 ∷ b ∷ name) requests_row.1 (on _ 97 (105 ∷ 47 ∷ b ∷ name) requests_row.1 (on _ 105 (47 ∷ b ∷ name) requests_row.1 (on _ 47 (b ∷ name) requests_row.1 end)))))
-found_endpoint Deposits (b ∷ name) named =
-    let bytes = (and_parts _ _ named).1 in
-    let end = at_end deposits_row.1 b name (no_token b (byte_plain b (and_parts _ _ bytes).0).1) (no_slash (b ∷ name) bytes) in
-    ap endpoint_in (on both_rows 47 (100 ∷ 101 ∷ 112 ∷ 111 ∷ 115 ∷ 105 ∷ 116 ∷ 47 ∷ b ∷ name) deposits_row.1
-    (on _ 100 (101 ∷ 112 ∷ 111 ∷ 115 ∷ 105 ∷ 116 ∷ 47 ∷ b ∷ name) deposits_row.1 (on _ 101 (112 ∷ 111 ∷ 115 ∷ 105 ∷ 116 ∷ 47 ∷ b ∷ name) deposits_row.1
-    (on _ 112 (111 ∷ 115 ∷ 105 ∷ 116 ∷ 47 ∷ b ∷ name) deposits_row.1 (on _ 111 (115 ∷ 105 ∷ 116 ∷ 47 ∷ b ∷ name) deposits_row.1 (on _ 115 (105 ∷ 116 ∷ 47 ∷ b ∷ name) deposits_row.1
-    (on _ 105 (116 ∷ 47 ∷ b ∷ name) deposits_row.1 (on _ 116 (47 ∷ b ∷ name) deposits_row.1 (on _ 47 (b ∷ name) deposits_row.1 end)))))))))
+    at_end name_route b name (no_token b (byte_plain b (and_parts _ _ bytes).0).1) (no_slash (b ∷ name) bytes)
 
--- ---- a path of a repository is a text
+-- ---- a name is a text
 
 ascii_name : (name : List ℕ) → list_all is_repository_byte name ≡ true → IsAscii name
 ascii_name [] h i = lit< tt
 ascii_name (b ∷ name) h zero = (byte_plain b (and_parts (is_repository_byte b) (list_all is_repository_byte name) h).0).1
 ascii_name (b ∷ name) h (suc i) = ascii_name name (and_parts (is_repository_byte b) (list_all is_repository_byte name) h).1 i
 
-ascii_behind : (front name : List ℕ) → IsAscii front → IsAscii name → IsAscii (front ++ name)
-ascii_behind [] name h k i = k i
-ascii_behind (b ∷ front) name h k zero = h 0
-ascii_behind (b ∷ front) name h k (suc i) = ascii_behind front name (λ j. h (suc j)) k i
-
 ascii_where : (text : List ℕ) → list_all (λ b. nat_lt b 128) text ≡ true → IsAscii text
 ascii_where [] h i = lit< tt
 ascii_where (b ∷ text) h zero = ltb-true b 128 (and_parts (nat_lt b 128) (list_all (λ b. nat_lt b 128) text) h).0
 ascii_where (b ∷ text) h (suc i) = ascii_where text (and_parts (nat_lt b 128) (list_all (λ b. nat_lt b 128) text) h).1 i
 
-front_ascii : (endpoint : Endpoint) → IsAscii (front_of endpoint)
-front_ascii Requests = ascii_where (codes "/oai/") refl
-front_ascii Deposits = ascii_where (codes "/deposit/") refl
-
 pub name_utf8 : (name : List ℕ) → is_repository_name name ≡ true → IsUtf8 name
 unfolding is_repository_name
 name_utf8 name named = IsUtf8-from_ascii name (ascii_name name (and_parts _ _ named).1)
-
-pub path_utf8 : (endpoint : Endpoint) (name : List ℕ) → is_repository_name name ≡ true → IsUtf8 (front_of endpoint ++ name)
-unfolding is_repository_name
-path_utf8 endpoint name named = IsUtf8-from_ascii (front_of endpoint ++ name) (ascii_behind (front_of endpoint) name (front_ascii endpoint) (ascii_name name (and_parts _ _ named).1))
-
--- ---- what was found
-
-pub same_some : (x y : Endpoint) → Some x ≡ Some y → x ≡ y
-same_some x y h = ap (λ (o : Option Endpoint). unwrap_or o x) h
-
-pub not_some : (x : Endpoint) → None ≡ Some x → ⊥
-not_some x h = false≢true (ap (λ (o : Option Endpoint). is_some o) h)
 
 -- ---- a path that is routed
 
@@ -135,7 +100,7 @@ none_else (Some x) = refl
 nothing : {P T : Type 0} (x : T) → None ≡ Some x → P
 nothing {P} {T} x h = absurd (false≢true (ap (λ (o : Option T). is_some o) h))
 
-one_some : {T : Type 0} (x y : T) → Some x ≡ Some y → x ≡ y
+pub one_some : {T : Type 0} (x y : T) → Some x ≡ Some y → x ≡ y
 one_some {T} x y h = ap (λ (o : Option T). unwrap_or o x) h
 
 -- where no row begins with a parameter, the byte leads on alone
@@ -180,180 +145,50 @@ at_param {T} e r (b ∷ path) found =
     (own_cond (param_token == b) e r path)
     (own_param t (suc (length path)) e r path)
 
-no_param : (x : ℕ) → x < 128 → ((x == param_token) ≡ false) × ((x == 257) ≡ false)
-no_param x low = (grind (arith, tests), grind (arith, tests))
-
--- a row that begins with a byte is found only by a path that does
-one_byte : {T : Type 0} (x : ℕ) (t : List ℕ) (e r : T) (path : List ℕ) → x < 128 → seek 0 ((x ∷ t, e) ∷ []) path ≡ Some r
-    → (rest : List ℕ) × (path ≡ x ∷ rest) × (seek 0 ((t, e) ∷ []) rest ≡ Some r)
-unfolding seek
-one_byte x t e r [] low found = nothing r found
-one_byte {T} x t e r (b ∷ path) low found =
-    let params = no_param x low in
-    let rows : RowsOf T = (x ∷ t, e) ∷ [] in
-    let on = sym (by_byte rows b path (cond-false (x == param_token) ((t, e) ∷ []) [] params.0) (cond-false (x == 257) ((t, e) ∷ []) [] params.1)) ∙ found in
-    elim (cases_Bool (x == b)) [
-      | inl same ↦ (path, ap (λ (y : ℕ). y ∷ path) (sym (eqb-true x b same)), ap (λ (rs : RowsOf T). seek 0 rs path) (sym (cond-true (x == b) ((t, e) ∷ []) [] same)) ∙ on)
-      | inr other ↦ nothing r (sym (seek_none {T = T} 0 path) ∙ ap (λ (rs : RowsOf T). seek 0 rs path) (sym (cond-false (x == b) ((t, e) ∷ []) [] other)) ∙ on)
-    ]
-
--- one that begins with bytes and then has a parameter, only by a path that begins with them
-behind_front : {T : Type 0} (front : List ℕ) (e r : T) (path : List ℕ) → IsAscii front → seek 0 ((front ++ param_token ∷ [], e) ∷ []) path ≡ Some r
-    → (name : List ℕ) × (path ≡ front ++ name) × (e ≡ r)
-behind_front [] e r path ascii found = (path, refl, at_param e r path found)
-behind_front (x ∷ front) e r path ascii found =
-    let one = one_byte x (front ++ param_token ∷ []) e r path (ascii 0) found in
-    let others = behind_front front e r one.0 (λ i. ascii (suc i)) one.2 in
-    (others.0, one.1 ∙ ap (λ (rest : List ℕ). x ∷ rest) others.1, others.2)
-
--- the route of an endpoint
-abbrev row_of : Endpoint → RouteOf Endpoint
-row_of Requests = requests_row.1
-row_of Deposits = deposits_row.1
-
-record IsRouted (path : List ℕ) (route : RouteOf Endpoint) : Type 0 where
-  endpoint : Endpoint
-  name : List ℕ
-  begins : path ≡ front_of endpoint ++ name
-  shown : row_of endpoint ≡ route
-
-on_requests : (path : List ℕ) (r : RouteOf Endpoint) → seek 0 ((codes "ai/" ++ param_token ∷ [], requests_row.1) ∷ []) path ≡ Some r → IsRouted (47 ∷ 111 ∷ path) r
-on_requests path r found =
-    let by = behind_front (codes "ai/") requests_row.1 r path (ascii_where (codes "ai/") refl) found in
-    record { endpoint = Requests; name = by.0; begins = ap (λ (p : List ℕ). 47 ∷ 111 ∷ p) by.1; shown = by.2 }
-
-on_deposits : (path : List ℕ) (r : RouteOf Endpoint) → seek 0 ((codes "eposit/" ++ param_token ∷ [], deposits_row.1) ∷ []) path ≡ Some r → IsRouted (47 ∷ 100 ∷ path) r
-on_deposits path r found =
-    let by = behind_front (codes "eposit/") deposits_row.1 r path (ascii_where (codes "eposit/") refl) found in
-    record { endpoint = Deposits; name = by.0; begins = ap (λ (p : List ℕ). 47 ∷ 100 ∷ p) by.1; shown = by.2 }
-
-abbrev after_slash : RowsOf (RouteOf Endpoint)
-after_slash = (codes "deposit/" ++ param_token ∷ [], deposits_row.1) ∷ (codes "oai/" ++ param_token ∷ [], requests_row.1) ∷ []
-
-abbrev second : Bool → Bool → RowsOf (RouteOf Endpoint)
-second d o =
-    cond d ((codes "eposit/" ++ param_token ∷ [], deposits_row.1) ∷ cond o ((codes "ai/" ++ param_token ∷ [], requests_row.1) ∷ []) [])
-    (cond o ((codes "ai/" ++ param_token ∷ [], requests_row.1) ∷ []) [])
-
-two_bytes : (c : ℕ) → (100 == c) ≡ true → (111 == c) ≡ true → ⊥
-two_bytes c is also =
-    let one : 100 ≡ c = eqb-true 100 c is in
-    let other : 111 ≡ c = eqb-true 111 c also in
-    omega (arith, one, other)
-
-by_second : (d o : Bool) (c : ℕ) (path : List ℕ) (r : RouteOf Endpoint) → (100 == c) ≡ d → (111 == c) ≡ o → seek 0 (second d o) path ≡ Some r → IsRouted (47 ∷ c ∷ path) r
-by_second true true c path r is also found = absurd (two_bytes c is also)
-by_second true false c path r is other found = subst (λ (b : ℕ). IsRouted (47 ∷ b ∷ path) r) (eqb-true 100 c is) (on_deposits path r found)
-by_second false true c path r other is found = subst (λ (b : ℕ). IsRouted (47 ∷ b ∷ path) r) (eqb-true 111 c is) (on_requests path r found)
-by_second false false c path r one other found = nothing r (sym (seek_none {T = RouteOf Endpoint} 0 path) ∙ found)
-
-by_slash : (path : List ℕ) (r : RouteOf Endpoint) → seek 0 after_slash path ≡ Some r → IsRouted (47 ∷ path) r
-unfolding seek
-by_slash [] r found = nothing r found
-by_slash (c ∷ path) r found = by_second (100 == c) (111 == c) c path r refl refl (sym (by_byte after_slash c path refl refl) ∙ found)
-
-abbrev first_rows : Bool → RowsOf (RouteOf Endpoint)
-first_rows t =
-    cond t ((codes "deposit/" ++ param_token ∷ [], deposits_row.1) ∷ cond t ((codes "oai/" ++ param_token ∷ [], requests_row.1) ∷ []) [])
-    (cond t ((codes "oai/" ++ param_token ∷ [], requests_row.1) ∷ []) [])
-
-by_first : (t : Bool) (b : ℕ) (path : List ℕ) (r : RouteOf Endpoint) → (47 == b) ≡ t → seek 0 (first_rows t) path ≡ Some r → IsRouted (b ∷ path) r
-by_first true b path r is found = subst (λ (c : ℕ). IsRouted (c ∷ path) r) (eqb-true 47 b is) (by_slash path r found)
-by_first false b path r is found = nothing r (sym (seek_none {T = RouteOf Endpoint} 0 path) ∙ found)
-
-routed : (path : List ℕ) (r : RouteOf Endpoint) → first both_rows path ≡ Some r → IsRouted path r
-unfolding seek
-routed [] r found = nothing r found
-routed (b ∷ path) r found = by_first (47 == b) b path r refl (sym (by_byte both_rows b path refl refl) ∙ found)
-
 -- ---- its name
 
-utf8_behind : (front name : List ℕ) → IsAscii front → IsUtf8 (front ++ name) → IsUtf8 name
-utf8_behind [] name ascii utf8 = utf8
-utf8_behind (b ∷ front) name ascii utf8 =
-    utf8_behind front name (λ i. ascii (suc i)) (IsUtf8-past_char (b ∷ (front ++ name)) (front ++ name) b utf8 (ap (λ (e : List ℕ). e ++ (front ++ name)) (sym (encode_ascii b (ascii 0)))))
-
 -- what the parameter of a route took from the path
-abbrev pub taken_by : RouteOf Endpoint → List ℕ → List (List ℕ × List ℕ)
+abbrev pub taken_by : RouteOf (Unit {0}) → List ℕ → List (List ℕ × List ℕ)
 taken_by route path = walk route.pattern route.text path route.names 0 0
 
-part_behind : (n : ℕ) (front name : List ℕ) → length front ≡ n → part_of (front ++ name) n (length (front ++ name)) ≡ name
-part_behind n front name is =
-    let all : ℕ = length (front ++ name) in
-    let long : all ≡ n + length name = length-append front name ∙ ap (λ (m : ℕ). m + length name) is in
-    cond-true (leb n all && leb all all) (take (all - n) (drop n (front ++ name))) [] (and_from (leb n all) (leb all all) (le-leb n all (omega (arith, long))) (le-leb all all (le_refl all)))
-    ∙ ap (take (all - n)) (ap (λ (m : ℕ). drop m (front ++ name)) (sym is) ∙ drop-append_seam front name)
-    ∙ take_all (all - n) name (omega (arith, long))
+part_whole : (path : List ℕ) → part_of path 0 (length path) ≡ path
+part_whole path =
+    let all : ℕ = length path in
+    cond-true (leb 0 all && leb all all) (take (all - 0) (drop 0 path)) [] (and_from (leb 0 all) (leb all all) (le-leb 0 all (omega arith)) (le-leb all all (le_refl all)))
+    ∙ take_all (all - 0) path (omega arith)
 
--- the parameter stands behind the front, in the route and in the path
-wild_part : (front : List ℕ) (len token at : ℕ) → IsAscii front → at + length front ≤ len → wild_from (front ++ param_token ∷ []) len token at ≡ (token + length front, at + length front)
-wild_part [] len token at ascii room =
-    let same : token ≡ token + 0 = omega arith in
-    let also : at ≡ at + 0 = omega arith in
-    ap₂ (λ (x y : ℕ). (x, y)) same also
-wild_part (x ∷ front) len token at ascii room =
-    let byte : ltb x param_token ≡ true = lt-ltb x param_token (omega (arith, ascii 0)) in
-    let within : ltb at len ≡ true = lt-ltb at len (omega (arith, room)) in
-    let more : token + 1 + length front ≡ token + suc (length front) = omega arith in
-    let on : at + 1 + length front ≡ at + suc (length front) = omega arith in
-    cond-true (ltb x param_token) (wild_from (front ++ param_token ∷ []) len (token + 1) (next_at len at)) (token, at) byte
-    ∙ ap (wild_from (front ++ param_token ∷ []) len (token + 1)) (cond-true (ltb at len) (at + 1) at within)
-    ∙ wild_part front len (token + 1) (at + 1) (λ i. ascii (suc i)) (omega (arith, room))
-    ∙ ap₂ (λ (x y : ℕ). (x, y)) more on
+taken_whole : (path : List ℕ) → taken_by name_route path ≡ (codes "name", path) ∷ []
+taken_whole path = ap (λ (part : List ℕ). (codes "name", part) ∷ []) (part_whole path)
 
-taken_at : RouteOf Endpoint → List ℕ → ℕ × ℕ → List ℕ × List ℕ
-taken_at route path place = (codes "name", part_of path place.1 (wild_stop route.pattern place.0 path place.1))
-
-taken_there : (endpoint : Endpoint) (name : List ℕ) → taken_by (row_of endpoint) (front_of endpoint ++ name) ≡ (codes "name", name) ∷ []
-unfolding taken_at
-taken_there Requests name =
-    let path : List ℕ = codes "/oai/" ++ name in
-    ap (λ (place : ℕ × ℕ). taken_at requests_row.1 path place ∷ []) (wild_part (codes "/oai/") (length path) 0 0 (front_ascii Requests) (omega (arith, length-append (codes "/oai/") name)))
-    ∙ ap (λ (part : List ℕ). (codes "name", part) ∷ []) (part_behind 5 (codes "/oai/") name refl)
-taken_there Deposits name =
-    let path : List ℕ = codes "/deposit/" ++ name in
-    ap (λ (place : ℕ × ℕ). taken_at deposits_row.1 path place ∷ []) (wild_part (codes "/deposit/") (length path) 0 0 (front_ascii Deposits) (omega (arith, length-append (codes "/deposit/") name)))
-    ∙ ap (λ (part : List ℕ). (codes "name", part) ∷ []) (part_behind 9 (codes "/deposit/") name refl)
-
-pub record HasName (path : List ℕ) (route : RouteOf Endpoint) : Type 0 where
+-- the parameter of the route that a path matches took all of it
+pub record HasName (path : List ℕ) (route : RouteOf (Unit {0})) : Type 0 where
   pub text : AllText (taken_by route path)
-  pub behind : (value : List ℕ) → named (codes "name") (taken_by route path) ≡ Some value → path ≡ front_of route.value ++ value
-  pub there : named (codes "name") (taken_by route path) ≡ None → ⊥
+  pub taken : named (codes "name") (taken_by route path) ≡ Some path
 
-value_of : (endpoint : Endpoint) → (row_of endpoint).value ≡ endpoint
-value_of Requests = refl
-value_of Deposits = refl
-
-name_there : (endpoint : Endpoint) (name : List ℕ) → IsUtf8 (front_of endpoint ++ name) → HasName (front_of endpoint ++ name) (row_of endpoint)
-name_there endpoint name utf8 =
-    let taken = taken_there endpoint name in
-    record {
-      text = subst AllText (sym taken) (IsUtf8-from_ascii (codes "name") (ascii_where (codes "name") refl), utf8_behind (front_of endpoint) name (front_ascii endpoint) utf8, tt);
-      behind = λ value is.
-          let same : name ≡ value = one_some name value (sym (ap (named (codes "name")) taken) ∙ is) in
-          ap (λ (n : List ℕ). front_of endpoint ++ n) same ∙ ap (λ (e : Endpoint). front_of e ++ value) (sym (value_of endpoint));
-      there = λ none. nothing name (sym none ∙ ap (named (codes "name")) taken);
-    }
-
--- the parameter of the route that a path matches took what stands behind the front of the path
-pub has_name : (path : List ℕ) (route : RouteOf Endpoint) → IsUtf8 path → first both_rows path ≡ Some route → HasName path route
+pub has_name : (path : List ℕ) (route : RouteOf (Unit {0})) → IsUtf8 path → first name_rows path ≡ Some route → HasName path route
 has_name path route utf8 found =
-    let by = routed path route found in
-    subst (λ (p : List ℕ). HasName p route) (sym by.begins) (subst (HasName (front_of by.endpoint ++ by.name)) by.shown (name_there by.endpoint by.name (subst IsUtf8 by.begins utf8)))
+    let taken = taken_whole path in
+    subst (HasName path) (at_param name_route route path found) (record {
+      text = subst AllText (sym taken) (IsUtf8-from_ascii (codes "name") (ascii_where (codes "name") refl), utf8, tt);
+      taken = ap (named (codes "name")) taken;
+    })
+
+pub is_given : (path : List ℕ) (given : Option (List ℕ)) (result : Option (Bor (List ℕ))) → given ≡ Some path → MatchOption result (given ≡ None) (λ (value : Bor (List ℕ)). given ≡ Some value.now)
+    → IfSome result (λ (name : Bor (List ℕ)). name.now ≡ path)
+is_given path given None is none = tt
+is_given path given (Some value) is some = one_some value.now path (sym some ∙ is)
+
+pub not_none : (P : Type 0) (path : List ℕ) (given : Option (List ℕ)) (result : Option (Bor (List ℕ))) → given ≡ Some path → MatchOption result (given ≡ None) (λ (value : Bor (List ℕ)). given ≡ Some value.now)
+    → IfNone result P
+not_none P path given None is none = nothing path (sym none ∙ is)
+not_none P path given (Some value) is some = tt
+
+-- what matches none is no name
+pub no_name : (path : List ℕ) → first name_rows path ≡ None → is_repository_name path ≡ false
+no_name path none = false_from_ne_true (is_repository_name path) (λ is. nothing name_route (sym none ∙ matched path is))
 
 -- ---- the one way in which a path is one of a repository
 
 pub same_front : (endpoint : Endpoint) (one other : List ℕ) → front_of endpoint ++ one ≡ front_of endpoint ++ other → one ≡ other
 same_front Requests one other h = ap (drop 5) h
 same_front Deposits one other h = ap (drop 9) h
-
-pub only_route : (path : List ℕ) (route : RouteOf Endpoint) (value : List ℕ) → first both_rows path ≡ Some route → path ≡ front_of route.value ++ value
-    → (endpoint : Endpoint) (name : List ℕ) → is_repository_name name ≡ true → path ≡ front_of endpoint ++ name → (route.value ≡ endpoint) × (value ≡ name)
-only_route path route value found behind endpoint name named is =
-    let same : route.value ≡ endpoint = same_some route.value endpoint (sym (ap endpoint_in found) ∙ ap (λ (p : List ℕ). endpoint_in (first both_rows p)) is ∙ found_endpoint endpoint name named) in
-    (same, same_front endpoint value name (ap (λ (e : Endpoint). front_of e ++ value) (sym same) ∙ sym behind ∙ is))
-
--- a path of a repository matches a route
-pub no_route : {P : Type 0} (path : List ℕ) → first both_rows path ≡ None → (endpoint : Endpoint) (name : List ℕ) → is_repository_name name ≡ true → path ≡ front_of endpoint ++ name → P
-no_route path none endpoint name named is =
-    nothing endpoint (sym (ap endpoint_in none) ∙ ap (λ (p : List ℕ). endpoint_in (first both_rows p)) is ∙ found_endpoint endpoint name named)

@@ -63,21 +63,18 @@ arguments_to_replay Nothing arguments = None
 arguments_to_replay Tick arguments = Some []
 arguments_to_replay Request arguments = Some arguments
 
+-- the lines of a deposit that were performed, if any were
+abbrev pub lines_to_replay : List ℕ → Option (List ℕ)
+lines_to_replay [] = None
+lines_to_replay (b ∷ lines) = Some (b ∷ lines)
+
 -- they are no longer
 abbrev pub AreNoLonger : List ℕ → Option (List ℕ) → Type 0
 AreNoLonger bytes others = IfSome others (λ (its : List ℕ). length its ≤ length bytes)
 
--- of a deposit with that answer, these lines were performed and no other; or none was
-abbrev pub LeavesLines : List ℕ → Answer → Option (List ℕ) → Type 0
-LeavesLines body answer lines =
-    (config : RepositoryConfig) (moment : ℤ) (before after : RepoState) (old new : StoreState)
-    → IsTrue old.honest
-    → IsPerformed config moment (depositing (lines_in body)) answer before old after new
-    → IsLeftBy config moment Deposits lines before after
-
 -- they are no longer than the target or the body of the exchange
 abbrev pub IsNoLonger : Exchange → Option (List ℕ) → Type 0
-IsNoLonger exchange bytes = IfSome bytes (λ (its : List ℕ). length its ≤ max (length exchange.target.now) (length exchange.body.now))
+IsNoLonger exchange bytes = IfSome bytes (λ (its : List ℕ). length its ≤ max (length exchange.target) (length exchange.body.now))
 
 -- ---- at a host
 
@@ -96,7 +93,7 @@ pub record IsRecorded (moment : ℤ) (exchange : Exchange) (answer : Answer) (pe
   pub exchanged : IsExchanged (call_of moment exchange) answer before after
   pub left : IsTrue before.honest → after.repositories ≡ left_again redone_repositories before.repositories moment performed
   pub name : IfSome performed (λ (p : Performed). IsTrue (is_short_name p.name.now))
-  pub size : IfSome performed (λ (p : Performed). length p.bytes.now ≤ max (length exchange.target.now) (length exchange.body.now))
+  pub size : IfSome performed (λ (p : Performed). length p.bytes.now ≤ max (length exchange.target) (length exchange.body.now))
 
 -- a call was replayed at each, and its answer dropped except for its fault, which has its cause
 abbrev pub AreRedone : Call → Result (Unit {0}) Fault → StoreState → StoreState → List Repository → List Repository → Type 0

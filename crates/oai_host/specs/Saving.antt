@@ -10,10 +10,13 @@ use Rattle.oai_args.specs.Verbs.{is_of_records}
 use Rattle.oai_item.specs.Encoding.{Spells, encoded}
 use Rattle.oai_item.specs.Selection.{Filter}
 use Rattle.oai_item.specs.declared.faults.Fault.{Fault}
+use Rattle.oai_catalogue.specs.Store.{VersionLists}
 use Rattle.oai_catalogue.specs.declared.versions.Versions.{Ghosts}
+use Rattle.oai_holdings.specs.Holdings.{NamedSet}
 use Rattle.oai_repo.specs.Fields.{Keeps, RepoFields, state_of}
 use Rattle.oai_repo.specs.Saved.{SavedListState, SavedPartState, ended, has_clock, has_gone, has_item, has_list, has_named_set, parts_of}
 use Rattle.oai_replay.specs.Parts.{PartState}
+use Rattle.oai_snapshots.specs.Snapshots.{HandsOut, SnapshotFields}
 use Rattle.oai_host.specs.Hosts.{Repository}
 use Rattle.oai_host.specs.Saved.{ended_in, part_in, parts_in, spelled_part, with_read}
 
@@ -61,3 +64,10 @@ pub record TakesParts {S : Type 0} (has : S → List PartState → Type 0) (name
 pub record TakesAll {S : Type 0} (has : S → List PartState → Type 0) (raise : ℕ) (repositories : List Repository) (old new : S) : Type 0 where
   pub taken : Takes has (parts_in (ended_in raise repositories)) old new
   pub readable : AllByRecursion (λ (repository : Repository). AllByRecursion CanBeRead (parts_of (ended raise repository.state))) repositories
+
+-- some parts of a snapshot of a repository with that name and these sets were handed out, and a sink took them, each that
+-- has no moment of its own with that clock
+pub record TakesNext {S : Type 0} (has : S → List PartState → Type 0) (name : List ℕ) (clock : ℤ) (sets : List NamedSet) (lists : VersionLists) (old : SnapshotFields) (before : S) (new : SnapshotFields) (after : S) : Type 0 where
+  pub some : List SavedPartState
+  pub handed : HandsOut sets lists old some new
+  pub taken : Takes has (map (spelled_part name clock) some) before after

@@ -2,7 +2,7 @@
 ghost use Rattle.oai_deposit.specs.Lines.{line_of};
 ghost use Rattle.oai_host.specs.Bodies as spec;
 ghost use Rattle.oai_host.specs.Bodies.{lines_in};
-ghost use Rattle.oai_host.specs.DepositLines.{AreTaken, bytes_left, from_line, lines_left};
+ghost use Rattle.oai_host.specs.DepositLines.{HasDone, FollowsLines, from_line};
 ghost use Rattle.oai_host.specs.Exchanged.{PerformsIn, PerformsLine};
 ghost use Rattle.oai_host.specs.Tasks.{depositing};
 ghost use Rattle.oai_host.specs.declared.deposits.TheConstants.{MAX_LINE};
@@ -10,8 +10,7 @@ ghost use Rattle.oai_item.specs.Refusals.{in_line, refusal_line};
 ghost use Rattle.oai_repo.specs.Fields.{Owns};
 ghost use Rattle.oai_time.specs.Stamp.{IsWritable};
 ghost use Rattle.oai_time.specs.TimeTexts.{datestamp_text};
-ghost use Rattle.std.specs.Option.{option_copied};
-ghost use Rattle.std.specs.Prelude.{Err, MatchOption, Ok, Some, [], codes, drop, if◌then◌else◌, length, ℕ, vec_capacity, vec_len, ◌++◌, ◌+◌, ◌<◌, ◌∷◌, ◌≡◌, ◌≤◌};
+ghost use Rattle.std.specs.Prelude.{Err, IfSome, MatchOption, Ok, [], codes, if◌then◌else◌, length, vec_capacity, vec_len, ◌++◌, ◌+◌, ◌<◌, ◌∷◌, ◌≡◌, ◌≤◌};
 
 use itoa::Buffer;
 use oai_catalogue::Versions;
@@ -22,35 +21,40 @@ use oai_names::Sequence;
 use oai_repo::{Refusal, Repo};
 use oai_time::{Granularity, write_datestamp};
 use std::alloc::Global;
-use std::marker::Model;
 
 /// The maximum length in bytes of the line that answers a line, with its line end.
 const MAX_LINE: usize = 40;
 
-/// Performs the lines of a deposit at the moment, in seconds from 1970 on, one after the other, and answers them; a
-/// fault ends them. Space for the answer to a line is reserved before the line is performed, so a line that was
-/// performed is always answered and counted.
-pub(crate) fn perform_lines<V: Versions>(
+/// Performs the lines of a deposit at the moment, in seconds from 1970 on, one after the other, and returns their answer
+/// and the bytes of the body that were performed; a fault ends them. Space for the answer to a line is reserved before
+/// the line is performed, so a line that was performed is always answered and counted.
+pub(crate) fn perform_lines<'a, V: Versions>(
     alloc: Global,
     repo: &mut Repo,
     store: &mut V,
     moment: i64,
-    body: &[u8],
-) -> Answer
+    body: &'a [u8],
+) -> (Answer, &'a [u8])
     requires owns { Owns (V.honest store.old) repo.old (V.lists store.old) }
-    ensures { PerformsIn V.Versions moment (depositing (lines_in body.now)) result repo.old store.old
-        repo.new store.new }
+    ensures performed { PerformsIn V.Versions moment (depositing (lines_in body.now)) result.0 repo.old
+        store.old repo.new store.new }
+    ensures lines { HasDone body.now result.0 result.1.now }
+    ensures size { length result.1.now ≤ length body.now }
 {
-    let mut lines = DepositLines::new(body);
+    let mut rest = body;
     let mut told = Vec::new(alloc);
     let mut done = 0;
-    while let Some(text) = lines.next() {
+    while let Some((text, behind)) = next_line(rest) {
         match perform_line(alloc, repo, store, moment, text, &mut told) {
             Ok(()) => done += 1,
-            Err(fault) => return Answer::of_fault(alloc, fault, Some(done)),
+            Err(fault) => {
+                let answer = Answer::of_fault(alloc, fault, Some(done));
+                return (answer, &body[..body.len() - rest.len()]);
+            }
         }
+        rest = behind;
     }
-    Answer::with_body(Sequence::new(told))
+    (Answer::with_body(Sequence::new(told)), body)
 }
 
 /// Performs a line and writes its answer, for which space is reserved first. A fault leaves everything unchanged.
@@ -153,101 +157,39 @@ fn put_line(text: &str, out: &mut Vec<u8>)
     put(b"\n", out);
 }
 
-/// Iterates over the lines of a deposit: its body is split at each line end, and a line of nothing but spaces, tabs and
-/// CR is skipped.
-#[derive(Drop)]
-pub(crate) struct DepositLines<'a> {
-    rest: Option<&'a [u8]>,
-}
-
-impl<'a> Model for DepositLines<'a> {
-    ghost use Rattle.std.specs.Prelude.{ℕ, List};
-    ghost use Rattle.std.specs.Option.{option_copied};
-    ghost use Rattle.oai_host.specs.DepositLines.{lines_left};
-
-    ghost Value = { List (List ℕ) };
-
-    ghost view = { λ l. lines_left (option_copied l.rest) };
-}
-
-impl<'a> DepositLines<'a> {
-    /// All lines of the body.
-    pub(crate) fn new(body: &'a [u8]) -> DepositLines<'a>
-        ensures lines { result ≡ lines_in body.now }
-        ensures few { length result ≤ length body.now + 1 }
-    {
-        DepositLines { rest: Some(body) }
-    }
-
-    /// Takes the next line, if there is one.
-    pub(crate) fn next(&mut self) -> Option<&'a [u8]>
-        ensures { MatchOption result (self.old ≡ []) (λ line. self.old ≡ line.now ∷ self.new) }
-    {
-        while let Some(rest) = self.rest {
-            let (line, behind) = cut(rest);
-            self.rest = behind;
-            if !is_blank(line) {
-                return Some(line);
-            }
+/// The first line of a deposit, and what stands behind it: the body is split at each line end, and a line of nothing but
+/// spaces, tabs and CR is skipped. `None` if there is no line.
+fn next_line(body: &[u8]) -> Option<(&[u8], &[u8])>
+    ensures line { MatchOption result (lines_in body.now ≡ [])
+        (λ next. lines_in body.now ≡ next.0.now ∷ lines_in next.1.now) }
+    ensures behind { IfSome result (λ next. FollowsLines body.now next.1.now 1) }
+    ensures less { IfSome result (λ next. length next.1.now < length body.now) }
+{
+    let mut rest = body;
+    while !rest.is_empty() {
+        let (line, behind) = cut(rest);
+        if !is_blank(line) {
+            return Some((line, behind));
         }
-        None
+        rest = behind;
     }
+    None
 }
 
-/// The bytes before the first line end, and those after it, if there is one.
-fn cut(text: &[u8]) -> (&[u8], Option<&[u8]>)
-    ensures lines { lines_in text.now ≡ from_line result.0.now (lines_left (option_copied result.1)) }
-    ensures less { bytes_left (option_copied result.1) < bytes_left (Some text.now) }
+/// The bytes before the first line end, or all if there is none, and those behind it.
+fn cut(text: &[u8]) -> (&[u8], &[u8])
+    requires { 0 < length text.now }
+    ensures lines { lines_in text.now ≡ from_line result.0.now (lines_in result.1.now) }
+    ensures behind { FollowsLines text.now result.1.now (if spec.is_blank result.0.now then 0 else 1) }
+    ensures less { length result.1.now < length text.now }
 {
     let end = len_before(b'\n', text);
     let line = &text[..end];
     if end < text.len() {
-        (line, Some(&text[end + 1..]))
+        (line, &text[end + 1..])
     } else {
-        (line, None)
+        (line, &[])
     }
-}
-
-/// The length in bytes of the first `count` lines of the body, or of all of it if it has fewer.
-pub(crate) fn first_lines(body: &[u8], count: u64) -> usize
-    ensures within { result ≤ length body.now }
-    ensures lines { AreTaken body.now result count }
-{
-    let mut rest = body;
-    let mut left = count;
-    while left > 0 && !rest.is_empty() {
-        let (size, others) = first_line(rest, left);
-        rest = &rest[size..];
-        left = others;
-    }
-    body.len() - rest.len()
-}
-
-/// The length of the first line with its line end, and how many of `left` lines remain after it; a blank line does not
-/// count.
-fn first_line(body: &[u8], left: u64) -> (usize, u64)
-    requires some { 0 < length body.now }
-    requires more { 0 < left }
-    ensures within { result.0 ≤ length body.now }
-    ensures less { 0 < result.0 }
-    ensures lines { (size : ℕ) → AreTaken (drop result.0 body.now) size result.1
-        → AreTaken body.now (result.0 + size) left }
-{
-    let end = len_before(b'\n', body);
-    let others = without_line(is_blank(&body[..end]), left);
-    if end < body.len() {
-        (end + 1, others)
-    } else {
-        (end, others)
-    }
-}
-
-/// How many of the lines remain after one; a blank one does not count.
-fn without_line(is_blank: bool, left: u64) -> u64
-    requires { 0 < left }
-    ensures { left ≡ (if is_blank then result else result + 1) }
-{
-    if is_blank { left } else { left - 1 }
 }
 
 /// Whether it is a line of nothing but spaces, tabs and CR.

@@ -16,7 +16,7 @@ ghost use Rattle.std.specs.Prelude.{IfOk, IsTrue, MatchResult, None, length, max
 use crate::deposits::perform_lines;
 use crate::records::{Recorded, arguments_to_replay, lines_to_replay};
 use oai_catalogue::Versions;
-use oai_http::{Answer, Endpoint, Exchange, Status, is_form, query_of};
+use oai_http::{Answer, Endpoint, Exchange, Status, is_form};
 use oai_repo::{Replied, Reply, Repo};
 use std::alloc::Global;
 
@@ -70,10 +70,10 @@ fn arguments_of<'a>(exchange: &Exchange<'a>) -> Result<&'a [u8], Status>
         (λ arguments. spec.request_task (call_of moment exchange.now) ≡ spec.asking arguments.now)
         (λ status. spec.request_task (call_of moment exchange.now) ≡ spec.refusing status) }
     ensures size { IfOk result (λ arguments. length arguments.now
-        ≤ max (length exchange.now.target.now) (length exchange.now.body.now)) }
+        ≤ max (length exchange.now.target) (length exchange.now.body.now)) }
 {
     if exchange.method == b"GET".as_slice() {
-        Ok(query_of(exchange.target))
+        Ok(exchange.target.query())
     } else if !is_post(exchange.method) {
         Err(Status::MethodNotAllowed)
     } else if is_form(exchange.content_type) {
@@ -144,7 +144,9 @@ fn perform_deposit<'a, V: Versions>(
         (state_of repo.new (V.lists store.new)) }
     ensures size { AreNoLonger body.now (option_copied result.bytes) }
 {
-    let answer = perform_lines(alloc, repo, store, moment, body);
-    let bytes = lines_to_replay(body, &answer);
-    Recorded { answer, bytes }
+    let (answer, lines) = perform_lines(alloc, repo, store, moment, body);
+    Recorded {
+        answer,
+        bytes: lines_to_replay(lines),
+    }
 }

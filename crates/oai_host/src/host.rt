@@ -23,7 +23,7 @@ use crate::routes::Routes;
 use oai_catalogue::Versions;
 use oai_config::Config;
 use oai_figures::{Exposition, Figures};
-use oai_http::{Answer, Call, Endpoint, Exchange, Handler, Status, is_rooted, path_of};
+use oai_http::{Answer, Call, Endpoint, Exchange, Handler, Status, Target};
 use oai_item::Fault;
 use oai_names::Sequence;
 use oai_replay::{Done, Part, Performed, Replayed, SaveFault, Sink};
@@ -103,7 +103,7 @@ impl<V: Versions + Drop> Host<V> {
         answer
     }
 
-    /// Replays, at the moment, in seconds from 1970 on, what was performed before, as `exchange` performs it, and makes
+    /// Replays, at the moment, in seconds from 1970 on, what was performed before, as `exchange` performs it, and gives
     /// no answer. The error is the fault that ended it. If no repository has the name, nothing is done, and the error
     /// is `Damaged`.
     pub fn redo(&mut self, moment: i64, performed: &Performed<'_>) -> Result<(), Fault>
@@ -121,7 +121,7 @@ impl<V: Versions + Drop> Host<V> {
     fn exchange_recorded<'a>(&mut self, moment: i64, exchange: &Exchange<'a>) -> Done<'a>
         ensures { IsRecorded moment exchange.now result.answer result.performed self.old self.new }
     {
-        match find(&self.routes, &self.repositories, exchange.target) {
+        match find(&self.routes, &self.repositories, &exchange.target) {
             Some((endpoint, place, name)) => {
                 let Recorded { answer, bytes } = self
                     .repositories
@@ -130,7 +130,7 @@ impl<V: Versions + Drop> Host<V> {
                 Done { answer, performed }
             }
             None => Done {
-                answer: Answer::of_status(self.alloc, status_of(exchange.target)),
+                answer: Answer::of_status(self.alloc, status_of(&exchange.target)),
                 performed: None,
             },
         }
@@ -209,7 +209,7 @@ impl<V: Versions + Drop> Host<V> {
 fn find<'a>(
     routes: &Routes,
     repositories: &Repositories,
-    target: &'a [u8],
+    target: &Target<'a>,
 ) -> Option<(Endpoint, usize, &'a [u8])>
     requires { list_all is_repository_name (repo_names repositories.now) ≡ true }
     ensures place { IfSome result (λ found. IsRepoPlace repositories.now found.1 found.0 target.now) }
@@ -218,7 +218,8 @@ fn find<'a>(
     ensures name { IfSome result (λ found. is_repository_name found.2.now ≡ true) }
     ensures nowhere { IfNone result (LeadsNowhere repositories.now target.now) }
 {
-    let (endpoint, name) = routes.find(path_of(target))?;
+    let (endpoint, behind) = target.named()?;
+    let name = routes.find(behind)?;
     let place = repositories.place_of(name)?;
     Some((endpoint, place, name.as_bytes()))
 }
@@ -242,10 +243,10 @@ fn performed_at<'a>(
 }
 
 /// The status for a target that is no repository's.
-fn status_of(target: &[u8]) -> Status
+fn status_of(target: &Target<'_>) -> Status
     ensures { result ≡ (if spec.is_rooted target.now then status.NotFound else status.BadRequest) }
 {
-    if is_rooted(target) {
+    if target.is_rooted() {
         Status::NotFound
     } else {
         Status::BadRequest

@@ -12,8 +12,9 @@ mod repositories;
 mod restores;
 mod routes;
 mod saves;
+mod saving;
 
 pub use host::Host;
 pub use laws::failures_law;
 pub use oai_config::{Config, ReadFault};
-pub use oai_http::{Answer, Call, Exchange, Status};
+pub use oai_http::{Answer, Call, Exchange, Status, Target};

@@ -1,13 +1,13 @@
 //! What of an exchange has to be replayed, and its replay.
 ghost use Rattle.oai_host.specs.Answers.{failure_in};
 ghost use Rattle.oai_host.specs.Exchanged.{RedoesIn};
-ghost use Rattle.oai_host.specs.Redone.{AreNoLonger, LeavesLines, arguments_to_replay, task_again};
+ghost use Rattle.oai_host.specs.Redone.{arguments_to_replay, lines_to_replay, task_again};
 ghost use Rattle.oai_host.specs.Tasks as spec;
 ghost use Rattle.oai_repo.specs.Fields.{Owns};
 ghost use Rattle.std.specs.Option.{option_copied};
-ghost use Rattle.std.specs.Prelude.{Some, length, ◌≡◌, ◌≤◌};
+ghost use Rattle.std.specs.Prelude.{◌≡◌};
 
-use crate::deposits::{first_lines, perform_lines};
+use crate::deposits::perform_lines;
 use oai_catalogue::Versions;
 use oai_http::{Answer, Endpoint};
 use oai_item::Fault;
@@ -34,30 +34,11 @@ pub(crate) fn arguments_to_replay(replay: Replay, arguments: &[u8]) -> Option<&[
     }
 }
 
-/// The lines of a deposit with that answer that have to be replayed: those that were performed, if any were.
-pub(crate) fn lines_to_replay<'a>(body: &'a [u8], answer: &Answer) -> Option<&'a [u8]>
-    ensures left { LeavesLines body.now answer.now (option_copied result) }
-    ensures size { AreNoLonger body.now (option_copied result) }
+/// The lines of a deposit that have to be replayed: those that were performed, if any were.
+pub(crate) fn lines_to_replay(lines: &[u8]) -> Option<&[u8]>
+    ensures { option_copied result ≡ lines_to_replay lines.now }
 {
-    let lines = lines_done(body, answer);
-    if lines.is_empty() {
-        return None;
-    }
-    Some(lines)
-}
-
-/// The lines of a deposit with that answer that were performed.
-fn lines_done<'a>(body: &'a [u8], answer: &Answer) -> &'a [u8]
-    ensures left { LeavesLines body.now answer.now (Some result.now) }
-    ensures size { length result.now ≤ length body.now }
-{
-    match answer.fault {
-        None => body,
-        Some(_) => match answer.done {
-            Some(lines) => &body[..first_lines(body, lines)],
-            None => &[],
-        },
-    }
+    if lines.is_empty() { None } else { Some(lines) }
 }
 
 /// Replays at the repository, at the moment, in seconds from 1970 on, what these bytes performed there: a request with
@@ -77,7 +58,7 @@ pub(crate) fn redo<V: Versions>(
     match endpoint {
         Endpoint::Requests => pass_request(repo, store, moment, bytes),
         Endpoint::Deposits => {
-            let answer = perform_lines(alloc, repo, store, moment, bytes);
+            let (answer, _) = perform_lines(alloc, repo, store, moment, bytes);
             fault_of(&answer)
         }
     }

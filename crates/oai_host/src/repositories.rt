@@ -141,13 +141,13 @@ impl Repositories {
         moment: i64,
         exchange: &Exchange<'a>,
     ) -> Recorded<'a>
-        requires place { IsRepoPlace self.old place endpoint exchange.now.target.now }
+        requires place { IsRepoPlace self.old place endpoint exchange.now.target }
         requires repos { AreNamedRepos (V.honest store.old) self.old (V.lists store.old) }
         ensures steps { AreSteps (call_of moment exchange.now) result.answer
             (store_state V.Versions store.old) (store_state V.Versions store.new)
             (repositories_of self.old (V.lists store.old))
             (repositories_of self.new (V.lists store.new)) }
-        ensures left { (name : List ℕ) → path_of exchange.now.target.now ≡ front_of endpoint ++ name
+        ensures left { (name : List ℕ) → path_of exchange.now.target ≡ front_of endpoint ++ name
             → IsTrue (V.honest store.old) → AreLeftBy moment endpoint name (option_copied result.bytes)
             (repositories_of self.old (V.lists store.old))
             (repositories_of self.new (V.lists store.new)) }

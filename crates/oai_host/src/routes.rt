@@ -1,58 +1,47 @@
-//! Routes of targets.
-ghost use Rattle.std.specs.Prelude.{◌≡◌, ◌++◌, ℕ, List, true, IfSome, MatchOption};
+//! The route of a path behind the part that leads to its endpoint.
+ghost use Rattle.std.specs.Option.{IfNone};
+ghost use Rattle.std.specs.Prelude.{◌≡◌, false, IfSome};
 ghost use Rattle.oai_settings.specs.Config.{is_repository_name};
-ghost use Rattle.oai_host.specs.Rows.{both_rows};
-ghost use Rattle.oai_http.specs.Targets as spec;
+ghost use Rattle.oai_host.specs.Rows.{name_rows};
 
 use matchit::Router;
-use oai_http::Endpoint;
 use std::alloc::{AllocError, Global};
 
-/// The paths of repositories: one of the two prefixes, then a name.
+/// The paths of repositories, behind `/oai/` or `/deposit/`: a name.
 #[derive(Drop)]
 pub(crate) struct Routes {
-    router: Router<Endpoint>,
-    ghost rows: { router ≡ both_rows },
+    router: Router<()>,
+    ghost rows: { router ≡ name_rows },
 }
 
 impl Routes {
-    /// The two paths. The error is out of memory.
+    /// The one route. The error is out of memory.
     pub(crate) fn new(alloc: Global) -> Result<Routes, AllocError> {
         let mut router = Router::new(alloc);
-        let Ok(()) = router.insert("/oai/{name}", Endpoint::Requests) else {
-            return Err(AllocError);
-        };
-        let Ok(()) = router.insert("/deposit/{name}", Endpoint::Deposits) else {
+        let Ok(()) = router.insert("{name}", ()) else {
             return Err(AllocError);
         };
         Ok(Routes { router })
     }
 
-    /// The endpoint of the path, and the name at its end, byte for byte; `None` if it is no path of a repository.
-    pub(crate) fn find<'a>(&self, path: &'a [u8]) -> Option<(Endpoint, &'a str)>
-        ensures found { IfSome result (λ route. path.now ≡ spec.front_of route.0 ++ route.1.now) }
-        ensures only { (endpoint : Endpoint) (name : List ℕ) → is_repository_name name ≡ true
-            → path.now ≡ spec.front_of endpoint ++ name
-            → MatchOption result ⊥ (λ route. (route.0 ≡ endpoint) × (route.1.now ≡ name)) }
+    /// The name that the path behind its endpoint is, byte for byte; `None` if it is no path of a repository.
+    pub(crate) fn find<'a>(&self, behind: &'a [u8]) -> Option<&'a str>
+        ensures found { IfSome result (λ name. name.now ≡ behind.now) }
+        ensures none { IfNone result (is_repository_name behind.now ≡ false) }
     {
-        match str::from_utf8(path) {
+        match str::from_utf8(behind) {
             Ok(text) => self.find_text(text),
             Err(_) => None,
         }
     }
 
-    /// The endpoint of a path in UTF-8, and the name at its end; `None` if it is no path of a repository.
-    fn find_text<'a>(&self, path: &'a str) -> Option<(Endpoint, &'a str)>
-        ensures found { IfSome result (λ route. path.now ≡ spec.front_of route.0 ++ route.1.now) }
-        ensures only { (endpoint : Endpoint) (name : List ℕ) → is_repository_name name ≡ true
-            → path.now ≡ spec.front_of endpoint ++ name
-            → MatchOption result ⊥ (λ route. (route.0 ≡ endpoint) × (route.1.now ≡ name)) }
+    /// The name that a path behind its endpoint is, in UTF-8; `None` if it is no path of a repository.
+    fn find_text<'a>(&self, behind: &'a str) -> Option<&'a str>
+        ensures found { IfSome result (λ name. name.now ≡ behind.now) }
+        ensures none { IfNone result (is_repository_name behind.now ≡ false) }
     {
-        match self.router.at(path) {
-            Ok(found) => match found.params.get("name") {
-                Some(name) => Some((*found.value, name)),
-                None => None,
-            },
+        match self.router.at(behind) {
+            Ok(found) => found.params.get("name"),
             Err(_) => None,
         }
     }

@@ -56,10 +56,22 @@ fn save_beginning<S: Sink>(
     let Some(next) = repo.next_list().checked_add(u64::from(raise)) else {
         return Err(SaveFault::Numbers);
     };
+    save_start(name, repo.clock(), next, sink)
+}
+
+/// Passes the part with which a repository begins: its clock, in seconds from 1970 on, and the number of its next list.
+pub(crate) fn save_start<S: Sink>(
+    name: &[u8],
+    clock: i64,
+    next: u64,
+    sink: &mut S,
+) -> Result<(), SaveFault>
+    ensures { OnOk result (TakesParts S.has name.now clock (has_clock clock next ∷ []) sink.old sink.new) }
+{
     let mut digits = Buffer::new();
     let part = Part {
         kind: PartKind::Begin,
-        moment: repo.clock(),
+        moment: clock,
         name,
         bytes: digits.format(next).as_bytes(),
     };
@@ -83,7 +95,7 @@ fn save_sets<S: Sink>(
 }
 
 /// Passes a set.
-fn save_set<S: Sink>(
+pub(crate) fn save_set<S: Sink>(
     alloc: Global,
     clock: i64,
     name: &[u8],
@@ -165,7 +177,7 @@ fn last_of(items: Sequence<Item>) -> Option<Item>
 }
 
 /// Passes items.
-fn save_piece<S: Sink>(
+pub(crate) fn save_piece<S: Sink>(
     alloc: Global,
     items: &[Item],
     name: &[u8],
@@ -217,7 +229,7 @@ fn spelled_item(alloc: Global, item: &Item) -> Result<Sequence<u8>, Fault>
 }
 
 /// Passes a part.
-fn put<S: Sink>(sink: &mut S, part: &Part<'_>) -> Result<(), SaveFault>
+pub(crate) fn put<S: Sink>(sink: &mut S, part: &Part<'_>) -> Result<(), SaveFault>
     ensures { OnOk result (Takes S.has (as_part part.now ∷ []) sink.old sink.new) }
 {
     match sink.add(part) {
