@@ -8,7 +8,6 @@ ghost use Rattle.std.specs.Prelude.{◌≡◌, ◌++◌, ◌∷◌, [], List, So
 use crate::firsts::config_of;
 use crate::journals::stop_of_reading;
 use crate::stop::ServerStop;
-use oai_durable::{Progress, note_last};
 use oai_journal::Recovery;
 use oai_startup::Stop;
 use sqlite_disk::Disk;
@@ -88,27 +87,6 @@ fn read_next<D: Disk + Drop>(recovery: &mut Recovery<D>) -> Result<bool, ServerS
 {
     match recovery.advance() {
         Ok(more) => Ok(more),
-        Err(fault) => Err(stop_of_reading(fault)),
-    }
-}
-
-/// Reads the records after the first one, which was read, reports each, and reads the first one again. The errors are
-/// those of `verify_journal`, but none of what is written.
-pub fn read_over<D: Disk + Drop, P: Progress>(
-    recovery: &mut Recovery<D>,
-    progress: &mut P,
-) -> Result<(), ServerStop>
-    ensures begun { OnOk result (IsTrue (D.Disk.is_clean (disk_of recovery.new))
-        → HasBegun D.Disk.seen D.Disk.may_leave recovery.new) }
-{
-    for count in 0..u64::MAX {
-        if !read_next(recovery)? {
-            break;
-        }
-        note_last(progress, recovery, count + 1);
-    }
-    match recovery.begin() {
-        Ok(()) => Ok(()),
         Err(fault) => Err(stop_of_reading(fault)),
     }
 }

@@ -1,5 +1,5 @@
 -- A life, made of a start and the service behind it.
-use Rattle.std.proofs.Common.{◌≡◌, ◌∙◌, inl, inr, ℕ, ℤ, Bool, IfOk, IsTrue, List, [], ◌∷◌, Option, Some, Result, Ok, Err, ap, arith, length, map, refl, subst, sym}
+use Rattle.std.proofs.Common.{◌≡◌, ◌∙◌, inl, inr, ℕ, ℤ, Bool, IfOk, IfSome, IsTrue, List, [], ◌∷◌, Option, Some, Result, Ok, Err, ap, arith, length, map, refl, subst, sym}
 use Rattle.oai_host.specs.Hosts.{HostState, begun}
 use Rattle.oai_serving.specs.Accepted.{Known, PassesNone, known_of}
 use Rattle.oai_serving.specs.Rounds.{IsService, Settles, World}
@@ -19,11 +19,13 @@ use Rattle.oai_durable.specs.Journaled.{IsExchange, IsHeld, IsSettled, Parts, Re
 use Rattle.oai_durable.specs.Recovered.{HasRedone}
 use Rattle.oai_daemon.specs.Archives.{archived}
 use Rattle.oai_daemon.specs.Lives.{BeginsWithAll, HasLived}
+use Rattle.oai_daemon.specs.ServedDisks.{file_of}
 use Rattle.oai_daemon.specs.Starts.{HasResumed, HasServed, HasStarted}
 use Rattle.oai_daemon.specs.Watches.{Watches}
 use Rattle.oai_http.specs.Exchanges.{Asked}
 use Rattle.oai_http.specs.declared.exchanges.Answer.{Answer}
 use Rattle.oai_daemon.specs.declared.origins.Origin.{Origin}
+use Rattle.oai_daemon.specs.declared.origins.Origin.TheVariants as origin
 
 -- a list of no length has nothing
 nothing_in : {X : Type 0} (xs : List X) → length xs ≡ 0 → xs ≡ []
@@ -68,24 +70,31 @@ lived {S} {D} j seen may_leave is_clean contents remaining held text rings origi
 
 -- where the service came to be, it is a life
 pub lived_over : {S D A E : Type 0} (j : journal.Ghosts (FileJournal D)) (seen : D → List ℕ) (may_leave : D → List ℕ → Type 0) (is_clean : D → Bool)
-    (contents remaining : S → Option (List ℕ)) (held : Option (List ℕ)) (text : List ℕ) (rings : List Ring) (origin : Origin) (count : ℕ) (host : HostState) (recovery : Recovery D) (known : Known S)
+    (contents remaining : S → Option (List ℕ)) (held : Origin → Option (List ℕ)) (text : List ℕ) (rings : List Ring) (origin : Origin) (count : ℕ) (host : HostState) (recovery : Recovery D) (known : Known S)
     (came : A → Origin) (later : A → Known S) (ended : A → Result (Unit {0}) ServeFault) (new : A → World S (Parts HostState (FileJournal D))) (result : Result A E)
-    → PassesNone known → HasStarted seen may_leave is_clean held text origin count host recovery
+    → PassesNone known → HasStarted seen may_leave is_clean (held origin) text origin count host recovery
     → IfOk result (λ (a : A). HasResumed archived j seen may_leave contents remaining host recovery rings known (later a) (ended a) (new a))
     → IfOk result (λ (a : A). came a ≡ origin)
-    → IfOk result (λ (a : A). HasLived j seen is_clean contents remaining held text rings (came a) (later a) (ended a) (new a))
+    → IfOk result (λ (a : A). HasLived j seen is_clean contents remaining (held (came a)) text rings (came a) (later a) (ended a) (new a))
 lived_over j seen may_leave is_clean contents remaining held text rings origin count host recovery known came later ended new (Ok a) none started resumed same =
-    subst (λ (o : Origin). HasLived j seen is_clean contents remaining held text rings o (later a) (ended a) (new a)) (sym same)
-    (lived j seen may_leave is_clean contents remaining held text rings origin count host recovery known (later a) (ended a) (new a) none started resumed)
+    subst (λ (o : Origin). HasLived j seen is_clean contents remaining (held o) text rings o (later a) (ended a) (new a)) (sym same)
+    (lived j seen may_leave is_clean contents remaining (held origin) text rings origin count host recovery known (later a) (ended a) (new a) none started resumed)
 lived_over j seen may_leave is_clean contents remaining held text rings origin count host recovery known came later ended new (Err e) none started nothing same = nothing
 
--- where the bytes of the file are known, they are those that were read
-pub begins_with_file : {S D : Type 0} (j : journal.Ghosts (FileJournal D)) (seen : D → List ℕ) (is_clean : D → Bool) (contents remaining : S → Option (List ℕ)) (file text : List ℕ) (rings : List Ring) (origin : Origin)
+-- where the bytes of both files are known, those that were read are of the one of its origin
+of_its_file : (found begun bytes : List ℕ) (origin : Origin) → IfSome (file_of (Some found) (Some begun) origin) (λ (file : List ℕ). bytes ≡ file) → bytes ≡ file_of found begun origin
+of_its_file found begun bytes origin.Found is = is
+of_its_file found begun bytes origin.Begun is = is
+of_its_file found begun bytes origin.Shortened is = is
+of_its_file found begun bytes origin.Reconfigured is = is
+
+pub begins_with_file : {S D : Type 0} (j : journal.Ghosts (FileJournal D)) (seen : D → List ℕ) (is_clean : D → Bool) (contents remaining : S → Option (List ℕ)) (found begun text : List ℕ) (rings : List Ring) (origin : Origin)
     (later : Known S) (result : Result (Unit {0}) ServeFault) (new : World S (Parts HostState (FileJournal D)))
-    (life : HasLived j seen is_clean contents remaining (Some file) text rings origin later result new)
-    → IsTrue (is_clean (disk_of life.recovery)) → BeginsWithAll j file life.forms text origin life.config life.old.handler
-begins_with_file j seen is_clean contents remaining file text rings origin later result new life clean =
-    subst (λ (bytes : List ℕ). BeginsWithAll j bytes life.forms text origin life.config life.old.handler) life.file (life.begins clean)
+    (life : HasLived j seen is_clean contents remaining (file_of (Some found) (Some begun) origin) text rings origin later result new)
+    → IsTrue (is_clean (disk_of life.recovery)) → BeginsWithAll j (file_of found begun origin) life.forms text origin life.config life.old.handler
+begins_with_file j seen is_clean contents remaining found begun text rings origin later result new life clean =
+    subst (λ (bytes : List ℕ). BeginsWithAll j bytes life.forms text origin life.config life.old.handler)
+    (of_its_file found begun (seen (disk_of life.recovery)) origin life.file) (life.begins clean)
 
 -- a server with no connection served over a port in another, which it was when it began and when it ended
 pub served_inside : {S H K : Type 0} (step : Steps H) (settled : Settles H) (contents remaining : S → Option (List ℕ)) (accepted : K → Option (List S)) (gone : K → Option (List (ℕ × S)))

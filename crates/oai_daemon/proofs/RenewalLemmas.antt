@@ -1,5 +1,5 @@
 -- A journal that is replaced by a checkpoint.
-use Rattle.std.proofs.Common.{◌≡◌, ◌∙◌, ℕ, Bool, IfOk, IsTrue, List, Option, Result, Ok, Err, arith, length, map, subst, sym, take, take_all}
+use Rattle.std.proofs.Common.{◌≡◌, ◌∙◌, ℕ, Bool, IfOk, IsTrue, List, Option, Result, Ok, Err, arith, length, map, refl, subst, sym, take, take_all}
 use Rattle.oai_item.specs.declared.forms.Forms.{Forms}
 use Rattle.oai_item.specs.declared.forms.Forms.TheVariants.{Elements}
 use Rattle.oai_config.specs.Configs.{HostConfig}
@@ -16,8 +16,8 @@ use Rattle.oai_durable.specs.Checkpoints.{HoldsCheckpoint, IsCheckpoint, Saving}
 use Rattle.oai_durable.specs.Recovered.{IsRecovered}
 use Rattle.oai_host.specs.Hosts.{HostState, Repository, begun}
 use Rattle.oai_daemon.specs.Archives.{archive, archived}
-use Rattle.oai_daemon.specs.Renewals.{HasReadBack, IsRenewed, IsSaved, is_checkpoint}
-use Rattle.oai_daemon.specs.Starts.{HasReplayed}
+use Rattle.oai_daemon.specs.Renewals.{HasReadBack, HasRenewed, IsRenewed, IsSaved, is_checkpoint}
+use Rattle.oai_daemon.specs.Starts.{HasReplayed, HasStarted}
 use Rattle.oai_daemon.specs.declared.origins.Origin.{Origin}
 use Rattle.oai_daemon.specs.declared.origins.Origin.TheVariants.{Shortened}
 
@@ -26,6 +26,11 @@ pub renewed_over : {A E : Type 0} (R : Type 0) (came : A → Origin) (origin : O
     → IfOk result (λ (a : A). came a ≡ origin) → IfOk result (λ (a : A). IsTrue (is_checkpoint (came a)) → R)
 renewed_over R came origin (Ok a) renewed same = λ is. renewed (subst (λ (o : Origin). IsTrue (is_checkpoint o)) same is)
 renewed_over R came origin (Err e) renewed nothing = nothing
+
+-- what holds of any origin
+pub renewed_always : {A E : Type 0} (R : Type 0) (came : A → Origin) (result : Result A E) → R → IfOk result (λ (a : A). IsTrue (is_checkpoint (came a)) → R)
+renewed_always R came (Ok a) renewed = λ is. renewed
+renewed_always R came (Err e) renewed = tt
 
 -- a crash leaves all records of a checkpoint, and no others
 pub checkpoint_left : {K D : Type 0} (s : Saving K) (seen : D → List ℕ) (may_leave : D → List ℕ → Type 0) (kept : K) (raise : ℕ) (written : FileJournal D) (records : List Entry)
@@ -61,16 +66,30 @@ renewed_of j file first forms text config kept raise written own read same saved
   saved = subst (λ (k : List Repository). IsSaved archive j file k first raise written) same saved;
 }
 
+-- a host replayed a journal, and a checkpoint was written of its state
+pub shortened_of : {D J : Type 0} (seen : D → List ℕ) (may_leave : D → List ℕ → Type 0) (is_clean : D → Bool) (held : Option (List ℕ)) (text : List ℕ) (origin : Origin) (count : ℕ) (host : HostState) (recovery : Recovery D)
+    (j : journal.Ghosts J) (is_honest : Bool) (raise : ℕ) (written : J) → HasStarted seen may_leave is_clean held text origin count host recovery → (IsTrue is_honest → IsTrue host.honest)
+    → (IsTrue host.honest → HoldsCheckpoint archive j host.repositories raise written) → HasRenewed seen is_clean j is_honest raise
+shortened_of seen may_leave is_clean held text origin count host recovery j is_honest raise written started honesty saved = record {
+  old = recovery;
+  written = written;
+  renewed = λ honest clean.
+      let all = started.replayed.redone clean in
+      renewed_of j (seen (disk_of recovery)) all.0 started.forms text started.config (map begun started.config.repositories) raise written all.1 started.read refl
+      (saved_of archive archived.kept archived.is_honest seen may_leave j (map begun started.config.repositories) host recovery all.0 count raise written all.2 (honesty honest) (saved (honesty honest)));
+}
+
 -- a checkpoint was replayed by a host in that state
-pub read_back : {D : Type 0} (seen : D → List ℕ) (may_leave : D → List ℕ → Type 0) (is_clean : D → Bool) (held : Option (List ℕ)) (text : List ℕ) (begun : List Repository)
+pub read_back : {D : Type 0} (seen : D → List ℕ) (may_leave : D → List ℕ → Type 0) (is_clean : D → Bool) (held : Origin → Option (List ℕ)) (forms : Forms) (text : List ℕ) (begun : List Repository)
     (first after : HostState) (origin : Origin) (count : ℕ) (recovery : Recovery D)
-    → first.repositories ≡ begun → origin ≡ Shortened
-    → HasReplayed archived.kept archived.is_honest archived.leaving seen may_leave is_clean held Elements text first.repositories origin count after recovery
-    → HasReadBack seen may_leave is_clean held text begun
-read_back seen may_leave is_clean held text begun first after origin count recovery same is replayed = record {
+    → first.repositories ≡ begun → origin ≡ Shortened → forms ≡ Elements
+    → HasReplayed archived.kept archived.is_honest archived.leaving seen may_leave is_clean (held origin) forms text first.repositories origin count after recovery
+    → HasReadBack seen may_leave is_clean (held Shortened) text begun
+read_back seen may_leave is_clean held forms text begun first after origin count recovery same is of replayed = record {
   count = count;
   host = after;
   recovery = recovery;
-  replayed = subst (λ (o : Origin). HasReplayed archived.kept archived.is_honest archived.leaving seen may_leave is_clean held Elements text begun o count after recovery) is
-      (subst (λ (k : List Repository). HasReplayed archived.kept archived.is_honest archived.leaving seen may_leave is_clean held Elements text k origin count after recovery) same replayed);
+  replayed = subst (λ (f : Forms). HasReplayed archived.kept archived.is_honest archived.leaving seen may_leave is_clean (held Shortened) f text begun Shortened count after recovery) of
+      (subst (λ (o : Origin). HasReplayed archived.kept archived.is_honest archived.leaving seen may_leave is_clean (held o) forms text begun o count after recovery) is
+      (subst (λ (k : List Repository). HasReplayed archived.kept archived.is_honest archived.leaving seen may_leave is_clean (held origin) forms text k origin count after recovery) same replayed));
 }

@@ -5,3 +5,4 @@ pub mod Ends
 pub mod Starts
 pub mod Lives
 pub mod Renewals
+pub mod ServedDisks

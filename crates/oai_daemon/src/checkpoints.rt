@@ -30,7 +30,7 @@ pub fn checkpoint_folder<P: Place, C: Clock, W: Write>(
     writer: &mut W,
 ) -> Result<(), ServerStop>
     ensures { OnOk result (IsJournalReplaced P.OldDisk.Disk.seen P.OldDisk.Disk.is_clean ⟦<FileJournal<P::NewDisk> as Journal>⟧ P.is_honest 1_000_000
-        P.Disk.Disk.seen P.Disk.Disk.may_leave P.Disk.Disk.is_clean P.held text.now) }
+        P.Disk.Disk.seen P.Disk.Disk.may_leave P.Disk.Disk.is_clean P.held_begun text.now) }
 {
     let config = config_in(alloc, Forms::Elements, text)?;
     place.lock()?;

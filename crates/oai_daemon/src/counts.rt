@@ -3,7 +3,7 @@ use crate::startups::Startup;
 use crate::tallies::Tally;
 use oai_figures::{Exposition, Figures};
 use oai_host::Config;
-use oai_http::{Endpoint, Status, named};
+use oai_http::{Endpoint, Status, Target};
 use std::alloc::{AllocError, Global};
 use std::rc::Rc;
 
@@ -110,17 +110,9 @@ impl Counts {
     }
 
     /// Counts an answer to a message with that target.
-    pub(crate) fn count(&mut self, target: &[u8], status: Status) {
+    pub(crate) fn count(&mut self, target: &Target<'_>, status: Status) {
         self.answers.count(status);
-        // `/oai/`, `/deposit/`: one byte tells most targets, and the others are looked at whole.
-        if target.get(1) == Some(&b'd') {
-            self.count_deposit(target, status);
-        }
-    }
-
-    /// Counts an answer to a message with that target, if it is a deposit's.
-    fn count_deposit(&mut self, target: &[u8], status: Status) {
-        let Some((Endpoint::Deposits, name)) = named(target) else {
+        let Some((Endpoint::Deposits, name)) = target.named() else {
             return;
         };
         for one in &mut self.deposits {

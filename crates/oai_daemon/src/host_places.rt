@@ -5,6 +5,7 @@ ghost use Rattle.std.specs.Prelude.{◌≡◌, IfOk, IsTrue};
 
 use crate::notices::Notice;
 use crate::places::Place;
+use crate::served_disks::ServedDisk;
 use oai_archive::ServerStop;
 use oai_device::FileDevice;
 use oai_journal::Recovery;
@@ -27,22 +28,29 @@ const FILE_MODE: u32 = 0o640;
 /// the first call to the last and never renamed, `journal`, `journal-wal`, which the file layer keeps beside it and
 /// which is empty, and `pages`; while a journal is begun also `journal.new` and `journal.new-wal`.
 ///
-/// `S` stands for the bytes of the file of the journal that is served, as it is opened for that. Its value is used up
-/// then, so that no second file is opened as that one.
+/// `S` stands for the bytes of the file of the folder's journal, as it is opened to be served, and `T` for those of one
+/// that was begun. Its value is used up then, so that no second file is opened as that one.
 #[derive(Drop)]
-pub struct HostPlace<'a, S> {
+pub struct HostPlace<'a, S, T> {
     rt: &'a HostRuntime,
     folder: &'a str,
     address: IpAddr,
     port: u16,
     is_quiet: bool,
     lock: Option<File>,
-    start: Option<S>,
+    found: Option<S>,
+    begun: Option<T>,
 }
 
-impl<'a, S: Start> HostPlace<'a, S> {
+impl<'a, S: Start, T: Start> HostPlace<'a, S, T> {
     /// The folder at that path, and that port of 127.0.0.1; port 0 means a free one. Nothing is opened.
-    pub fn new(rt: &'a HostRuntime, folder: &'a str, port: u16, start: S) -> HostPlace<'a, S> {
+    pub fn new(
+        rt: &'a HostRuntime,
+        folder: &'a str,
+        port: u16,
+        found: S,
+        begun: T,
+    ) -> HostPlace<'a, S, T> {
         HostPlace {
             rt,
             folder,
@@ -50,18 +58,19 @@ impl<'a, S: Start> HostPlace<'a, S> {
             port,
             is_quiet: false,
             lock: None,
-            start: Some(start),
+            found: Some(found),
+            begun: Some(begun),
         }
     }
 
     /// The same with the port of that address.
-    pub fn listening_at(mut self, address: IpAddr) -> HostPlace<'a, S> {
+    pub fn listening_at(mut self, address: IpAddr) -> HostPlace<'a, S, T> {
         self.address = address;
         self
     }
 
     /// The same, to which nothing is reported if it is quiet.
-    pub fn quiet(mut self, is_quiet: bool) -> HostPlace<'a, S> {
+    pub fn quiet(mut self, is_quiet: bool) -> HostPlace<'a, S, T> {
         self.is_quiet = is_quiet;
         self
     }
@@ -120,17 +129,19 @@ impl<'a, S: Start> HostPlace<'a, S> {
             Err(error) => Err(stop_of(error)),
         }
     }
+}
 
-    /// The disk over the file with that name, whose contents are those of `S`. The error is `InUse` if one was opened
-    /// before.
-    fn served_disk(&mut self, name: &str) -> Result<FileFrom<S>, ServerStop>
-        ensures { IfOk result (λ disk. ⟦<FileFrom<S> as Disk>⟧.seen disk ≡ S.Start.db) }
-    {
-        let path = self.path(name)?;
-        match self.start.take() {
-            Some(start) => disk_at(self.rt, path.as_str(), start),
-            None => Err(ServerStop::InUse),
-        }
+/// The disk over the file at the path, whose contents are those of the start. The error is `InUse` if it was used up.
+fn served_at<S: Start>(
+    rt: &HostRuntime,
+    path: &str,
+    start: Option<S>,
+) -> Result<FileFrom<S>, ServerStop>
+    ensures { IfOk result (λ disk. ⟦<FileFrom<S> as Disk>⟧.seen disk ≡ S.Start.db) }
+{
+    match start {
+        Some(start) => disk_at(rt, path, start),
+        None => Err(ServerStop::InUse),
     }
 }
 
@@ -170,10 +181,10 @@ fn stop_of(error: io::Error) -> ServerStop {
     }
 }
 
-impl<S: Start> Place for HostPlace<'_, S> {
+impl<S: Start, T: Start> Place for HostPlace<'_, S, T> {
     ghost use Rattle.std.specs.Prelude.{Some};
 
-    type Disk = FileFrom<S>;
+    type Disk = ServedDisk<FileFrom<S>, FileFrom<T>>;
 
     type OldDisk = FileFrom<Wary>;
 
@@ -186,6 +197,8 @@ impl<S: Start> Place for HostPlace<'_, S> {
     type Port = Listener;
 
     ghost held = { Some S.Start.db };
+
+    ghost held_begun = { Some T.Start.db };
 
     fn lock(&mut self) -> Result<(), ServerStop> {
         self.make_folder()?;
@@ -221,13 +234,25 @@ impl<S: Start> Place for HostPlace<'_, S> {
         }
     }
 
-    fn read_journal(&mut self) -> Result<FileFrom<Wary>, ServerStop> {
-        disk_at(self.rt, self.path("journal")?.as_str(), Wary)
+    fn open_journal(&mut self) -> Result<ServedDisk<FileFrom<S>, FileFrom<T>>, ServerStop> {
+        let path = self.path("journal")?;
+        match served_at(self.rt, path.as_str(), self.found.take()) {
+            Ok(disk) => Ok(ServedDisk::Found(disk)),
+            Err(stop) => Err(stop),
+        }
     }
 
     fn begin_journal(&mut self) -> Result<FileFrom<Unknown>, ServerStop> {
         drop(self.open_file("journal.new", true)?);
         disk_at(self.rt, self.path("journal.new")?.as_str(), Unknown)
+    }
+
+    fn open_begun(&mut self) -> Result<ServedDisk<FileFrom<S>, FileFrom<T>>, ServerStop> {
+        let path = self.path("journal.new")?;
+        match served_at(self.rt, path.as_str(), self.begun.take()) {
+            Ok(disk) => Ok(ServedDisk::Begun(disk)),
+            Err(stop) => Err(stop),
+        }
     }
 
     fn empty_pages(&mut self) -> Result<FileDevice<File>, ServerStop> {
@@ -238,17 +263,12 @@ impl<S: Start> Place for HostPlace<'_, S> {
         }
     }
 
-    fn open_journal(&mut self) -> Result<FileFrom<S>, ServerStop> {
-        self.served_disk("journal")
-    }
-
-    fn open_begun(&mut self) -> Result<FileFrom<S>, ServerStop> {
-        self.served_disk("journal.new")
-    }
-
-    fn keep_journal(&mut self, _begun: &Recovery<FileFrom<S>>) -> Result<(), ServerStop>
-        requires synced { IsTrue (⟦<FileFrom<S> as Disk>⟧.is_clean (disk_of _begun.now))
-            → IsReadBack ⟦<FileFrom<S> as Disk>⟧.seen ⟦<FileFrom<S> as Disk>⟧.may_leave _begun.now }
+    fn keep_journal(
+        &mut self,
+        _begun: &Recovery<ServedDisk<FileFrom<S>, FileFrom<T>>>,
+    ) -> Result<(), ServerStop>
+        requires synced { IsTrue (⟦<ServedDisk<FileFrom<S>, FileFrom<T>> as Disk>⟧.is_clean (disk_of _begun.now))
+            → IsReadBack ⟦<ServedDisk<FileFrom<S>, FileFrom<T>> as Disk>⟧.seen ⟦<ServedDisk<FileFrom<S>, FileFrom<T>> as Disk>⟧.may_leave _begun.now }
     {
         let new = self.path("journal.new")?;
         let kept = self.path("journal")?;
@@ -280,5 +300,9 @@ impl<S: Start> Place for HostPlace<'_, S> {
         if !self.is_quiet {
             let _ = eprintln!(self.rt; "figures: {line}");
         }
+    }
+
+    fn read_journal(&mut self) -> Result<FileFrom<Wary>, ServerStop> {
+        disk_at(self.rt, self.path("journal")?.as_str(), Wary)
     }
 }

@@ -1,9 +1,11 @@
 //! The journal of a folder, found or begun.
-ghost use Rattle.oai_archive.specs.Readings.{HasBegun, IsReadBack};
+ghost use Rattle.oai_archive.specs.Readings.{HasBegun, HasBegunFor, IsReadBack};
 ghost use Rattle.oai_daemon.specs.Renewals.{HasRenewed, is_checkpoint};
+ghost use Rattle.oai_daemon.specs.ServedDisks.{file_of};
 ghost use Rattle.oai_daemon.specs.declared.origins.Origin.TheVariants.{Begun};
+ghost use Rattle.oai_item.specs.declared.forms.Forms.TheVariants.{Elements};
 ghost use Rattle.oai_journal.specs.Recovered.{disk_of};
-ghost use Rattle.std.specs.Prelude.{◌≡◌, IfOk, IsTrue, OnOk};
+ghost use Rattle.std.specs.Prelude.{◌≡◌, IfOk, IfSome, IsTrue, OnOk};
 
 use crate::clocks::moment_of;
 use crate::dates::Dates;
@@ -11,7 +13,7 @@ use crate::notices::Notice;
 use crate::origins::Origin;
 use crate::places::Place;
 use crate::renewals::{Renewal, renew};
-use oai_archive::{ServerStop, begin_reading, create_journal, has_config, read_over};
+use oai_archive::{ServerStop, begin_for, begin_reading, create_journal, has_config};
 use oai_host::Config;
 use oai_item::Forms;
 use oai_journal::{FileJournal, Journal, Recovery};
@@ -23,109 +25,141 @@ use std::rt::Clock;
 /// MiB.
 const MAX_TAIL: usize = 67_108_864;
 
-/// A journal with which a server starts.
-#[derive(Clone, Copy)]
-pub(crate) struct Prepared {
+/// A journal with which a server starts, whose first record is read.
+#[derive(Drop)]
+pub(crate) struct Prepared<D: Disk> {
+    pub(crate) recovery: Recovery<D>,
     /// Where it comes from.
     pub(crate) origin: Origin,
     /// Which forms its records may have.
     pub(crate) forms: Forms,
 }
 
-/// Sees to it that there is a journal of the configuration, which was read from the text; returns where it comes from.
-/// One that was found is the folder's. Any other stands beside it: it was begun, if there was none; or a checkpoint was
-/// written, if the folder's has another configuration with which the archive can continue, or is long while no list is
-/// open.
+/// The journal of the configuration, which was read from the text: the folder's; or one that stands beside it. That was
+/// begun, if there was none; or it is a checkpoint, if the folder's has another configuration with which the archive can
+/// continue.
 pub(crate) fn prepare<P: Place, C: Clock>(
     alloc: Global,
     place: &mut P,
     clock: &C,
     text: &[u8],
     config: &Config,
-) -> Result<Prepared, ServerStop>
-    ensures { IfOk result (λ found. IsTrue (is_checkpoint found.origin)
-        → HasRenewed P.OldDisk.Disk.seen P.OldDisk.Disk.is_clean ⟦<FileJournal<P::NewDisk> as Journal>⟧ P.is_honest 0) }
+) -> Result<Prepared<P::Disk>, ServerStop>
+    ensures begun { IfOk result (λ prepared. IsTrue (P.Disk.Disk.is_clean (disk_of prepared.recovery))
+        → HasBegunFor P.Disk.Disk.seen P.Disk.Disk.may_leave prepared.forms text.now prepared.recovery) }
+    ensures file { IfOk result (λ prepared. IfSome (file_of P.held P.held_begun prepared.origin)
+        (λ file. P.Disk.Disk.seen (disk_of prepared.recovery) ≡ file)) }
+    ensures renewed { IfOk result (λ prepared. IsTrue (is_checkpoint prepared.origin)
+        → HasRenewed P.Disk.Disk.seen P.Disk.Disk.is_clean ⟦<FileJournal<P::NewDisk> as Journal>⟧ P.is_honest 0) }
 {
     if !place.find_journal()? {
-        let disk = place.begin_journal()?;
-        drop(create_journal(alloc, disk, moment_of(clock)?, text)?);
-        return Ok(written(Origin::Begun));
+        return begin(alloc, place, clock, text);
     }
-    let mut old = begin_reading(alloc, place.read_journal()?)?;
+    let disk = place.open_journal()?;
+    let old = begin_reading(alloc, disk)?;
+    match has_config(alloc, &old, text)? {
+        Some(forms) => Ok(Prepared {
+            recovery: old,
+            origin: Origin::Found,
+            forms,
+        }),
+        None => reconfigure(alloc, place, clock, text, config, old),
+    }
+}
+
+/// A journal that is begun, with the configuration in the text.
+fn begin<P: Place, C: Clock>(
+    alloc: Global,
+    place: &mut P,
+    clock: &C,
+    text: &[u8],
+) -> Result<Prepared<P::Disk>, ServerStop>
+    ensures begun { IfOk result (λ prepared. IsTrue (P.Disk.Disk.is_clean (disk_of prepared.recovery))
+        → HasBegunFor P.Disk.Disk.seen P.Disk.Disk.may_leave prepared.forms text.now prepared.recovery) }
+    ensures file { IfOk result (λ prepared. IfSome (file_of P.held P.held_begun prepared.origin)
+        (λ file. P.Disk.Disk.seen (disk_of prepared.recovery) ≡ file)) }
+    ensures renewed { IfOk result (λ prepared. IsTrue (is_checkpoint prepared.origin)
+        → HasRenewed P.Disk.Disk.seen P.Disk.Disk.is_clean ⟦<FileJournal<P::NewDisk> as Journal>⟧ P.is_honest 0) }
+{
+    let disk = place.begin_journal()?;
+    drop(create_journal(alloc, disk, moment_of(clock)?, text)?);
+    prepare_begun(alloc, place, text, Origin::Begun)
+}
+
+/// A checkpoint of the folder's journal, whose first record is read: with the configuration, which was read from the
+/// text.
+fn reconfigure<P: Place, C: Clock>(
+    alloc: Global,
+    place: &mut P,
+    clock: &C,
+    text: &[u8],
+    config: &Config,
+    mut old: Recovery<P::Disk>,
+) -> Result<Prepared<P::Disk>, ServerStop>
+    requires begun { IsTrue (P.Disk.Disk.is_clean (disk_of old)) → HasBegun P.Disk.Disk.seen P.Disk.Disk.may_leave old }
+    ensures begun { IfOk result (λ prepared. IsTrue (P.Disk.Disk.is_clean (disk_of prepared.recovery))
+        → HasBegunFor P.Disk.Disk.seen P.Disk.Disk.may_leave prepared.forms text.now prepared.recovery) }
+    ensures file { IfOk result (λ prepared. IfSome (file_of P.held P.held_begun prepared.origin)
+        (λ file. P.Disk.Disk.seen (disk_of prepared.recovery) ≡ file)) }
+    ensures renewed { IfOk result (λ prepared. IsTrue (is_checkpoint prepared.origin)
+        → HasRenewed P.Disk.Disk.seen P.Disk.Disk.is_clean ⟦<FileJournal<P::NewDisk> as Journal>⟧ P.is_honest 0) }
+{
     let renewal = Renewal {
         text,
         config,
         raise: 0,
     };
-    let found = found_of(alloc, clock, &renewal, &mut old)?;
-    match found.origin {
-        Origin::Found => Ok(found),
-        _ => {
-            drop(renew(alloc, place, clock, &renewal, &mut old)?);
-            Ok(found)
-        }
-    }
+    drop(renew(alloc, place, clock, &renewal, &mut old)?);
+    drop(old);
+    prepare_begun(alloc, place, text, Origin::Reconfigured)
 }
 
-/// A journal that this program wrote for the startup: its records may be elements.
-fn written(origin: Origin) -> Prepared
-    ensures { result.origin ≡ origin }
+/// The journal of that origin that was written beside the folder's, with the configuration in the text.
+pub(crate) fn prepare_begun<P: Place>(
+    alloc: Global,
+    place: &mut P,
+    text: &[u8],
+    origin: Origin,
+) -> Result<Prepared<P::Disk>, ServerStop>
+    requires other { file_of P.held P.held_begun origin ≡ P.held_begun }
+    ensures begun { IfOk result (λ prepared. IsTrue (P.Disk.Disk.is_clean (disk_of prepared.recovery))
+        → HasBegunFor P.Disk.Disk.seen P.Disk.Disk.may_leave prepared.forms text.now prepared.recovery) }
+    ensures file { IfOk result (λ prepared. IfSome (file_of P.held P.held_begun prepared.origin)
+        (λ file. P.Disk.Disk.seen (disk_of prepared.recovery) ≡ file)) }
+    ensures origin { IfOk result (λ prepared. prepared.origin ≡ origin) }
+    ensures forms { IfOk result (λ prepared. prepared.forms ≡ Elements) }
 {
-    Prepared {
+    let disk = place.open_begun()?;
+    let recovery = begin_for(alloc, disk, Forms::Elements, text)?;
+    Ok(Prepared {
+        recovery,
         origin,
         forms: Forms::Elements,
-    }
-}
-
-/// Whether the journal, whose first record is read, can go on, with the forms of its records, or why it is replaced by a
-/// checkpoint. Its first record is read then too.
-fn found_of<D: Disk + Drop, C: Clock>(
-    alloc: Global,
-    clock: &C,
-    renewal: &Renewal<'_>,
-    journal: &mut Recovery<D>,
-) -> Result<Prepared, ServerStop>
-    ensures { OnOk result ((IsTrue (D.Disk.is_clean (disk_of journal.old)) → HasBegun D.Disk.seen D.Disk.may_leave journal.old)
-        → IsTrue (D.Disk.is_clean (disk_of journal.new)) → HasBegun D.Disk.seen D.Disk.may_leave journal.new) }
-{
-    let Some(forms) = has_config(alloc, journal, renewal.text)? else {
-        return Ok(written(Origin::Reconfigured));
-    };
-    if is_due(clock, renewal.config, journal)? {
-        return Ok(written(Origin::Shortened));
-    }
-    Ok(Prepared {
-        origin: Origin::Found,
-        forms,
     })
 }
 
-/// Whether the journal is long, and no list of the configuration can still be open. The journal is only read if its
-/// file is long; its first record is read then.
-fn is_due<D: Disk + Drop, C: Clock>(
+/// Whether the journal that was found, of which that is known, is long, and no list can still be open that stays open for
+/// so many seconds at most.
+pub(crate) fn is_due<C: Clock>(
     clock: &C,
-    config: &Config,
-    journal: &mut Recovery<D>,
-) -> Result<bool, ServerStop>
-    ensures { OnOk result ((IsTrue (D.Disk.is_clean (disk_of journal.old)) → HasBegun D.Disk.seen D.Disk.may_leave journal.old)
-        → IsTrue (D.Disk.is_clean (disk_of journal.new)) → HasBegun D.Disk.seen D.Disk.may_leave journal.new) }
-{
-    if journal.file_len() <= MAX_TAIL {
+    origin: Origin,
+    dates: &Dates,
+    lifetime: i64,
+) -> Result<bool, ServerStop> {
+    if origin != Origin::Found {
         return Ok(false);
     }
-    let mut dates = Dates::new();
-    read_over(journal, &mut dates)?;
     if dates.position <= dates.saved.saturating_mul(2).saturating_add(MAX_TAIL) {
         return Ok(false);
     }
     Ok(match dates.listed {
-        Some(last) => moment_of(clock)? > last.saturating_add(longest_lifetime(config)),
+        Some(last) => moment_of(clock)? > last.saturating_add(lifetime),
         None => true,
     })
 }
 
 /// The longest time in seconds that a list of the configuration stays open without a request.
-fn longest_lifetime(config: &Config) -> i64 {
+pub(crate) fn longest_lifetime(config: &Config) -> i64 {
     let mut longest = 0;
     for repository in config.repositories() {
         longest = repository.config.lifetime().max(longest);

@@ -3,6 +3,7 @@
 ghost use Rattle.oai_daemon.specs.Archives.{archive};
 ghost use Rattle.oai_daemon.specs.Lives.{BeginsWithAll, HasLived};
 ghost use Rattle.oai_daemon.specs.Renewals.{IsRenewed, state_before};
+ghost use Rattle.oai_daemon.specs.ServedDisks.{file_of};
 ghost use Rattle.oai_daemon.specs.declared.origins.Origin.{Origin as From};
 ghost use Rattle.oai_durable.specs.Checkpoints.{AreStages, IsCheckpoint, IsHistory, JournalStage};
 ghost use Rattle.oai_durable.specs.Journaled.{Parts};
@@ -19,6 +20,7 @@ ghost use Rattle.oai_serving.specs.Rounds.{World};
 ghost use Rattle.oai_serving.specs.declared.faults.ServeFault.{ServeFault as Fault};
 ghost use Rattle.std.specs.Prelude.{◌≡◌, [], ℕ, IsTrue, List, Result, Some};
 
+use crate::served_disks::ServedDisk;
 use oai_journal::{FileJournal, Journal};
 use oai_serving::Stream;
 use sqlite_disk::Disk;
@@ -36,15 +38,17 @@ pub fn archive_law()
         → IsHistory archive begun stages left }
 {}
 
-/// What `serve` promises at a `HostPlace<S>`, of the file that `S` stands for: provided that the file returned what was
-/// written to it as the journal was read, the life began with all log records in it. A theorem, proved by an empty
-/// function.
-pub fn whole_file_law<L: Stream, S: Start>()
+/// What `serve` promises at a `HostPlace<S, T>`, of the file that `S` stands for if the journal was found, and `T` if it
+/// was begun: provided that the file returned what was written to it as the journal was read, the life began with all log
+/// records in it. A theorem, proved by an empty function.
+pub fn whole_file_law<L: Stream, S: Start, T: Start>()
     ensures { (text : List ℕ) (rings : List Held) (origin : From) (later : Known L) (result : Result Unit Fault) (new : World L (Parts HostState (Filed _)))
-        (lived : HasLived ⟦<FileJournal<FileFrom<S>> as Journal>⟧ ⟦<FileFrom<S> as Disk>⟧.seen ⟦<FileFrom<S> as Disk>⟧.is_clean L.contents L.remaining
-        (Some S.Start.db) text rings origin later result new)
-        → IsTrue (⟦<FileFrom<S> as Disk>⟧.is_clean (disk_of lived.recovery))
-        → BeginsWithAll ⟦<FileJournal<FileFrom<S>> as Journal>⟧ S.Start.db lived.forms text origin lived.config lived.old.handler }
+        (lived : HasLived ⟦<FileJournal<ServedDisk<FileFrom<S>, FileFrom<T>>> as Journal>⟧ ⟦<ServedDisk<FileFrom<S>, FileFrom<T>> as Disk>⟧.seen
+        ⟦<ServedDisk<FileFrom<S>, FileFrom<T>> as Disk>⟧.is_clean L.contents L.remaining
+        (file_of (Some S.Start.db) (Some T.Start.db) origin) text rings origin later result new)
+        → IsTrue (⟦<ServedDisk<FileFrom<S>, FileFrom<T>> as Disk>⟧.is_clean (disk_of lived.recovery))
+        → BeginsWithAll ⟦<FileJournal<ServedDisk<FileFrom<S>, FileFrom<T>>> as Journal>⟧ (file_of S.Start.db T.Start.db origin)
+        lived.forms text origin lived.config lived.old.handler }
 {}
 
 /// What `serve` and `checkpoint_folder` promise of a checkpoint that they wrote, of the file in which it is read back:

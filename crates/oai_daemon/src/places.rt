@@ -12,14 +12,14 @@ use oai_serving::{Sockets, Stream};
 use sqlite_disk::Disk;
 
 /// A folder, a port, and the streams on which a server reports. A startup makes the calls in the order of the methods
-/// here. If a checkpoint replaces the journal, the pages are emptied twice: before `begin_journal`, for the replay of the
-/// old journal, and after it. The journal that is served is opened once, by `open_journal` or `open_begun`. Its disk, the
-/// old journal's, and that of a journal that is written have three types, since a disk's clauses about its contents are
-/// about one file.
+/// here, and opens the folder's journal once, and one that was begun once. If a checkpoint replaces the journal, the
+/// pages are emptied twice: before `begin_journal`, for the replay of the old journal, and after `open_begun`. The disks
+/// of the journal that is served, of one that a checkpoint without a server replaces, and of one that is written have
+/// three types, since a disk's clauses about its contents are about one file.
 pub trait Place {
     /// The disk of the journal that is served.
     type Disk: Disk + Drop;
-    /// The disk of the journal that was found, on which it is looked at, and replayed if a checkpoint replaces it.
+    /// The disk of a journal that is read, and not served.
     type OldDisk: Disk + Drop;
     /// The disk of a journal that is begun.
     type NewDisk: Disk + Drop;
@@ -30,8 +30,11 @@ pub trait Place {
     /// What accepts connections.
     type Port: Sockets<Self::Link> + Drop;
 
-    /// The bytes of the file of the journal that is served, as it is opened for that, if they are known.
+    /// The bytes of the file of the folder's journal, as it is opened to be served, if they are known.
     ghost held: { Option (List ℕ) } = { None };
+
+    /// The same of the journal that was begun.
+    ghost held_begun: { Option (List ℕ) } = { None };
 
     /// Whether the device of the pages returns what was written to it.
     ghost is_honest: { Bool } = { false };
@@ -47,23 +50,20 @@ pub trait Place {
     /// Removes what an earlier startup left of a journal that it began, and returns whether there is a journal.
     fn find_journal(&mut self) -> Result<bool, ServerStop>;
 
-    /// The disk of the folder's journal, to be read.
-    fn read_journal(&mut self) -> Result<Self::OldDisk, ServerStop>;
-
-    /// The disk of a journal that is begun beside the folder's: it is empty.
-    fn begin_journal(&mut self) -> Result<Self::NewDisk, ServerStop>;
-
-    /// The device of the pages, empty.
-    fn empty_pages(&mut self) -> Result<Self::Pages, ServerStop>
-        ensures { IfOk result (λ pages. IsTrue is_honest → IsTrue (Self.Pages.PageDevice.honest pages)) };
-
     /// The disk of the folder's journal, to be served.
     fn open_journal(&mut self) -> Result<Self::Disk, ServerStop>
         ensures { IfOk result (λ disk. IfSome held (λ file. Self.Disk.Disk.seen disk ≡ file)) };
 
+    /// The disk of a journal that is begun beside the folder's: it is empty.
+    fn begin_journal(&mut self) -> Result<Self::NewDisk, ServerStop>;
+
     /// The disk of the journal that was begun and written, to be read back and served.
     fn open_begun(&mut self) -> Result<Self::Disk, ServerStop>
-        ensures { IfOk result (λ disk. IfSome held (λ file. Self.Disk.Disk.seen disk ≡ file)) };
+        ensures { IfOk result (λ disk. IfSome held_begun (λ file. Self.Disk.Disk.seen disk ≡ file)) };
+
+    /// The device of the pages, empty.
+    fn empty_pages(&mut self) -> Result<Self::Pages, ServerStop>
+        ensures { IfOk result (λ pages. IsTrue is_honest → IsTrue (Self.Pages.PageDevice.honest pages)) };
 
     /// Replaces the folder's journal, if there is one, by the journal that was begun. It was read to its end, and all
     /// its bytes are synced.
@@ -80,4 +80,7 @@ pub trait Place {
 
     /// Reports the figures of the server to the operator, each hour, as a line. One that cannot be written ends nothing.
     fn tell_figures(&mut self, line: &str);
+
+    /// The disk of the folder's journal, to be read, for a checkpoint without a server.
+    fn read_journal(&mut self) -> Result<Self::OldDisk, ServerStop>;
 }

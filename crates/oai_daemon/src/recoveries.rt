@@ -78,7 +78,7 @@ impl<'a, P: Place, C: Clock> Meter<'a, P, C> {
             records,
             seconds,
             moment,
-            saved_to: self.dates.saved_to,
+            dates: self.dates,
         })
     }
 }

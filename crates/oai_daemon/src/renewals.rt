@@ -16,6 +16,7 @@ use oai_host::Config;
 use oai_journal::{FileJournal, Journal, Recovery};
 use oai_replay::Replayed;
 use oai_startup::config_in;
+use sqlite_disk::Disk;
 use std::alloc::Global;
 use std::rt::Clock;
 
@@ -34,16 +35,16 @@ pub(crate) struct Renewal<'a> {
 /// records of the old journal leave, whose first record is read. The configuration may be another one with which the
 /// archive can continue; all open lists have ended in the checkpoint. If the configuration does not match, or after a
 /// fault, the old journal stays.
-pub(crate) fn renew<P: Place, C: Clock>(
+pub(crate) fn renew<D: Disk + Drop, P: Place, C: Clock>(
     alloc: Global,
     place: &mut P,
     clock: &C,
     renewal: &Renewal<'_>,
-    old: &mut Recovery<P::OldDisk>,
+    old: &mut Recovery<D>,
 ) -> Result<FileJournal<P::NewDisk>, ServerStop>
-    ensures { IfOk result (λ written. IsTrue P.is_honest → IsTrue (P.OldDisk.Disk.is_clean (disk_of old.new))
-        → (IsTrue (P.OldDisk.Disk.is_clean (disk_of old.old)) → HasBegun P.OldDisk.Disk.seen P.OldDisk.Disk.may_leave old.old)
-        → IsRenewed ⟦<FileJournal<P::NewDisk> as Journal>⟧ (P.OldDisk.Disk.seen (disk_of old.new)) renewal.now.raise written) }
+    ensures { IfOk result (λ written. IsTrue P.is_honest → IsTrue (D.Disk.is_clean (disk_of old.new))
+        → (IsTrue (D.Disk.is_clean (disk_of old.old)) → HasBegun D.Disk.seen D.Disk.may_leave old.old)
+        → IsRenewed ⟦<FileJournal<P::NewDisk> as Journal>⟧ (D.Disk.seen (disk_of old.new)) renewal.now.raise written) }
 {
     let (forms, text) = config_text(alloc, old)?;
     let config = config_in(alloc, forms, &text)?;
@@ -56,39 +57,48 @@ pub(crate) fn renew<P: Place, C: Clock>(
 }
 
 /// Writes the checkpoint of the handler, once it has replayed the old journal.
-fn renew_by<P: Place, H: Replayed + Drop, C: Clock>(
+fn renew_by<D: Disk + Drop, P: Place, H: Replayed + Drop, C: Clock>(
     alloc: Global,
     place: &mut P,
     clock: &C,
     renewal: &Renewal<'_>,
     mut handler: H,
-    old: &mut Recovery<P::OldDisk>,
+    old: &mut Recovery<D>,
 ) -> Result<FileJournal<P::NewDisk>, ServerStop>
-    ensures saved { IfOk result (λ written. IsTrue (H.is_honest handler) → IsTrue (P.OldDisk.Disk.is_clean (disk_of old.new)) → (first : Entry)
-        → HasRecovered P.OldDisk.Disk.seen P.OldDisk.Disk.may_leave old.old first []
+    ensures saved { IfOk result (λ written. IsTrue (H.is_honest handler) → IsTrue (D.Disk.is_clean (disk_of old.new)) → (first : Entry)
+        → HasRecovered D.Disk.seen D.Disk.may_leave old.old first []
         → IsSaved (record {
           leaving = record { redone = H.redone; restored = H.restored };
           reply = H.reply;
           parts = H.parts;
           ended = H.ended;
           emptied = H.emptied;
-        }) ⟦<FileJournal<P::NewDisk> as Journal>⟧ (P.OldDisk.Disk.seen (disk_of old.new)) (H.kept handler) first renewal.now.raise written) }
-    ensures clean { IsTrue (P.OldDisk.Disk.is_clean (disk_of old.new)) → IsTrue (P.OldDisk.Disk.is_clean (disk_of old.old)) }
+        }) ⟦<FileJournal<P::NewDisk> as Journal>⟧ (D.Disk.seen (disk_of old.new)) (H.kept handler) first renewal.now.raise written) }
+    ensures clean { IsTrue (D.Disk.is_clean (disk_of old.new)) → IsTrue (D.Disk.is_clean (disk_of old.old)) }
 {
     recover_all(alloc, place, clock, Origin::Found, &mut handler, old)?;
-    match save(alloc, place, clock, renewal, &mut handler) {
+    match save(
+        alloc,
+        place,
+        clock,
+        renewal.text,
+        &mut handler,
+        renewal.raise,
+    ) {
         Ok(written) => Ok(written),
         Err(stop) => Err(stop),
     }
 }
 
-/// Writes the handler's state as a checkpoint beside the journal of the place.
-fn save<P: Place, H: Replayed, C: Clock>(
+/// Writes the handler's state as a checkpoint beside the journal of the place, with the configuration in the text, and
+/// the number of each next list raised by that much.
+pub(crate) fn save<P: Place, H: Replayed, C: Clock>(
     alloc: Global,
     place: &mut P,
     clock: &C,
-    renewal: &Renewal<'_>,
+    text: &[u8],
     handler: &mut H,
+    raise: u32,
 ) -> Result<FileJournal<P::NewDisk>, ServerStop>
     ensures { IfOk result (λ written. IsTrue (H.is_honest handler.old)
         → HoldsCheckpoint (record {
@@ -97,9 +107,9 @@ fn save<P: Place, H: Replayed, C: Clock>(
           parts = H.parts;
           ended = H.ended;
           emptied = H.emptied;
-        }) ⟦<FileJournal<P::NewDisk> as Journal>⟧ (H.kept handler.old) renewal.now.raise written) }
+        }) ⟦<FileJournal<P::NewDisk> as Journal>⟧ (H.kept handler.old) raise written) }
 {
     let disk = place.begin_journal()?;
     let moment = moment_of(clock)?;
-    write_checkpoint(alloc, disk, moment, renewal.text, handler, renewal.raise)
+    write_checkpoint(alloc, disk, moment, text, handler, raise)
 }

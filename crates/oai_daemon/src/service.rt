@@ -2,6 +2,7 @@
 ghost use Rattle.oai_daemon.specs.Ends.{serve_outcome, stop_of};
 ghost use Rattle.oai_daemon.specs.Lives.{HasLived};
 ghost use Rattle.oai_daemon.specs.Renewals.{HasRenewed, is_checkpoint};
+ghost use Rattle.oai_daemon.specs.ServedDisks.{file_of};
 ghost use Rattle.oai_daemon.specs.Starts.{HasResumed, HasServed};
 ghost use Rattle.oai_keys.specs.Guards.{unguarded};
 ghost use Rattle.oai_serving.specs.Accepted.{PassesNone, known_of};
@@ -103,10 +104,10 @@ pub fn serve<'a, P: Place, C: Clock>(
     rings: Sequence<Ring>,
 ) -> Result<Ended<P::Link, P::Port, Hosting<'a, P>>, ServerStop>
     ensures lived { IfOk result (λ ended. HasLived ⟦<FileJournal<P::Disk> as Journal>⟧ P.Disk.Disk.seen P.Disk.Disk.is_clean
-        P.Link.Stream.contents P.Link.Stream.remaining P.held text.now rings ended.origin
+        P.Link.Stream.contents P.Link.Stream.remaining (file_of P.held P.held_begun ended.origin) text.now rings ended.origin
         (known_of (P.Port.Sockets.accepted ended.port) (P.Port.Sockets.gone ended.port)) ended.result (world_behind unguarded ended.server)) }
     ensures renewed { IfOk result (λ ended. IsTrue (is_checkpoint ended.origin)
-        → HasRenewed P.OldDisk.Disk.seen P.OldDisk.Disk.is_clean ⟦<FileJournal<P::NewDisk> as Journal>⟧ P.is_honest 0) }
+        → HasRenewed P.Disk.Disk.seen P.Disk.Disk.is_clean ⟦<FileJournal<P::NewDisk> as Journal>⟧ P.is_honest 0) }
 {
     let config = config_in(alloc, Forms::Elements, text)?;
     let counts = Counts::new(alloc, &config, second_of(clock))?;

@@ -1,19 +1,23 @@
 //! A host that has replayed a journal.
+ghost use Rattle.oai_archive.specs.Readings.{HasBegunFor};
 ghost use Rattle.oai_config.specs.Reading.{IsRead};
 ghost use Rattle.oai_startup.specs.Rules.{HaveRules};
 ghost use Rattle.oai_daemon.specs.Renewals.{HasReadBack, HasRenewed, is_checkpoint};
+ghost use Rattle.oai_daemon.specs.ServedDisks.{file_of};
 ghost use Rattle.oai_daemon.specs.Starts.{HasReplayed, HasStarted};
 ghost use Rattle.oai_host.specs.Hosts.{begun};
 ghost use Rattle.oai_item.specs.declared.forms.Forms.TheVariants.{Elements};
+ghost use Rattle.oai_journal.specs.Recovered.{disk_of};
 ghost use Rattle.std.specs.Prelude.{◌≡◌, IfOk, IfSome, IsTrue, Ok, OnOk, map};
 
-use crate::journals::{Prepared, keep, prepare};
+use crate::journals::{Prepared, is_due, keep, longest_lifetime, prepare, prepare_begun};
 use crate::notices::Notice;
 use crate::origins::Origin;
 use crate::places::Place;
 use crate::recoveries::recover_all;
+use crate::renewals::save;
 use crate::startups::Startup;
-use oai_archive::{ServerStop, begin_for};
+use oai_archive::ServerStop;
 use oai_host::{Config, Host};
 use oai_item::Forms;
 use oai_journal::{FileJournal, Journal, Recovery};
@@ -42,7 +46,7 @@ pub(crate) struct Started<D: Disk, H> {
 /// The host of the configuration, which was read from the text, in the state that the journal of the place gives. If
 /// there is none, it is begun; one with another configuration, and one that is long while no list is open, is replaced
 /// by a checkpoint, and the host is the one that read that back. The records have the forms of the journal's version, by
-/// which the configuration is read once more if they are lists of fields alone.
+/// which the configuration is read once more if they are lists of fields alone. The journal is read once.
 pub(crate) fn start<P: Place, C: Clock>(
     alloc: Global,
     place: &mut P,
@@ -52,22 +56,75 @@ pub(crate) fn start<P: Place, C: Clock>(
 ) -> Result<Started<P::Disk, Host<PagedVersions<P::Pages>>>, ServerStop>
     requires read { IsRead Elements text.now (Ok config) }
     requires rules { HaveRules config }
-    ensures started { IfOk result (λ started. HasStarted P.Disk.Disk.seen P.Disk.Disk.may_leave P.Disk.Disk.is_clean P.held
-        text.now started.origin started.records started.handler started.recovery) }
+    ensures started { IfOk result (λ started. HasStarted P.Disk.Disk.seen P.Disk.Disk.may_leave P.Disk.Disk.is_clean
+        (file_of P.held P.held_begun started.origin) text.now started.origin started.records started.handler started.recovery) }
     ensures renewed { IfOk result (λ started. IsTrue (is_checkpoint started.origin)
-        → HasRenewed P.OldDisk.Disk.seen P.OldDisk.Disk.is_clean ⟦<FileJournal<P::NewDisk> as Journal>⟧ P.is_honest 0) }
+        → HasRenewed P.Disk.Disk.seen P.Disk.Disk.is_clean ⟦<FileJournal<P::NewDisk> as Journal>⟧ P.is_honest 0) }
 {
-    let found = prepare(alloc, place, clock, text, &config)?;
-    let config = config_for(alloc, place, found.forms, text, config)?;
-    let host = host_in(alloc, place, config)?;
-    start_by(alloc, place, clock, text, found, host)
+    let lifetime = longest_lifetime(&config);
+    let prepared = prepare(alloc, place, clock, text, &config)?;
+    let forms = prepared.forms;
+    let started = start_at(alloc, place, clock, text, config, prepared)?;
+    let dates = started.startup.replay.dates;
+    if is_due(clock, started.origin, &dates, lifetime)? {
+        return shorten(alloc, place, clock, text, started);
+    }
+    tell_forms(place, forms);
+    Ok(started)
 }
 
-/// The configuration with these forms of records: as it is, if they may be elements, and otherwise read from the text; that
-/// is reported.
-fn config_for<P: Place>(
+/// The host of the configuration, which was read from the text, after it replayed the journal that was prepared.
+fn start_at<P: Place, C: Clock>(
     alloc: Global,
     place: &mut P,
+    clock: &C,
+    text: &[u8],
+    config: Config,
+    prepared: Prepared<P::Disk>,
+) -> Result<Started<P::Disk, Host<PagedVersions<P::Pages>>>, ServerStop>
+    requires read { IsRead Elements text.now (Ok config) }
+    requires rules { HaveRules config }
+    requires begun { IsTrue (P.Disk.Disk.is_clean (disk_of prepared.recovery))
+        → HasBegunFor P.Disk.Disk.seen P.Disk.Disk.may_leave prepared.forms text.now prepared.recovery }
+    requires file { IfSome (file_of P.held P.held_begun prepared.origin)
+        (λ file. P.Disk.Disk.seen (disk_of prepared.recovery) ≡ file) }
+    ensures started { IfOk result (λ started. HasStarted P.Disk.Disk.seen P.Disk.Disk.may_leave P.Disk.Disk.is_clean
+        (file_of P.held P.held_begun started.origin) text.now started.origin started.records started.handler started.recovery) }
+    ensures origin { IfOk result (λ started. started.origin ≡ prepared.origin) }
+    ensures honesty { IfOk result (λ started. IsTrue P.is_honest → IsTrue started.handler.honest) }
+{
+    let config = config_for(alloc, prepared.forms, text, config)?;
+    let host = host_in(alloc, place, config)?;
+    start_by(alloc, place, clock, text, prepared, host)
+}
+
+/// Replaces the journal, which was found and replayed, by a checkpoint of the host's state; returns the host that read
+/// that back.
+fn shorten<P: Place, C: Clock>(
+    alloc: Global,
+    place: &mut P,
+    clock: &C,
+    text: &[u8],
+    mut found: Started<P::Disk, Host<PagedVersions<P::Pages>>>,
+) -> Result<Started<P::Disk, Host<PagedVersions<P::Pages>>>, ServerStop>
+    requires started { HasStarted P.Disk.Disk.seen P.Disk.Disk.may_leave P.Disk.Disk.is_clean
+        (file_of P.held P.held_begun found.origin) text.now found.origin found.records found.handler found.recovery }
+    requires honesty { IsTrue P.is_honest → IsTrue found.handler.honest }
+    ensures started { IfOk result (λ started. HasStarted P.Disk.Disk.seen P.Disk.Disk.may_leave P.Disk.Disk.is_clean
+        (file_of P.held P.held_begun started.origin) text.now started.origin started.records started.handler started.recovery) }
+    ensures renewed { IfOk result (λ started. IsTrue (is_checkpoint started.origin)
+        → HasRenewed P.Disk.Disk.seen P.Disk.Disk.is_clean ⟦<FileJournal<P::NewDisk> as Journal>⟧ P.is_honest 0) }
+{
+    drop(save(alloc, place, clock, text, &mut found.handler, 0)?);
+    drop(found);
+    let config = config_in(alloc, Forms::Elements, text)?;
+    let prepared = prepare_begun(alloc, place, text, Origin::Shortened)?;
+    start_at(alloc, place, clock, text, config, prepared)
+}
+
+/// The configuration with these forms of records: as it is, if they may be elements, and otherwise read from the text.
+fn config_for(
+    alloc: Global,
     forms: Forms,
     text: &[u8],
     config: Config,
@@ -79,31 +136,43 @@ fn config_for<P: Place>(
 {
     match forms {
         Forms::Elements => Ok(config),
-        Forms::Fields => {
-            place.tell(Notice::OldVersion);
-            Ok(config_in(alloc, Forms::Fields, text)?)
-        }
+        Forms::Fields => Ok(config_in(alloc, Forms::Fields, text)?),
     }
 }
 
-/// The handler, after it replayed all records of the journal of the place, which has that origin, these forms of records,
-/// and the configuration in the text. One that was not found replaces the folder's then.
+/// Reports if the records of the journal are lists of fields alone.
+fn tell_forms<P: Place>(place: &mut P, forms: Forms) {
+    match forms {
+        Forms::Elements => {}
+        Forms::Fields => place.tell(Notice::OldVersion),
+    }
+}
+
+/// The handler, after it replayed all records of the journal that was prepared, whose first record has the configuration in
+/// the text. One that was not found replaces the folder's then.
 fn start_by<P: Place, H: Replayed + Drop, C: Clock>(
     alloc: Global,
     place: &mut P,
     clock: &C,
     text: &[u8],
-    found: Prepared,
+    prepared: Prepared<P::Disk>,
     mut handler: H,
 ) -> Result<Started<P::Disk, H>, ServerStop>
+    requires begun { IsTrue (P.Disk.Disk.is_clean (disk_of prepared.recovery))
+        → HasBegunFor P.Disk.Disk.seen P.Disk.Disk.may_leave prepared.forms text.now prepared.recovery }
+    requires file { IfSome (file_of P.held P.held_begun prepared.origin)
+        (λ file. P.Disk.Disk.seen (disk_of prepared.recovery) ≡ file) }
     ensures replayed { IfOk result (λ started. HasReplayed H.kept H.is_honest (record { redone = H.redone; restored = H.restored })
-        P.Disk.Disk.seen P.Disk.Disk.may_leave P.Disk.Disk.is_clean P.held found.forms text.now (H.kept handler)
-        started.origin started.records started.handler started.recovery) }
-    ensures origin { IfOk result (λ started. started.origin ≡ found.origin) }
+        P.Disk.Disk.seen P.Disk.Disk.may_leave P.Disk.Disk.is_clean (file_of P.held P.held_begun started.origin) prepared.forms text.now
+        (H.kept handler) started.origin started.records started.handler started.recovery) }
+    ensures origin { IfOk result (λ started. started.origin ≡ prepared.origin) }
+    ensures honesty { IfOk result (λ started. H.is_honest started.handler ≡ H.is_honest handler) }
 {
-    let origin = found.origin;
-    let disk = open_for(place, origin)?;
-    let mut recovery = begin_for(alloc, disk, found.forms, text)?;
+    let Prepared {
+        mut recovery,
+        origin,
+        ..
+    } = prepared;
     let checkpoint = moment_in(&recovery);
     let replay = recover_all(alloc, place, clock, origin, &mut handler, &mut recovery)?;
     keep(place, origin, replay.records, &recovery)?;
@@ -124,18 +193,6 @@ fn moment_in<D: Disk + Drop>(recovery: &Recovery<D>) -> i64 {
     }
 }
 
-/// The disk of the journal with that origin, to be served.
-fn open_for<P: Place>(place: &mut P, origin: Origin) -> Result<P::Disk, ServerStop>
-    ensures { IfOk result (λ disk. IfSome P.held (λ file. P.Disk.Disk.seen disk ≡ file)) }
-{
-    match origin {
-        Origin::Found => place.open_journal(),
-        Origin::Begun => place.open_begun(),
-        Origin::Shortened => place.open_begun(),
-        Origin::Reconfigured => place.open_begun(),
-    }
-}
-
 /// Replaces the journal of the place by the checkpoint beside it, which has the configuration, read from the text, once
 /// it was read back.
 pub(crate) fn keep_checkpoint<P: Place, C: Clock>(
@@ -145,15 +202,12 @@ pub(crate) fn keep_checkpoint<P: Place, C: Clock>(
     text: &[u8],
     config: Config,
 ) -> Result<(), ServerStop>
-    ensures { OnOk result (HasReadBack P.Disk.Disk.seen P.Disk.Disk.may_leave P.Disk.Disk.is_clean P.held text.now
+    ensures { OnOk result (HasReadBack P.Disk.Disk.seen P.Disk.Disk.may_leave P.Disk.Disk.is_clean P.held_begun text.now
         (map begun config.repositories)) }
 {
+    let checkpoint = prepare_begun(alloc, place, text, Origin::Shortened)?;
     let host = host_in(alloc, place, config)?;
-    let found = Prepared {
-        origin: Origin::Shortened,
-        forms: Forms::Elements,
-    };
-    match start_by(alloc, place, clock, text, found, host) {
+    match start_by(alloc, place, clock, text, checkpoint, host) {
         Ok(_) => Ok(()),
         Err(stop) => Err(stop),
     }

@@ -1,4 +1,5 @@
 //! What a server knows of its startup: figures.
+use crate::dates::Dates;
 use oai_figures::{Exposition, Figures};
 
 /// What a server knows of its startup.
@@ -19,8 +20,8 @@ pub(crate) struct RecoveryFigures {
     pub(crate) seconds: u64,
     /// When all of them were, in seconds from 1970 on.
     pub(crate) moment: i64,
-    /// The position in bytes behind the last part of a checkpoint; 0 if there is none.
-    pub(crate) saved_to: usize,
+    /// What is known of them.
+    pub(crate) dates: Dates,
 }
 
 impl Startup {
@@ -31,7 +32,7 @@ impl Startup {
                 records: 0,
                 seconds: 0,
                 moment: 0,
-                saved_to: 0,
+                dates: Dates::new(),
             },
             checkpoint: 0,
         }
@@ -64,7 +65,7 @@ impl Figures for Startup {
             "When the journal was begun, or replaced by a checkpoint.",
             to_second(self.checkpoint),
         );
-        let bytes = self.replay.saved_to as u64;
+        let bytes = self.replay.dates.saved_to as u64;
         page.add(
             "checkpoint_bytes",
             "Length of that checkpoint in bytes.",

@@ -130,11 +130,11 @@ impl<H: Handler + Figures, P: Place> Handler for Watched<'_, H, P> {
     ghost step = { Watches H.step };
 
     fn exchange(&mut self, moment: i64, exchange: &Exchange<'_>) -> Answer {
-        if is_status(exchange.target) {
+        if is_status(exchange.target.bytes()) {
             return self.status(exchange.method);
         }
         let answer = self.handler.exchange(moment, exchange);
-        self.counts.count(exchange.target, answer.status);
+        self.counts.count(&exchange.target, answer.status);
         self.watch(moment, answer.status, answer.fault);
         answer
     }

@@ -21,7 +21,7 @@ kind_of Requests (byte ∷ bytes) = Oai
 
 -- the maximum length of a record of the exchange: that of its target or of its body
 abbrev pub most_in : Exchange → ℕ
-most_in exchange = max (length exchange.target.now) (length exchange.body.now)
+most_in exchange = max (length exchange.target) (length exchange.body.now)
 
 -- what was performed at the moment, as a record
 abbrev pub log_entry_of : ℤ → Performed → Entry

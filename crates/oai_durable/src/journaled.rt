@@ -7,7 +7,7 @@ ghost use Rattle.std.specs.Prelude.{◌≡◌, ◌≤◌, ℕ, List, OnOk};
 
 use crate::records::add;
 use oai_figures::{Exposition, Figures};
-use oai_http::{Answer, Endpoint, Exchange, Handler, SettleFault, Settled, endpoint_of};
+use oai_http::{Answer, Endpoint, Exchange, Handler, SettleFault, Settled, Target};
 use oai_item::Fault;
 use oai_journal::{FileJournal, Journal, JournalFault, MAX_BODY};
 use oai_replay::Replayed;
@@ -80,17 +80,17 @@ impl<H: Replayed, J: Journal> Handler for Journaled<H, J> {
                 }
                 done.answer
             }
-            Err(_) => refused(self.alloc, exchange.target),
+            Err(_) => refused(self.alloc, &exchange.target),
         }
     }
 }
 
 /// The answer to a message that was not performed, since no space could be reserved for its record; for a deposit, with
 /// no line done.
-fn refused(alloc: Global, target: &[u8]) -> Answer
+fn refused(alloc: Global, target: &Target<'_>) -> Answer
     ensures { result ≡ spec.unperformed_answer target.now }
 {
-    let done = match endpoint_of(target) {
+    let done = match target.endpoint() {
         Some(Endpoint::Deposits) => Some(0),
         Some(Endpoint::Requests) => None,
         None => None,
@@ -106,7 +106,7 @@ fn make_room<J: Journal>(journal: &mut J, exchange: &Exchange<'_>) -> Result<(),
     ensures same { (entries : List Entry) (durable : ℕ) → J.holds journal.old entries durable
         → J.holds journal.new entries durable }
 {
-    let most = exchange.target.len().max(exchange.body.len());
+    let most = exchange.target.bytes().len().max(exchange.body.len());
     if most > MAX_BODY {
         return Err(JournalFault::NoRoom);
     }

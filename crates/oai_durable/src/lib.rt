@@ -13,4 +13,4 @@ pub use journaled::Journaled;
 pub use laws::{
     life_law, moved_law, recovery_law, restart_law, service_law, stages_law, stood_law, switch_law,
 };
-pub use recovery::{Progress, RecoverFault, note_last, recover, resume};
+pub use recovery::{Progress, RecoverFault, recover, resume};

@@ -69,17 +69,6 @@ pub fn recover<H: Replayed, D: Disk + Drop, P: Progress>(
     Err(RecoverFault::Kind(u64::MAX))
 }
 
-/// Reports the record that was read last, which has that number.
-pub fn note_last<D: Disk + Drop, P: Progress>(
-    progress: &mut P,
-    recovery: &Recovery<D>,
-    number: u64,
-) {
-    if let Some(entry) = recovery.record() {
-        progress.note(&entry, number, recovery.position(), recovery.file_len());
-    }
-}
-
 /// The handler with the journal whose records it replayed, that many behind the first one; `None` before all of them
 /// were read.
 pub fn resume<H: Replayed + Drop, D: Disk + Drop>(
@@ -102,6 +91,13 @@ pub fn resume<H: Replayed + Drop, D: Disk + Drop>(
     match recovery.into_journal() {
         Some(journal) => Some(Journaled::new(alloc, handler, journal, records)),
         None => None,
+    }
+}
+
+/// Reports the record that was read last, which has that number.
+fn note_last<D: Disk + Drop, P: Progress>(progress: &mut P, recovery: &Recovery<D>, number: u64) {
+    if let Some(entry) = recovery.record() {
+        progress.note(&entry, number, recovery.position(), recovery.file_len());
     }
 }
 

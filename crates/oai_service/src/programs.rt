@@ -26,8 +26,8 @@ use sqlite_disk::Disk;
 /// What `serve` of oai_daemon, which `main` calls, returns is the end of a life of the theorem, under its keys, over any
 /// disk and stream. Its configuration satisfies the rules. Provided that the disk returned what was written to it as the
 /// journal was read, the life began with all records of the journal, none if that was begun; with all in the bytes of
-/// its file, if they are known: at a `HostPlace<S>` they are those that `S` stands for. It leaves whatever a crash may
-/// leave of the journal. The function is empty.
+/// its file, if they are known: at a `HostPlace<S, T>` they are those that `S` or `T` stands for. It leaves whatever a
+/// crash may leave of the journal. The function is empty.
 pub fn program_life_law<S: Stream, D: Disk + Drop>()
     ensures { (held : Option (List ℕ)) (text : List ℕ) (rings : List Ring) (origin : From) (later : Known S) (result : Result Unit ServeFault) (new : World S (Parts HostState (Filed D)))
         (lived : HasLived ⟦<FileJournal<D> as Journal>⟧ D.Disk.seen D.Disk.is_clean S.contents S.remaining held text rings origin later result new)

@@ -88,7 +88,7 @@ fn run_serve(rt: &HostRuntime, serving: Serving<'_>) -> Result<(), Failure> {
     let rings = read_rings(rt, serving.keys, &config)?;
     drop(config);
     warn_of(rt, &serving);
-    let mut place = HostPlace::new(rt, serving.folder, serving.port, Wary)
+    let mut place = HostPlace::new(rt, serving.folder, serving.port, Wary, Wary)
         .listening_at(serving.address)
         .quiet(serving.is_quiet);
     Ok(outcome_of(serve(rt.alloc(), &mut place, rt, &text, rings))?)
@@ -157,7 +157,7 @@ fn run_checkpoint(
     is_quiet: bool,
 ) -> Result<(), Failure> {
     let text = read_checked(rt, path)?.text;
-    let mut place = HostPlace::new(rt, folder, 0, Wary).quiet(is_quiet);
+    let mut place = HostPlace::new(rt, folder, 0, Wary, Wary).quiet(is_quiet);
     Ok(checkpoint_folder(rt.alloc(), &mut place, rt, &text, &mut io::writer(rt))?)
 }
 

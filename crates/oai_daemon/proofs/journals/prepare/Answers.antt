@@ -1,9 +1,6 @@
--- A checkpoint was written.
+-- The journal was found.
+use Rattle.oai_daemon.proofs.StartLemmas.{same_file}
 use Rattle.oai_daemon.proofs.journals.prepare.Goals as goal
 
-pub returns : goal.returns
-returns g c = λ is. record {
-  old = c.renew.new.old;
-  written = c.in_ok-renew-in_default.field-0;
-  renewed = λ honest clean. c.in_ok-renew-in_default.ensures honest clean (c.in_ok-found.ensures c.in_ok-old.ensures.begun);
-}
+pub returns-in-Some-clause-file : goal.returns-in-Some-clause-file
+returns-in-Some-clause-file g c = same_file g.P.Place.held _ _ c.in_ok-old.ensures.seen c.in_ok-disk.ensures

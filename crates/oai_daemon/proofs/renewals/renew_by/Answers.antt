@@ -14,5 +14,5 @@ returns-in-Ok-clause-saved g c = λ honest clean first begun.
       ended = g.H.Replayed.ended;
       emptied = g.H.Replayed.emptied;
     } in
-    saved_of saving g.H.Replayed.kept g.H.Replayed.is_honest g.P.OldDisk.Disk.seen g.P.OldDisk.Disk.may_leave _ (g.H.Replayed.kept c.args.handler) c.recover_all.new.handler
+    saved_of saving g.H.Replayed.kept g.H.Replayed.is_honest g.D.Disk.seen g.D.Disk.may_leave _ (g.H.Replayed.kept c.args.handler) c.recover_all.new.handler
     c.recover_all.new.recovery first _ _ c.in-Ok.written (c.in_ok-recover_all.ensures.recovered clean first begun) still (c.in-Ok.ensures still)
