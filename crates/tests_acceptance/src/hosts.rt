@@ -1,35 +1,38 @@
 //! Hosts of the worked configuration, and of one whose records may be elements, over the stores that scripts name, and what they
 //! answer.
-use crate::scripts::{Script, Way};
+use crate::scripts::HostWay;
+use crate::traces::{connect, trace};
 use oai_catalogue::{PlainVersions, Versions};
 use oai_cli::ask_lines;
 use oai_device::MemoryDevice;
 use oai_host::{Config, Host};
 use oai_item::Forms;
 use oai_startup::host_on;
-use std::alloc::Global;
+use std::alloc::{AllocError, Global};
 use std::io::{self, Write};
 use tests_fixtures::{answer_to, body_of, exchange_in, worked_configuration, write_exchanged};
 use tests_samples::with_bytes;
 use tests_stores::{Want, cramped, failing, lying, refusing};
 
-/// Adds what the script is answered by a new host over the store of that name, in which a number stands behind a `:`: of pages
+/// Adds what the lines are answered by a new host over the store of that name, in which a number stands behind a `:`: of pages
 /// that of the pages of the cache, 1 where there is none, of a store of which a call fails the number of the call, and of one
 /// that does not find items for how many calls it does not.
 pub(crate) fn answers_over(
     alloc: Global,
-    script: Script<'_>,
+    way: HostWay,
+    lines: &str,
     store: &str,
     out: &mut Vec<u8>,
 ) -> io::Result<()> {
     let (store, number) = store.split_once(':').unwrap_or((store, "1"));
     let count = number.parse::<u64>().unwrap_or(1);
-    let Script { way, lines, .. } = script;
     match store {
         "lists" => over(alloc, PlainVersions::new(alloc), way, lines, out),
         "pages" => over_pages(alloc, number, way, lines, out),
-        "element-lists" => over_element_lists(alloc, way, lines, out),
-        "element-pages" => over_element_pages(alloc, way, lines, out),
+        "element-lists" => over_element_lists(alloc, element_configuration(), way, lines, out),
+        "element-pages" => over_element_pages(alloc, element_configuration(), way, lines, out),
+        "article-lists" => over_element_lists(alloc, articles(alloc)?.as_str(), way, lines, out),
+        "article-pages" => over_element_pages(alloc, articles(alloc)?.as_str(), way, lines, out),
         "failing" => over_failing(alloc, count, way, lines, out),
         "refusing" => over_refusing(alloc, count, way, lines, out),
         "without-memory" => over_cramped(alloc, count, Want::Memory, lines, out),
@@ -43,7 +46,7 @@ pub(crate) fn answers_over(
 fn over_pages(
     alloc: Global,
     cache: &str,
-    way: Way,
+    way: HostWay,
     lines: &str,
     out: &mut Vec<u8>,
 ) -> io::Result<()> {
@@ -53,7 +56,7 @@ fn over_pages(
         return out.write_all(b"no configuration\n");
     };
     match host_on(alloc, config, MemoryDevice::new(alloc)) {
-        Ok(mut host) => perform_by_way(alloc, &mut host, way, lines, out),
+        Ok(host) => perform_by_way(alloc, host, way, lines, out),
         Err(_) => out.write_all(b"no host\n"),
     }
 }
@@ -83,26 +86,41 @@ fn element_configuration() -> &'static str {
  "namespace":"http://host.example/jnl/","root":"article","fields":["volume","pages"]}]}]}"#
 }
 
-/// The same by a host of that configuration, over lists.
-fn over_element_lists(alloc: Global, way: Way, lines: &str, out: &mut Vec<u8>) -> io::Result<()> {
-    let text = element_configuration().as_bytes();
-    let Ok(config) = Config::read(alloc, Forms::Elements, text) else {
+/// The worked configuration, in which articles of journals are elements alone.
+fn articles(alloc: Global) -> Result<String, AllocError> {
+    worked_configuration().replace(alloc, ",\"fields\":[\"volume\",\"pages\"]", "")
+}
+
+/// The same by a host of that configuration, whose records may be elements, over lists.
+fn over_element_lists(
+    alloc: Global,
+    configuration: &str,
+    way: HostWay,
+    lines: &str,
+    out: &mut Vec<u8>,
+) -> io::Result<()> {
+    let Ok(config) = Config::read(alloc, Forms::Elements, configuration.as_bytes()) else {
         return out.write_all(b"no configuration\n");
     };
     match Host::new(alloc, config, PlainVersions::new(alloc)) {
-        Ok(mut host) => perform_by_way(alloc, &mut host, way, lines, out),
+        Ok(host) => perform_by_way(alloc, host, way, lines, out),
         Err(fault) => writeln!(out, "no host: {fault}"),
     }
 }
 
 /// The same over pages in memory.
-fn over_element_pages(alloc: Global, way: Way, lines: &str, out: &mut Vec<u8>) -> io::Result<()> {
-    let text = element_configuration().as_bytes();
-    let Ok(config) = Config::read(alloc, Forms::Elements, text) else {
+fn over_element_pages(
+    alloc: Global,
+    configuration: &str,
+    way: HostWay,
+    lines: &str,
+    out: &mut Vec<u8>,
+) -> io::Result<()> {
+    let Ok(config) = Config::read(alloc, Forms::Elements, configuration.as_bytes()) else {
         return out.write_all(b"no configuration\n");
     };
     match host_on(alloc, config, MemoryDevice::new(alloc)) {
-        Ok(mut host) => perform_by_way(alloc, &mut host, way, lines, out),
+        Ok(host) => perform_by_way(alloc, host, way, lines, out),
         Err(_) => out.write_all(b"no host\n"),
     }
 }
@@ -111,7 +129,7 @@ fn over_element_pages(alloc: Global, way: Way, lines: &str, out: &mut Vec<u8>) -
 fn over_failing(
     alloc: Global,
     call: u64,
-    way: Way,
+    way: HostWay,
     lines: &str,
     out: &mut Vec<u8>,
 ) -> io::Result<()> {
@@ -128,7 +146,7 @@ fn over_failing(
 fn over_refusing(
     alloc: Global,
     call: u64,
-    way: Way,
+    way: HostWay,
     lines: &str,
     out: &mut Vec<u8>,
 ) -> io::Result<()> {
@@ -150,14 +168,14 @@ fn over_cramped(
     out: &mut Vec<u8>,
 ) -> io::Result<()> {
     let store = cramped(PlainVersions::new(alloc), call, want);
-    over(alloc, store, Way::Exchange, lines, out)
+    over(alloc, store, HostWay::Exchange, lines, out)
 }
 
 /// The same over lists that do not find an item for so many calls.
 fn over_losing(
     alloc: Global,
     calls: u64,
-    way: Way,
+    way: HostWay,
     lines: &str,
     out: &mut Vec<u8>,
 ) -> io::Result<()> {
@@ -174,7 +192,7 @@ fn over_losing(
 fn over<V: Versions + Drop>(
     alloc: Global,
     store: V,
-    way: Way,
+    way: HostWay,
     lines: &str,
     out: &mut Vec<u8>,
 ) -> io::Result<()> {
@@ -182,7 +200,7 @@ fn over<V: Versions + Drop>(
         return out.write_all(b"no configuration\n");
     };
     match Host::new(alloc, config, store) {
-        Ok(mut host) => perform_by_way(alloc, &mut host, way, lines, out),
+        Ok(host) => perform_by_way(alloc, host, way, lines, out),
         Err(fault) => writeln!(out, "no host: {fault}"),
     }
 }
@@ -190,15 +208,17 @@ fn over<V: Versions + Drop>(
 /// Performs the lines.
 fn perform_by_way<V: Versions + Drop>(
     alloc: Global,
-    host: &mut Host<V>,
-    way: Way,
+    mut host: Host<V>,
+    way: HostWay,
     lines: &str,
     out: &mut Vec<u8>,
 ) -> io::Result<()> {
     match way {
-        Way::Ask => ask(alloc, host, lines, out),
-        Way::Exchange => exchange_all(alloc, host, lines, false, out),
-        Way::ExchangeAgain => exchange_all(alloc, host, lines, true, out),
+        HostWay::Ask => ask(alloc, &mut host, lines, out),
+        HostWay::Exchange => exchange_all(alloc, &mut host, lines, false, out),
+        HostWay::ExchangeAgain => exchange_all(alloc, &mut host, lines, true, out),
+        HostWay::Trace => trace(alloc, host, lines, out),
+        HostWay::Connect => connect(alloc, host, lines, out),
     }
 }
 

@@ -1,13 +1,17 @@
-//! `tests_acceptance`: exchanges with the host of the worked configuration, and with one whose records may be elements, as scripts in
-//! `data`, over lists, over pages, and over stores of which a call fails. `stdout` has the answers that are wanted, typed from the standards and the descriptions: it is
-//! compared with what the program prints, and each line of an answer begins with the name of its script.
+//! `tests_acceptance`: exchanges and connections with the host of the worked configuration, and with one whose records may be elements,
+//! and calls of repositories without a host, as scripts in `data`, over lists, over pages, and over stores of which a call fails.
+//! `stdout` has the answers that are wanted, typed from the standards and the descriptions: it is compared with what the program
+//! prints, and each line of an answer begins with the name of its script.
 #![tactic(auto)]
 
 mod hosts;
+mod repositories;
 mod scripts;
+mod traces;
 
 use hosts::answers_over;
-use scripts::Script;
+use repositories::answers_of;
+use scripts::{Script, Way};
 use std::alloc::{AllocError, Global};
 use std::fs;
 use std::io::{self, BufWriter, Write};
@@ -25,6 +29,8 @@ fn main(rt: HostRuntime) -> io::Result<()> {
         "refusals.txt",
         "failures.txt",
         "elements.txt",
+        "traces.txt",
+        "archives.txt",
     ] {
         perform_file(&rt, path)?;
     }
@@ -62,7 +68,7 @@ fn perform_script<W: Write>(alloc: Global, script: Script<'_>, out: &mut W) -> i
     let mut first = Vec::new(alloc);
     for (place, store) in script.stores.split(' ').enumerate() {
         let mut answers = Vec::new(alloc);
-        answers_over(alloc, script, store, &mut answers)?;
+        perform(alloc, script, store, &mut answers)?;
         if place == 0 {
             write_lines(script.name, answers.as_slice(), out)?;
             first = answers;
@@ -74,6 +80,14 @@ fn perform_script<W: Write>(alloc: Global, script: Script<'_>, out: &mut W) -> i
         }
     }
     Ok(())
+}
+
+/// Adds what the script is answered over the store.
+fn perform(alloc: Global, script: Script<'_>, store: &str, out: &mut Vec<u8>) -> io::Result<()> {
+    match script.way {
+        Way::Host(way) => answers_over(alloc, way, script.lines, store, out),
+        Way::Repository(way) => answers_of(alloc, way, script.lines, store, out),
+    }
 }
 
 /// Writes each line of the answers behind the name.

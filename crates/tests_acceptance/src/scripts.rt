@@ -16,12 +16,34 @@ pub(crate) struct Script<'a> {
 /// How the lines of a script are performed.
 #[derive(Clone, Copy)]
 pub(crate) enum Way {
+    /// On a host.
+    Host(HostWay),
+    /// On a repository without a host.
+    Repository(RepositoryWay),
+}
+
+/// How lines are performed on a host.
+#[derive(Clone, Copy)]
+pub(crate) enum HostWay {
     /// As those that `ask` reads.
     Ask,
     /// As exchanges, one after the other.
     Exchange,
     /// The same, and one that fails is made once more.
     ExchangeAgain,
+    /// As those that `trace` reads.
+    Trace,
+    /// As pieces of connections, each by its text.
+    Connect,
+}
+
+/// What is written of a line that is performed on a repository.
+#[derive(Clone, Copy)]
+pub(crate) enum RepositoryWay {
+    /// Its whole answer.
+    Answer,
+    /// What it comes to, and the clock behind it.
+    Outcome,
 }
 
 impl<'a> Script<'a> {
@@ -41,8 +63,12 @@ impl<'a> Script<'a> {
 
 fn way_named(name: &str) -> Way {
     match name {
-        "ask" => Way::Ask,
-        "exchange-again" => Way::ExchangeAgain,
-        _ => Way::Exchange,
+        "ask" => Way::Host(HostWay::Ask),
+        "exchange-again" => Way::Host(HostWay::ExchangeAgain),
+        "trace" => Way::Host(HostWay::Trace),
+        "connect" => Way::Host(HostWay::Connect),
+        "repository" => Way::Repository(RepositoryWay::Answer),
+        "outcome" => Way::Repository(RepositoryWay::Outcome),
+        _ => Way::Host(HostWay::Exchange),
     }
 }

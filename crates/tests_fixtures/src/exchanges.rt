@@ -2,7 +2,7 @@
 //! between, and behind each of two ` | ` the type of the body, `-` where there is none, and the body; `¶`
 //! in a body is a line end. An answer is the number of its status, what else it has, each with a word before
 //! it, a line end, and its body.
-use oai_http::{Answer, Exchange, Handler};
+use oai_http::{Answer, Exchange, Handler, Target};
 use oai_item::Fault;
 use std::alloc::{AllocError, Global};
 use std::io::{self, Write};
@@ -50,7 +50,7 @@ pub fn body_of(alloc: Global, line: ExchangeLine<'_>) -> Result<String, AllocErr
 pub fn answer_to<'x, H: Handler>(handler: &mut H, line: ExchangeLine<'x>, body: &'x str) -> Answer {
     let exchange = Exchange {
         method: line.method.as_bytes(),
-        target: line.target.as_bytes(),
+        target: Target::new(line.target.as_bytes()),
         content_type: match line.content_type {
             Some(value) => Some(value.as_bytes()),
             None => None,

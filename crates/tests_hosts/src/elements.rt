@@ -77,53 +77,6 @@ fn elements_are_restored(rt: HostRuntime) {
     assert_answers(&rt, alloc, &mut restored, records());
 }
 
-/// A put deposits an item; sent again, its element spelled otherwise and its members in another order, it is answered the item's own
-/// datestamp, and moves the clock. Other records, of the last format alone, and other sets make a new version of the item; so does a
-/// put of a deleted one. A deposit of the same makes one always.
-fn puts() -> &'static str {
-    r#"> 1704067207 POST /deposit/a | - | {"set":"s","name":"S"}¶{"put":"oai:a:1","sets":[],"records":{"oai_dc":[["title","T"]],"jnl":"<article xmlns='http://host.example/jnl/'/>"}}
-200
-ok 2024-01-01T00:00:07Z
-ok 2024-01-01T00:00:07Z
-> 1704067208 POST /deposit/a | - | {"records":{"jnl":"<?xml version='1.0'?><article xmlns=\"http://host.example/jnl/\"></article>","oai_dc":[["title","T"]]},"sets":[],"put":"oai:a:1"}
-200
-ok 2024-01-01T00:00:07Z
-> 1704067200 GET /oai/a?verb=ListIdentifiers&metadataPrefix=jnl
-200
-DOC <responseDate>2024-01-01T00:00:08Z</responseDate><request verb="ListIdentifiers" metadataPrefix="jnl">http://host.example/oai/a</request><ListIdentifiers><header><identifier>oai:a:1</identifier><datestamp>2024-01-01T00:00:07Z</datestamp></header></ListIdentifiers></OAI-PMH>
-> 1704067209 POST /deposit/a | - | {"put":"oai:a:1","sets":[],"records":{"oai_dc":[["title","U"]],"jnl":"<article xmlns='http://host.example/jnl/'/>"}}
-200
-ok 2024-01-01T00:00:09Z
-> 1704067210 POST /deposit/a | - | {"put":"oai:a:1","sets":["s"],"records":{"oai_dc":[["title","U"]],"jnl":"<article xmlns='http://host.example/jnl/'/>"}}¶{"put":"oai:a:1","sets":["s","s"],"records":{"oai_dc":[["title","U"]],"jnl":"<article xmlns='http://host.example/jnl/'/>"}}
-200
-ok 2024-01-01T00:00:10Z
-ok 2024-01-01T00:00:10Z
-> 1704067211 POST /deposit/a | - | {"put":"oai:a:1","sets":["s"],"records":{"oai_dc":[["title","U"]],"jnl":"<article xmlns='http://host.example/jnl/'/>"}}¶{"delete":"oai:a:1"}
-200
-ok 2024-01-01T00:00:10Z
-ok 2024-01-01T00:00:11Z
-> 1704067212 POST /deposit/a | - | {"put":"oai:a:1","sets":["s"],"records":{"oai_dc":[["title","U"]],"jnl":"<article xmlns='http://host.example/jnl/'/>"}}
-200
-ok 2024-01-01T00:00:12Z
-> 1704067213 POST /deposit/a | - | {"deposit":"oai:a:1","sets":["s"],"records":{"oai_dc":[["title","U"]],"jnl":"<article xmlns='http://host.example/jnl/'/>"}}
-200
-ok 2024-01-01T00:00:13Z
-> 1704067214 POST /deposit/a | - | {"put":"oai:a:1","sets":["t"],"records":{"oai_dc":[["title","U"]],"jnl":"<article xmlns='http://host.example/jnl/'/>"}}¶{"put":"oai:a:1","sets":["s"],"records":{"oai_dc":[["title","U"]]}}¶{"put":"oai:a:1","sets":["s"],"records":{"oai_dc":[["title","U"]],"jnl":[]}}
-200
-refused 6 unknown-set
-refused 10 drops-format
-refused 21 not-of-format"#
-}
-
-#[test]
-fn puts_are_made_once(rt: HostRuntime) {
-    let alloc = rt.alloc();
-    let mut plain = element_host(&rt, alloc, PlainVersions::new(alloc));
-    assert_answers(&rt, alloc, &mut plain, puts());
-    let mut paged = element_host(&rt, alloc, paged(&rt, alloc, MemoryDevice::new(alloc)));
-    assert_answers(&rt, alloc, &mut paged, puts());
-}
-
 /// Records of articles that are none of their format: no canonical text, another root, another namespace, no XML, a list of fields,
 /// and an element with a text about it that is none.
 fn damaged_records() -> [&'static [u8]; 6] {

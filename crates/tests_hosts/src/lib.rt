@@ -1,5 +1,6 @@
 //! Tests of many repositories behind one door (`oai_host`): as transcripts of their exchanges, saved and restored, as runs of many
-//! exchanges, and by a script in which each call of a store or a device fails in turn. It holds nothing else.
+//! exchanges, and by a script in which each call of a store or a device fails in turn; and of a program's work with its inputs and
+//! outputs (`oai_cli`, `oai_startup`). It holds nothing else.
 #![tactic(auto)]
 
 #[cfg(test)]
@@ -22,6 +23,8 @@ mod neighbours;
 mod pages;
 #[cfg(test)]
 mod part_lists;
+#[cfg(test)]
+mod program;
 #[cfg(test)]
 mod refusals;
 #[cfg(test)]

@@ -2,7 +2,7 @@
 use crate::assertions::assert_same;
 use crate::sample_host::host;
 use oai_catalogue::{PlainVersions, Versions};
-use oai_host::{Answer, Exchange, Host};
+use oai_host::{Answer, Exchange, Host, Target};
 use std::alloc::Global;
 use std::panic::Expect;
 use std::process::Abort;
@@ -23,7 +23,7 @@ const SPECS: usize = 100_000;
 fn deposited<V: Versions + Drop>(host: &mut Host<V>, body: &str) -> Answer {
     let exchange = Exchange {
         method: b"POST",
-        target: b"/deposit/a",
+        target: Target::new(b"/deposit/a"),
         content_type: None,
         authorization: None,
         body: body.as_bytes(),
@@ -90,7 +90,7 @@ fn deposit_into(rt: &impl Abort, alloc: Global, sets: &str) -> String {
 fn assert_sets<V: Versions + Drop>(rt: &impl Abort, host: &mut Host<V>, elements: &str) {
     let exchange = Exchange {
         method: b"GET",
-        target: b"/oai/a?verb=GetRecord&identifier=oai:a:1&metadataPrefix=oai_dc",
+        target: Target::new(b"/oai/a?verb=GetRecord&identifier=oai:a:1&metadataPrefix=oai_dc"),
         content_type: None,
         authorization: None,
         body: b"",

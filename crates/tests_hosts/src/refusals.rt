@@ -2,7 +2,7 @@
 use crate::assertions::assert_same;
 use crate::sample_host::host;
 use oai_catalogue::{PlainVersions, Versions};
-use oai_host::{Answer, Exchange, Host, Status};
+use oai_host::{Answer, Exchange, Host, Status, Target};
 use std::alloc::Global;
 use std::panic::Expect;
 use std::process::Abort;
@@ -11,69 +11,17 @@ use tests_fixtures::wanted_in;
 // ---- bytes that are no text
 
 /// Methods, targets and types that are not in UTF-8, and what each is answered.
-fn bytes_asked() -> [(Exchange<'static>, Status); 7] {
-    let request = Exchange {
-        method: b"GET",
-        target: b"/oai/a?verb=ListSets",
-        content_type: None,
-        authorization: None,
-        body: b"",
-    };
-    let form = Exchange {
-        method: b"POST",
-        content_type: Some(b"application/x-www-form-urlencoded"),
-        ..request
-    };
+fn bytes_asked() -> [(&'static [u8], &'static [u8], Option<&'static [u8]>, Status); 7] {
+    let sets = b"/oai/a?verb=ListSets";
+    let form = b"\x0bapplication/x-www-form-urlencoded";
     [
-        (
-            Exchange {
-                target: b"\xff",
-                ..request
-            },
-            Status::BadRequest,
-        ),
-        (
-            Exchange {
-                target: b"/\xff",
-                ..request
-            },
-            Status::NotFound,
-        ),
-        (
-            Exchange {
-                target: b"/oai/\xff",
-                ..request
-            },
-            Status::NotFound,
-        ),
-        (
-            Exchange {
-                target: b"/oai/a\xff",
-                ..request
-            },
-            Status::NotFound,
-        ),
-        (
-            Exchange {
-                method: b"GET\xff",
-                ..request
-            },
-            Status::MethodNotAllowed,
-        ),
-        (
-            Exchange {
-                content_type: Some(b"\xff"),
-                ..form
-            },
-            Status::UnsupportedMediaType,
-        ),
-        (
-            Exchange {
-                content_type: Some(b"\x0bapplication/x-www-form-urlencoded"),
-                ..form
-            },
-            Status::UnsupportedMediaType,
-        ),
+        (b"GET", b"\xff", None, Status::BadRequest),
+        (b"GET", b"/\xff", None, Status::NotFound),
+        (b"GET", b"/oai/\xff", None, Status::NotFound),
+        (b"GET", b"/oai/a\xff", None, Status::NotFound),
+        (b"GET\xff", sets, None, Status::MethodNotAllowed),
+        (b"POST", sets, Some(b"\xff"), Status::UnsupportedMediaType),
+        (b"POST", sets, Some(form), Status::UnsupportedMediaType),
     ]
 }
 
@@ -88,7 +36,14 @@ fn assert_answer(rt: &impl Abort, answer: &Answer, status: Status, body: &str) {
 
 /// The host answers each with its status.
 fn assert_statuses<V: Versions + Drop>(rt: &impl Abort, host: &mut Host<V>) {
-    for (exchange, status) in bytes_asked() {
+    for (method, target, content_type, status) in bytes_asked() {
+        let exchange = Exchange {
+            method,
+            target: Target::new(target),
+            content_type,
+            authorization: None,
+            body: b"",
+        };
         let answer = host.exchange(1_704_067_200, &exchange);
         assert_answer(rt, &answer, status, "");
     }
@@ -107,7 +62,7 @@ fn bytes_that_are_no_text(rt: HostRuntime) {
 fn assert_page<V: Versions + Drop>(rt: &impl Abort, alloc: Global, host: &mut Host<V>) {
     let exchange = Exchange {
         method: b"GET",
-        target: b"/oai/b?verb=ListSets",
+        target: Target::new(b"/oai/b?verb=ListSets"),
         content_type: None,
         authorization: None,
         body: b"",

@@ -7,7 +7,7 @@ use crate::records::push_records;
 use oai_catalogue::{PlainVersions, Versions};
 use oai_copy::Copy;
 use oai_device::MemoryDevice;
-use oai_host::{Answer, Config, Exchange, Host};
+use oai_host::{Answer, Config, Exchange, Host, Target};
 use oai_item::Forms;
 use oai_paged::PagedVersions;
 use oai_startup::{config_in, host_on, host_over};
@@ -65,7 +65,7 @@ fn answered<'a, V: Versions + Drop>(
     let method: &[u8] = if body.is_empty() { b"GET" } else { b"POST" };
     let exchange = Exchange {
         method,
-        target: target.as_bytes(),
+        target: Target::new(target.as_bytes()),
         content_type: None,
         authorization: None,
         body: body.as_bytes(),

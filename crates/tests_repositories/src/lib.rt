@@ -1,7 +1,7 @@
-//! Tests of one repository (`oai_repo`): what it answers requests and deposits, without the edge of the program, also in a store
-//! that is not its alone, that returns false reads, or that finds no room; of a harvester's copy (`oai_copy`); of XML documents by their whole
-//! bytes (`oai_answers`); and of what no row of `tests_rows` can call: places among items in order, and the laws of items and of
-//! configurations. It holds nothing else.
+//! Tests of one repository (`oai_repo`): restored, in a store that is not its alone or that returns false reads, with tokens of parts
+//! that failed, and what its lists cost; of a harvester's copy (`oai_copy`); of XML documents by their whole bytes (`oai_answers`), and
+//! of elements that are read (`oai_xml`); and of what no row of `tests_rows` can call: places among items in order, and the laws of
+//! items and of configurations. It holds nothing else.
 #![tactic(auto)]
 
 #[cfg(test)]
@@ -17,15 +17,11 @@ mod ended_lists;
 #[cfg(test)]
 mod first_deposit;
 #[cfg(test)]
-mod full_store;
-#[cfg(test)]
 mod handed_out;
 #[cfg(test)]
 mod harvests;
 #[cfg(test)]
 mod laws;
-#[cfg(test)]
-mod lists;
 #[cfg(test)]
 mod lying_store;
 #[cfg(test)]
@@ -37,14 +33,12 @@ mod page_reads;
 #[cfg(test)]
 mod places;
 #[cfg(test)]
-mod purges;
-#[cfg(test)]
 mod records;
 #[cfg(test)]
-mod repository;
+mod refusals;
 #[cfg(test)]
 mod restored;
 #[cfg(test)]
 mod samples;
 #[cfg(test)]
-mod transcripts;
+mod xml;

@@ -2,7 +2,7 @@
 use crate::answers::Answer;
 use crate::rows::Row;
 use oai_config::{Config, ReadFault};
-use oai_http::Exchange;
+use oai_http::{Exchange, Target};
 use oai_item::Forms;
 use oai_keys::{KeysFault, Ring, bearer_key, is_admitted, read_keys, write_warnings};
 use oai_names::Sequence;
@@ -56,7 +56,7 @@ fn configuration(alloc: Global) -> Result<Config, KeysFault> {
 fn admits(alloc: Global, row: &Row<'_>, answer: &mut Answer) {
     let exchange = Exchange {
         method: b"POST",
-        target: row.bytes(0),
+        target: Target::new(row.bytes(0)),
         content_type: None,
         authorization: if row.len() > 1 {
             Some(row.bytes(1))

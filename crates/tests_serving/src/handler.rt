@@ -43,12 +43,12 @@ impl Handler for Echo {
         self.count
             .performed
             .set(self.count.performed.get().saturating_add(1));
-        let times = if exchange.target.starts_with(b"/l") {
+        let times = if exchange.target.bytes().starts_with(b"/l") {
             1_000
         } else {
             1
         };
-        match repeated(self.alloc, exchange.target, times) {
+        match repeated(self.alloc, exchange.target.bytes(), times) {
             Ok(body) => Answer::with_body(Sequence::new(body)),
             Err(_) => Answer::of_status(self.alloc, Status::ServiceUnavailable),
         }

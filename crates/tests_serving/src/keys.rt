@@ -1,7 +1,7 @@
 //! A handler behind keys (`oai_keys`), over the handler that repeats what it was asked: what is denied does not reach it.
 use crate::assertions::assert_same_at;
 use crate::recording_handler::{Teller, unasked};
-use oai_http::{Answer, Exchange, Handler, Status};
+use oai_http::{Answer, Exchange, Handler, Status, Target};
 use oai_keys::{Guarded, Ring};
 use oai_names::{Sequence, Text};
 use std::alloc::Global;
@@ -34,7 +34,7 @@ fn told<'a, H: Handler>(
 ) -> Answer {
     let exchange = Exchange {
         method: method.as_bytes(),
-        target: target.as_bytes(),
+        target: Target::new(target.as_bytes()),
         content_type: None,
         authorization: if authorization.is_empty() {
             None

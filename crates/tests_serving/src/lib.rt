@@ -1,6 +1,6 @@
 //! Tests of connections (`oai_front`), over a handler that repeats what it was asked, and over a host; of the loop of many
-//! connections (`oai_serving`), over sockets in memory; and of archives that outlive their process (`oai_durable`), over pages and
-//! journals in memory. It holds nothing else.
+//! connections (`oai_serving`), over sockets in memory; of archives that outlive their process (`oai_durable`), over pages and
+//! journals in memory; and of a server's start and of what it says (`oai_daemon`, `oai_archive`). It holds nothing else.
 #![tactic(auto)]
 
 #[cfg(test)]
@@ -15,6 +15,8 @@ mod bounds;
 mod checkpoints;
 #[cfg(test)]
 mod connections;
+#[cfg(test)]
+mod daemon;
 #[cfg(test)]
 mod elements;
 #[cfg(test)]

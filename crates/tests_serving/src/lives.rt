@@ -1,7 +1,7 @@
 //! Twenty lives, one behind the other, as a model answers what is asked in them.
 use crate::archives::{Setting, begun, found_after};
 use crate::written_lives::{configuration, lives};
-use oai_http::{Answer, Exchange, FORM, Handler, Settled};
+use oai_http::{Answer, Exchange, FORM, Handler, Settled, Target};
 use oai_item::Forms;
 use std::alloc::Global;
 use std::panic::Expect;
@@ -33,7 +33,7 @@ fn answer_to<H: Handler>(rt: &impl Abort, handler: &mut H, text: &str) -> Answer
     let (target, body) = cut(text);
     let exchange = Exchange {
         method: method.as_bytes(),
-        target: target.as_bytes(),
+        target: Target::new(target.as_bytes()),
         content_type: Some(FORM),
         authorization: None,
         body: body.as_bytes(),

@@ -22,7 +22,7 @@ impl Handler for Teller {
 
     fn exchange(&mut self, moment: i64, exchange: &Exchange<'_>) -> Answer {
         self.asked = self.asked.wrapping_add(1);
-        match planned(from_utf8(exchange.target).unwrap_or("")) {
+        match planned(from_utf8(exchange.target.bytes()).unwrap_or("")) {
             Some((status, seconds, done)) => told_only(self.alloc, status, seconds, done),
             None => self.told(moment, exchange),
         }

@@ -4,3 +4,4 @@ mod bytes;
 mod crashes;
 mod damage;
 mod samples;
+mod tails;

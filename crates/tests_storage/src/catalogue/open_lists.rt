@@ -16,6 +16,7 @@ fn new_list(rt: &impl Abort, alloc: Global, version: u64, size: u64, end: i64) -
         size,
         end,
         given: 2,
+        mark: None,
     }
 }
 
@@ -159,10 +160,12 @@ fn assert_renewed(rt: &impl Abort, lists: &mut Lists) {
     assert_same(rt, lists.expire(59), None);
     assert!(rt; lists.find(1, 60).is_none() && lists.find(2, 0).is_none());
     match lists.find(1, 59) {
-        Some(list) => assert_same(rt, (list.version, list.size, list.end), (7, 3, 60)),
+        Some((at, list)) => {
+            assert_same(rt, (list.version, list.size, list.end), (7, 3, 60));
+            lists.carry_on(at, 61, None, None);
+        }
         None => panic!(rt; "no list"),
     }
-    lists.renew(1, 61);
 }
 
 /// The list drops at the end to which it was moved.
@@ -231,7 +234,7 @@ fn lists_that_ended_are_dropped_one_by_one(rt: HostRuntime) {
 /// What the list of that number keeps: the highest cursor that was given, and the cursor of its mark.
 fn assert_kept(rt: &impl Abort, lists: &Lists, number: u64, kept: (u64, Option<u64>)) {
     match lists.find(number, 0) {
-        Some(list) => assert_same(rt, (list.given, cursor_marked(list)), kept),
+        Some((_, list)) => assert_same(rt, (list.given, cursor_marked(list)), kept),
         None => panic!(rt; "no list"),
     }
 }
@@ -243,37 +246,37 @@ fn cursor_marked(list: &OpenList) -> Option<u64> {
     }
 }
 
-/// A token of the list with that cursor is given.
-fn give(rt: &impl Abort, lists: &mut Lists, number: u64, cursor: u64) {
-    assert!(rt; lists.find(number, 0).is_some());
-    lists.give(number, cursor);
+/// A part of the list is answered: a token with that cursor is given, if there is one, and the list gets that mark.
+fn carry_on(
+    rt: &impl Abort,
+    lists: &mut Lists,
+    number: u64,
+    next: Option<u64>,
+    mark: Option<Mark>,
+) {
+    match lists.find(number, 0) {
+        Some((at, _)) => lists.carry_on(at, 60, next, mark),
+        None => panic!(rt; "no list"),
+    }
 }
 
 /// The list is marked at that cursor.
 fn mark(rt: &impl Abort, alloc: Global, lists: &mut Lists, number: u64, cursor: u64) {
     let identifier = Identifier::read(alloc, "oai:a:4").expect(rt, "Identifier::read");
-    assert!(rt; lists.find(number, 0).is_some());
-    lists.set_mark(
-        number,
-        Some(Mark {
-            cursor,
-            stamp: 0,
-            identifier,
-        }),
-    );
-}
-
-fn forget_mark(rt: &impl Abort, lists: &mut Lists, number: u64) {
-    assert!(rt; lists.find(number, 0).is_some());
-    lists.set_mark(number, None);
+    let mark = Mark {
+        cursor,
+        stamp: 0,
+        identifier,
+    };
+    carry_on(rt, lists, number, None, Some(mark));
 }
 
 /// A cursor counts for one list, and where it is higher.
 fn assert_given(rt: &impl Abort, lists: &mut Lists) {
-    give(rt, lists, 1, 4);
+    carry_on(rt, lists, 1, Some(4), None);
     assert_kept(rt, lists, 1, (4, None));
     assert_kept(rt, lists, 2, (2, None));
-    give(rt, lists, 1, 3);
+    carry_on(rt, lists, 1, Some(3), None);
     assert_kept(rt, lists, 1, (4, None));
 }
 
@@ -284,7 +287,7 @@ fn assert_marked(rt: &impl Abort, alloc: Global, lists: &mut Lists) {
     assert_kept(rt, lists, 2, (2, Some(4)));
     mark(rt, alloc, lists, 2, 2);
     assert_kept(rt, lists, 2, (2, Some(2)));
-    forget_mark(rt, lists, 2);
+    carry_on(rt, lists, 2, None, None);
     assert_kept(rt, lists, 2, (2, None));
 }
 

@@ -1,0 +1,99 @@
+//! Clocks in memory, and what a server does whose clock jumps.
+use crate::daemon::places::{MemoryPlace, configuration, served};
+use oai_archive::ServerStop;
+use std::alloc::Global;
+use std::cell::Cell;
+use std::io;
+use std::panic::Expect;
+use std::process::Abort;
+use std::rt::Clock;
+use std::time::Duration;
+
+/// What the clocks show first: 2024-01-01T00:00:00Z.
+const FIRST: u64 = 1_704_067_200;
+
+/// A clock that stands.
+#[derive(Drop)]
+pub(crate) struct Standing;
+
+impl Clock for Standing {
+    fn monotonic(&self) -> io::Result<Duration> {
+        Ok(Duration::from_secs(5))
+    }
+
+    fn since_1970(&self) -> io::Result<Duration> {
+        Ok(Duration::from_secs(FIRST))
+    }
+}
+
+/// A clock that gains so many seconds with each reading.
+#[derive(Drop)]
+struct Gaining {
+    seconds: u64,
+    shown: Cell<u64>,
+}
+
+impl Clock for Gaining {
+    fn monotonic(&self) -> io::Result<Duration> {
+        Ok(Duration::from_secs(5))
+    }
+
+    fn since_1970(&self) -> io::Result<Duration> {
+        let shown = self.shown.get();
+        self.shown.set(shown.saturating_add(self.seconds));
+        Ok(Duration::from_secs(shown))
+    }
+}
+
+/// A server ends whose clock gained a day and a second between two readings, and says to which second it jumped: the start reads it
+/// once, and each round once.
+#[test]
+fn clock_jumps(rt: HostRuntime) {
+    let clock = Gaining {
+        seconds: 86_401,
+        shown: Cell::new(FIRST),
+    };
+    let mut place = MemoryPlace::new(rt.alloc(), 100).expect(&rt, "place");
+    place.rounds = 10;
+    let ended = served(&mut place, &clock, configuration());
+    assert_eq!(&rt; ended, Ok(Err(ServerStop::Jumped(1_704_240_002))));
+}
+
+/// One that gained a day goes on.
+#[test]
+fn clock_gains_a_day(rt: HostRuntime) {
+    let clock = Gaining {
+        seconds: 86_400,
+        shown: Cell::new(FIRST),
+    };
+    let mut place = MemoryPlace::new(rt.alloc(), 100).expect(&rt, "place");
+    place.rounds = 10;
+    let ended = served(&mut place, &clock, configuration());
+    assert_eq!(&rt;
+        ended,
+        Ok(Err(ServerStop::Common(oai_startup::Stop::SocketFault)))
+    );
+}
+
+/// A start in a place whose journal ends with a tick at that moment makes these calls.
+fn assert_calls(rt: &impl Abort, alloc: Global, moment: i64, calls: &str) {
+    let mut place = MemoryPlace::new(alloc, 100).expect(rt, "place");
+    place.tick = Some(moment);
+    let ended = served(&mut place, &Standing, configuration());
+    assert_eq!(rt;
+        ended,
+        Ok(Err(ServerStop::Common(oai_startup::Stop::SocketFault)))
+    );
+    assert_eq!(rt; place.calls.as_str(), calls);
+}
+
+/// A clock that is more than 366 days ahead of the last record, or more than an hour behind it, is reported, and ends nothing.
+#[test]
+fn clock_is_far_from_the_journal(rt: HostRuntime) {
+    let near = "lock listen find open pages recovered announce ";
+    let far = "lock listen find open pages recovered clock announce ";
+    assert_calls(&rt, rt.alloc(), 1_672_444_799, far);
+    assert_calls(&rt, rt.alloc(), 1_672_444_800, near);
+    assert_calls(&rt, rt.alloc(), 1_704_070_800, near);
+    assert_calls(&rt, rt.alloc(), 1_704_070_801, far);
+}
