@@ -74,6 +74,11 @@ pub fn read_arguments<'a>(
     words: &'a [String],
 ) -> Result<Called<'a>, Error> {
     let given = program(alloc, version)?.try_get_matches_from(words)?;
+    call_in(alloc, &given)
+}
+
+/// What these arguments call the program for.
+fn call_in<'a>(alloc: Global, given: &ArgMatches<'a>) -> Result<Called<'a>, Error> {
     match given.subcommand() {
         Some(("serve", given)) => to_serve(alloc, given),
         Some((name, given)) => Ok(of_texts(name, given)),

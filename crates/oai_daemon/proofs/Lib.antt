@@ -1,4 +1,1 @@
-mod FileLemmas
 mod LifeLemmas
-mod RenewalLemmas
-mod StartLemmas

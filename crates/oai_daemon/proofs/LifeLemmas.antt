@@ -17,15 +17,16 @@ use Rattle.oai_keys.proofs.GuardLemmas.{HasRings, guard_wraps}
 use Rattle.oai_serving.proofs.WrapperLemmas as wrapper
 use Rattle.oai_durable.specs.Journaled.{IsExchange, IsHeld, IsSettled, Parts, Replaying}
 use Rattle.oai_durable.specs.Recovered.{HasRedone}
-use Rattle.oai_daemon.specs.Archives.{archived}
+use Rattle.oai_recovery.specs.Archives.{archived}
 use Rattle.oai_daemon.specs.Lives.{BeginsWithAll, HasLived}
-use Rattle.oai_daemon.specs.ServedDisks.{file_of}
-use Rattle.oai_daemon.specs.Starts.{HasResumed, HasServed, HasStarted}
+use Rattle.oai_recovery.specs.ServedDisks.{file_of}
+use Rattle.oai_daemon.specs.Served.{HasResumed, HasServed}
+use Rattle.oai_recovery.specs.Starts.{HasStarted}
 use Rattle.oai_daemon.specs.Watches.{Watches}
 use Rattle.oai_http.specs.Exchanges.{Asked}
 use Rattle.oai_http.specs.declared.exchanges.Answer.{Answer}
-use Rattle.oai_daemon.specs.declared.origins.Origin.{Origin}
-use Rattle.oai_daemon.specs.declared.origins.Origin.TheVariants as origin
+use Rattle.oai_recovery.specs.declared.origins.Origin.{Origin}
+use Rattle.oai_recovery.specs.declared.origins.Origin.TheVariants as origin
 
 -- a list of no length has nothing
 nothing_in : {X : Type 0} (xs : List X) → length xs ≡ 0 → xs ≡ []

@@ -1,14 +1,11 @@
 -- Why the program stops when its service ended. This repository's own.
-use Rattle.std.specs.Prelude.{ℕ, ℤ, pos, min, Option, Some, None, Result, Ok, Err}
+use Rattle.std.specs.Prelude.{ℕ, Option, Some, None, Result, Ok, Err}
 use Rattle.oai_archive.specs.declared.stop.ServerStop.{ServerStop}
 use Rattle.oai_archive.specs.declared.stop.ServerStop.TheVariants.{CannotWrite, Common, Jumped}
 use Rattle.oai_serving.specs.declared.faults.ServeFault.{ServeFault}
 use Rattle.oai_serving.specs.declared.faults.ServeFault.TheVariants.{Clock, Unsettled, Wait}
 use Rattle.oai_startup.specs.declared.stop.Stop.TheVariants as other
-
--- a second from 1970 on, as a moment of 64 bits
-abbrev pub moment_at : ℕ → ℤ
-moment_at second = pos (min second 9_223_372_036_854_775_807)
+use Rattle.oai_recovery.specs.Moments.{moment_at}
 
 -- the journal could not be written; or the clock jumped to that second, or could not be read; or the program could not
 -- wait for readiness

@@ -1,8 +1,4 @@
-pub mod Notices
-pub mod Archives
 pub mod Watches
 pub mod Ends
-pub mod Starts
+pub mod Served
 pub mod Lives
-pub mod Renewals
-pub mod ServedDisks

@@ -18,10 +18,10 @@ use Rattle.oai_serving.specs.declared.faults.ServeFault.{ServeFault}
 use Rattle.oai_keys.specs.Guards.{Guards}
 use Rattle.oai_keys.specs.declared.rings.Ring.{Ring}
 use Rattle.oai_durable.specs.Journaled.{IsExchange, IsHeld, IsSettled, Parts}
-use Rattle.oai_daemon.specs.Archives.{archived}
+use Rattle.oai_recovery.specs.Archives.{archived}
 use Rattle.oai_daemon.specs.Watches.{Watches}
-use Rattle.oai_daemon.specs.declared.origins.Origin.{Origin}
-use Rattle.oai_daemon.specs.declared.origins.Origin.TheVariants.{Begun}
+use Rattle.oai_recovery.specs.declared.origins.Origin.{Origin}
+use Rattle.oai_recovery.specs.declared.origins.Origin.TheVariants.{Begun}
 
 -- the host begins with these records replayed, which are all that the journal's file has, and all of them are durable;
 -- the journal is of the configuration in the text, with records of these forms, and if it was begun there are none

@@ -1,10 +1,5 @@
 //! The clock of a server.
-ghost use Rattle.oai_daemon.specs.Ends.{moment_at};
-ghost use Rattle.std.specs.Prelude.{◌≡◌};
-
 use crate::tallies::Tally;
-use oai_archive::ServerStop;
-use oai_startup::Stop;
 use std::cell::Cell;
 use std::io;
 use std::rc::Rc;
@@ -71,27 +66,4 @@ fn has_jumped(last: (u64, u64), now: (u64, u64)) -> bool {
     }
     let steady = now.1.saturating_sub(last.1);
     now.0 > last.0.saturating_add(steady).saturating_add(MAX_GAIN)
-}
-
-/// The clock's moment, in seconds from 1970 on. The error is `InputFault`.
-pub(crate) fn moment_of<C: Clock>(clock: &C) -> Result<i64, ServerStop> {
-    match clock.since_1970() {
-        Ok(time) => Ok(to_moment(time.as_secs())),
-        Err(_) => Err(ServerStop::Common(Stop::InputFault)),
-    }
-}
-
-/// The second of a monotonic clock; 0 if it cannot be read.
-pub(crate) fn second_of<C: Clock>(clock: &C) -> u64 {
-    match clock.monotonic() {
-        Ok(time) => time.as_secs(),
-        Err(_) => 0,
-    }
-}
-
-/// The second from 1970 on, as a moment.
-pub(crate) fn to_moment(second: u64) -> i64
-    ensures { result ≡ moment_at second }
-{
-    i64::try_from(second).unwrap_or(i64::MAX)
 }

@@ -1,9 +1,9 @@
 //! What a server counts of the messages that it answers, and what it knows of its startup: figures.
-use crate::startups::Startup;
 use crate::tallies::Tally;
 use oai_figures::{Exposition, Figures};
 use oai_host::Config;
 use oai_http::{Endpoint, Status, Target};
+use oai_recovery::Startup;
 use std::alloc::{AllocError, Global};
 use std::rc::Rc;
 

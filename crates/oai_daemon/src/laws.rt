@@ -1,10 +1,10 @@
 //! What holds of every archive that this program serves, over all its lives (a life is one run of the server), and of
 //! the file of its journal: theorems, by empty functions.
-ghost use Rattle.oai_daemon.specs.Archives.{archive};
+ghost use Rattle.oai_recovery.specs.Archives.{archive};
 ghost use Rattle.oai_daemon.specs.Lives.{BeginsWithAll, HasLived};
-ghost use Rattle.oai_daemon.specs.Renewals.{IsRenewed, state_before};
-ghost use Rattle.oai_daemon.specs.ServedDisks.{file_of};
-ghost use Rattle.oai_daemon.specs.declared.origins.Origin.{Origin as From};
+ghost use Rattle.oai_recovery.specs.Renewals.{IsRenewed, state_before};
+ghost use Rattle.oai_recovery.specs.ServedDisks.{file_of};
+ghost use Rattle.oai_recovery.specs.declared.origins.Origin.{Origin as From};
 ghost use Rattle.oai_durable.specs.Checkpoints.{AreStages, IsCheckpoint, IsHistory, JournalStage};
 ghost use Rattle.oai_durable.specs.Journaled.{Parts};
 ghost use Rattle.oai_host.specs.Hosts.{HostState, Repository};
@@ -20,8 +20,8 @@ ghost use Rattle.oai_serving.specs.Rounds.{World};
 ghost use Rattle.oai_serving.specs.declared.faults.ServeFault.{ServeFault as Fault};
 ghost use Rattle.std.specs.Prelude.{◌≡◌, [], ℕ, IsTrue, List, Result, Some};
 
-use crate::served_disks::ServedDisk;
 use oai_journal::{FileJournal, Journal};
+use oai_recovery::ServedDisk;
 use oai_serving::Stream;
 use sqlite_disk::Disk;
 use sqlite_std_file::{FileFrom, Start};
@@ -49,14 +49,4 @@ pub fn whole_file_law<L: Stream, S: Start, T: Start>()
         → IsTrue (⟦<ServedDisk<FileFrom<S>, FileFrom<T>> as Disk>⟧.is_clean (disk_of lived.recovery))
         → BeginsWithAll ⟦<FileJournal<ServedDisk<FileFrom<S>, FileFrom<T>>> as Journal>⟧ (file_of S.Start.db T.Start.db origin)
         lived.forms text origin lived.config lived.old.handler }
-{}
-
-/// What `serve` and `checkpoint_folder` promise of a checkpoint that they wrote, of the file in which it is read back:
-/// provided that this is one that the disk may leave on which it was written, its records are a checkpoint of the state
-/// that all records of the old file leave. A theorem, proved by an empty function.
-pub fn checkpoint_law<D: Disk + Drop>()
-    ensures { (old : List ℕ) (raise : ℕ) (written : Filed D) (renewed : IsRenewed ⟦<FileJournal<D> as Journal>⟧ old raise written)
-        (file : List ℕ) (first : Entry) (found : List Entry)
-        → D.Disk.may_leave (disk_in written) file → IsJournalFile file first found
-        → IsCheckpoint archive (state_before renewed) raise found }
 {}

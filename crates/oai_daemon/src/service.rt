@@ -1,19 +1,16 @@
 //! A startup, and the service after it.
 ghost use Rattle.oai_daemon.specs.Ends.{serve_outcome, stop_of};
 ghost use Rattle.oai_daemon.specs.Lives.{HasLived};
-ghost use Rattle.oai_daemon.specs.Renewals.{HasRenewed, is_checkpoint};
-ghost use Rattle.oai_daemon.specs.ServedDisks.{file_of};
-ghost use Rattle.oai_daemon.specs.Starts.{HasResumed, HasServed};
+ghost use Rattle.oai_recovery.specs.Renewals.{HasRenewed, is_checkpoint};
+ghost use Rattle.oai_recovery.specs.ServedDisks.{file_of};
+ghost use Rattle.oai_daemon.specs.Served.{HasResumed, HasServed};
 ghost use Rattle.oai_keys.specs.Guards.{unguarded};
 ghost use Rattle.oai_serving.specs.Accepted.{PassesNone, known_of};
 ghost use Rattle.oai_serving.specs.Wrappers.{world_behind};
 ghost use Rattle.std.specs.Prelude.{◌≡◌, IfOk, IsTrue, MatchResult};
 
-use crate::clocks::{GuardedClock, second_of, to_moment};
+use crate::clocks::GuardedClock;
 use crate::counts::Counts;
-use crate::origins::Origin;
-use crate::places::Place;
-use crate::starts::{Started, start};
 use crate::tallies::{CountedPort, Tally};
 use crate::watched::Watched;
 use oai_archive::ServerStop;
@@ -26,6 +23,7 @@ use oai_journal::{FileJournal, Journal};
 use oai_keys::{Guarded, Ring};
 use oai_names::Sequence;
 use oai_paged::PagedVersions;
+use oai_recovery::{Origin, Place, Started, second_of, start, to_moment};
 use oai_replay::Replayed;
 use oai_serving::{ServeFault, Server, Sockets, Stream};
 use oai_startup::{Stop, config_in};

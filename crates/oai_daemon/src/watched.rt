@@ -5,12 +5,11 @@ ghost use Rattle.oai_daemon.specs.Watches.{IsStatusAnswer};
 ghost use Rattle.oai_host.specs.Tasks.{is_get};
 
 use crate::counts::Counts;
-use crate::notices::Notice;
-use crate::places::Place;
 use oai_figures::{Exposition, Figures};
 use oai_http::{Answer, Exchange, Handler, SettleFault, Settled, Status};
 use oai_item::Fault;
 use oai_names::Sequence;
+use oai_recovery::{Notice, Place};
 use std::alloc::Global;
 use std::marker::Model;
 

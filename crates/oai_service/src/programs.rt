@@ -3,8 +3,8 @@ ghost use Rattle.std.specs.Prelude.{◌≡◌, [], IfSome, IsTrue, List, Option,
 ghost use Rattle.oai_startup.specs.Rules.{HaveRules};
 ghost use Rattle.oai_daemon.specs.Lives.{HasLived};
 ghost use Rattle.oai_daemon.specs.Watches.{Watches};
-ghost use Rattle.oai_daemon.specs.declared.origins.Origin.{Origin as From};
-ghost use Rattle.oai_daemon.specs.declared.origins.Origin.TheVariants.{Begun};
+ghost use Rattle.oai_recovery.specs.declared.origins.Origin.{Origin as From};
+ghost use Rattle.oai_recovery.specs.declared.origins.Origin.TheVariants.{Begun};
 ghost use Rattle.oai_keys.specs.Guards.{Guards};
 ghost use Rattle.oai_keys.specs.declared.rings.Ring.{Ring};
 ghost use Rattle.oai_durable.specs.Journaled.{IsExchange, IsSettled, Parts};

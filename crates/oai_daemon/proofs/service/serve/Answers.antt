@@ -1,8 +1,8 @@
 -- The start and the service behind it are a life.
-use Rattle.oai_daemon.specs.ServedDisks.{file_of}
-use Rattle.oai_daemon.specs.declared.origins.Origin.{Origin}
+use Rattle.oai_recovery.specs.ServedDisks.{file_of}
+use Rattle.oai_recovery.specs.declared.origins.Origin.{Origin}
 use Rattle.oai_daemon.proofs.LifeLemmas.{lived_over}
-use Rattle.oai_daemon.proofs.RenewalLemmas.{renewed_over}
+use Rattle.oai_recovery.proofs.RenewalLemmas.{renewed_over}
 use Rattle.oai_daemon.proofs.service.serve.Goals as goal
 
 pub returns-clause-lived : goal.returns-clause-lived

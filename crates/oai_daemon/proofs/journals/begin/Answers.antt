@@ -1,8 +1,0 @@
--- It is no checkpoint.
-use Rattle.std.proofs.lemmas.Bool.{false≢true}
-use Rattle.oai_daemon.specs.declared.origins.Origin.TheVariants.{Begun}
-use Rattle.oai_daemon.proofs.RenewalLemmas.{renewed_over}
-use Rattle.oai_daemon.proofs.journals.begin.Goals as goal
-
-pub returns-clause-renewed : goal.returns-clause-renewed
-returns-clause-renewed g c = renewed_over _ _ Begun c.prepare_begun.result (λ is. absurd (false≢true is)) c.prepare_begun.ensures.origin

@@ -1,8 +1,0 @@
--- A checkpoint was written before the journal was prepared.
-use Rattle.std.proofs.Common.{IsTrue, subst}
-use Rattle.oai_daemon.specs.Renewals.{is_checkpoint}
-use Rattle.oai_daemon.specs.declared.origins.Origin.{Origin}
-use Rattle.oai_daemon.proofs.starts.start.Goals as goal
-
-pub returns-clause-renewed : goal.returns-clause-renewed
-returns-clause-renewed g c = λ is. c.in_ok-prepared.ensures.renewed (subst (λ (o : Origin). IsTrue (is_checkpoint o)) c.in_ok-started.ensures.origin is)

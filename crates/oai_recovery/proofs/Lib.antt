@@ -1,0 +1,3 @@
+mod FileLemmas
+pub mod RenewalLemmas
+mod StartLemmas

@@ -1,0 +1,30 @@
+//! The moments of a clock.
+ghost use Rattle.oai_recovery.specs.Moments.{moment_at};
+ghost use Rattle.std.specs.Prelude.{◌≡◌};
+
+use oai_archive::ServerStop;
+use oai_startup::Stop;
+use std::rt::Clock;
+
+/// The clock's moment, in seconds from 1970 on. The error is `InputFault`.
+pub(crate) fn moment_of<C: Clock>(clock: &C) -> Result<i64, ServerStop> {
+    match clock.since_1970() {
+        Ok(time) => Ok(to_moment(time.as_secs())),
+        Err(_) => Err(ServerStop::Common(Stop::InputFault)),
+    }
+}
+
+/// The second of a monotonic clock; 0 if it cannot be read.
+pub fn second_of<C: Clock>(clock: &C) -> u64 {
+    match clock.monotonic() {
+        Ok(time) => time.as_secs(),
+        Err(_) => 0,
+    }
+}
+
+/// The second from 1970 on, as a moment; one of more than 63 bits is the last that there is.
+pub fn to_moment(second: u64) -> i64
+    ensures { result ≡ moment_at second }
+{
+    i64::try_from(second).unwrap_or(i64::MAX)
+}
