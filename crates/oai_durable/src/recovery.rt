@@ -60,8 +60,8 @@ pub fn recover<H: Replayed, D: Disk + Drop, P: Progress>(
     ensures clean { IsTrue (D.Disk.is_clean (disk_of recovery.new)) → IsTrue (D.Disk.is_clean (disk_of recovery.old)) }
 {
     for count in 0..u64::MAX {
-        match redo_next(handler, recovery, count + 1) {
-            Ok(true) => note_last(progress, recovery, count + 1),
+        match redo_next(handler, recovery, progress, count + 1) {
+            Ok(true) => {}
             Ok(false) => return Ok(count),
             Err(fault) => return Err(fault),
         }
@@ -94,17 +94,11 @@ pub fn resume<H: Replayed + Drop, D: Disk + Drop>(
     }
 }
 
-/// Reports the record that was read last, which has that number.
-fn note_last<D: Disk + Drop, P: Progress>(progress: &mut P, recovery: &Recovery<D>, number: u64) {
-    if let Some(entry) = recovery.record() {
-        progress.note(&entry, number, recovery.position(), recovery.file_len());
-    }
-}
-
-/// Reads the next record and performs it, or restores its part; returns false if there is none.
-fn redo_next<H: Replayed, D: Disk + Drop>(
+/// Reads the next record, performs it, or restores its part, and reports it; returns false if there is none.
+fn redo_next<H: Replayed, D: Disk + Drop, P: Progress>(
     handler: &mut H,
     recovery: &mut Recovery<D>,
+    progress: &mut P,
     number: u64,
 ) -> Result<bool, RecoverFault>
     ensures next { IfOk result (λ more. IsTrue more → IsTrue (D.Disk.is_clean (disk_of recovery.new))
@@ -127,7 +121,7 @@ fn redo_next<H: Replayed, D: Disk + Drop>(
     ensures clean { IsTrue (D.Disk.is_clean (disk_of recovery.new)) → IsTrue (D.Disk.is_clean (disk_of recovery.old)) }
 {
     match recovery.advance() {
-        Ok(true) => match redo_last(handler, recovery, number) {
+        Ok(true) => match redo_last(handler, recovery, progress, number) {
             Ok(()) => Ok(true),
             Err(fault) => Err(fault),
         },
@@ -136,10 +130,11 @@ fn redo_next<H: Replayed, D: Disk + Drop>(
     }
 }
 
-/// Performs the record that was read last, or restores its part.
-fn redo_last<H: Replayed, D: Disk + Drop>(
+/// Performs the record that was read last, or restores its part, and reports it.
+fn redo_last<H: Replayed, D: Disk + Drop, P: Progress>(
     handler: &mut H,
     recovery: &Recovery<D>,
+    progress: &mut P,
     number: u64,
 ) -> Result<(), RecoverFault>
     ensures redone { OnOk result ((e : Entry) → current recovery.now ≡ Some e → IsTrue (H.is_honest handler.old)
@@ -147,9 +142,15 @@ fn redo_last<H: Replayed, D: Disk + Drop>(
     ensures own { IfErr result (λ cause. is_of_journal cause ≡ false) }
     ensures honesty { H.is_honest handler.new ≡ H.is_honest handler.old }
 {
-    match recovery.record() {
-        Some(entry) => redo_entry(handler, &entry, number),
-        None => Err(RecoverFault::Kind(number)),
+    let Some(entry) = recovery.record() else {
+        return Err(RecoverFault::Kind(number));
+    };
+    match redo_entry(handler, &entry, number) {
+        Ok(()) => {
+            progress.note(&entry, number, recovery.position(), recovery.file_len());
+            Ok(())
+        }
+        Err(fault) => Err(fault),
     }
 }
 

@@ -1,8 +1,9 @@
 -- What is read of a frame that was written; and that bytes begin with one frame at most.
 use Rattle.std.proofs.Common.{◌≡◌, ◌∙◌, ℕ, ◌+◌, ◌-◌, ◌≤◌, nat_lt, true, List, [], ◌++◌, length, take, drop, Option, Some, None, refl, sym, ap, arith, append_assoc, w64}
 use Rattle.std.specs.Int.{to_be_bytes}
-use Rattle.std.proofs.lemmas.Bool.{cond-true, lt-ltb}
-use Rattle.std.proofs.lemmas.List.{drop_at, length-append, take_at, append-nil}
+use Rattle.std.proofs.Common.{inl, inr}
+use Rattle.std.proofs.lemmas.Bool.{cases_lt, cond-false, cond-true, le-ltb, lt-ltb}
+use Rattle.std.proofs.lemmas.List.{drop_at, length-append, length-drop, length-take-le, take_at, append-nil}
 use Rattle.std.proofs.Math.Seq.{take-append-add}
 use Rattle.hex.proofs.HexLemmas.{length-encode_with}
 use Rattle.hex.specs.Hex.{lower_digits}
@@ -45,17 +46,21 @@ read_len : (bytes : List ℕ) (h : RecordHeadFields) → head_in bytes ≡ Some 
 unfolding len_in
 read_len bytes h is within = rw (is, within) refl
 
--- the first bytes of a frame are enough to see how long it is
-pub frame_len : (n before : ℕ) (e : Entry) (rest : List ℕ) → MAX_HEAD ≤ n → IsFit e → len_in (take n (frame before e ++ rest)) ≡ Some (length (frame before e))
-frame_len n before e rest enough is =
+-- the first bytes of a frame are enough to read its head, and to see how long it is
+pub frame_head : (n before : ℕ) (e : Entry) (rest : List ℕ) → MAX_HEAD ≤ n → IsFit e → head_in (take n (frame before e ++ rest)) ≡ Some (head_of e)
+frame_head n before e rest enough is =
     let h : RecordHeadFields = head_of e in
     let front : List ℕ = head_front h in
     let tail : List ℕ = middle before e ++ ((e.body ++ plain_line_end) ++ rest) in
     let short : length front ≤ n = omega (arith, length_front h (spellable e is)) in
     let begins : take n (frame before e ++ rest) ≡ front ++ take (n - length front) tail = ap (take n) (frame_is before e rest) ∙ take_past n front tail short in
-    ap len_in begins ∙ read_len _ h (head_written h (take (n - length front) tail) (spellable e is)) is.fit ∙ ap (λ m. Some m) (sym (length_frame before e))
+    ap head_in begins ∙ head_written h (take (n - length front) tail) (spellable e is)
 
-read_body : (front body : List ℕ) → body_in (length body) (front ++ (body ++ plain_line_end)) ≡ Some body
+pub frame_len : (n before : ℕ) (e : Entry) (rest : List ℕ) → MAX_HEAD ≤ n → IsFit e → len_in (take n (frame before e ++ rest)) ≡ Some (length (frame before e))
+frame_len n before e rest enough is =
+    read_len _ (head_of e) (frame_head n before e rest enough is) is.fit ∙ ap (λ m. Some m) (sym (length_frame before e))
+
+pub read_body : (front body : List ℕ) → body_in (length body) (front ++ (body ++ plain_line_end)) ≡ Some body
 unfolding body_in plain
 read_body front body =
     let whole : List ℕ = front ++ (body ++ plain_line_end) in
@@ -75,9 +80,27 @@ whole_frame : (before : ℕ) (e : Entry) → frame before e ≡ head_front (head
 whole_frame before e =
     sym (append-nil (frame before e)) ∙ frame_is before e [] ∙ ap (λ (l : List ℕ). head_front (head_of e) ++ (middle before e ++ l)) (append-nil (e.body ++ plain_line_end))
 
-body_of : (before : ℕ) (e : Entry) → body_in (length e.body) (frame before e) ≡ Some e.body
+pub body_of : (before : ℕ) (e : Entry) → body_in (length e.body) (frame before e) ≡ Some e.body
 unfolding frame
 body_of before e = read_body (frame_front before e) e.body
+
+abbrev or_else : {A : Type 0} → Option A → A → A
+or_else None d = d
+or_else (Some x) d = x
+
+pub some_same : {A : Type 0} (a b : A) → Some a ≡ Some b → a ≡ b
+some_same a b is = ap (λ o. or_else o a) is
+
+-- bytes before the last one are as many as were wanted
+pub length_body : (size : ℕ) (bytes body : List ℕ) → body_in size bytes ≡ Some body → length body ≡ size
+unfolding body_in
+length_body size bytes body is = elim (cases_lt size (length bytes)) [
+  | inl less ↦
+      let there : size ≤ length (drop (length bytes - size - 1) bytes) = omega (arith, length-drop (length bytes - size - 1) bytes, less) in
+      ap length (sym (some_same _ _ (sym (cond-true (nat_lt size (length bytes)) _ None (lt-ltb _ _ less)) ∙ is))) ∙ length-take-le size (drop (length bytes - size - 1) bytes) there
+  | inr more ↦
+      let none : None ≡ Some body = sym (cond-false (nat_lt size (length bytes)) _ None (le-ltb _ _ more)) ∙ is in cc
+]
 
 pub frame_read : (before : ℕ) (e : Entry) → IsFit e → entry_in (frame before e) ≡ Some e
 frame_read before e is =
@@ -88,13 +111,6 @@ frame_read before e is =
 pub record IsSame (e e' : Entry) (rest rest' : List ℕ) : Type 0 where
   pub entry : e ≡ e'
   pub behind : rest ≡ rest'
-
-abbrev or_else : {A : Type 0} → Option A → A → A
-or_else None d = d
-or_else (Some x) d = x
-
-pub some_same : {A : Type 0} (a b : A) → Some a ≡ Some b → a ≡ b
-some_same a b is = ap (λ o. or_else o a) is
 
 pub frame_same : (before : ℕ) (e e' : Entry) (rest rest' : List ℕ) → IsFit e → IsFit e' → frame before e ++ rest ≡ frame before e' ++ rest' → IsSame e e' rest rest'
 frame_same before e e' rest rest' fit fit' is =

@@ -1,14 +1,17 @@
 -- What is known of a frame that is read by its length first.
-use Rattle.std.proofs.Common.{◌≡◌, ◌≢◌, ◌∙◌, ℕ, ◌-◌, ◌<◌, ◌≤◌, min, Bool, List, ◌++◌, length, take, drop, Option, Some, None, MatchOption, sym, ap, subst, arith, ◌+◌, get_or}
+use Rattle.std.proofs.Common.{◌≡◌, ◌≢◌, ◌∙◌, append_assoc, ℕ, ◌-◌, ◌<◌, ◌≤◌, min, Bool, List, [], ◌++◌, length, take, drop, Option, Some, None, MatchOption, sym, ap, arith, ◌+◌, get_or}
 use Rattle.std.proofs.lemmas.Bool.{cases_lt}
-use Rattle.std.proofs.lemmas.List.{length-append, length-drop, length-take-le, take-append-drop, take_all, take_at}
+use Rattle.std.proofs.lemmas.List.{append-nil, length-append, length-drop, length-take-le, take-append-drop, take_all, take_at}
 use Rattle.std.proofs.Common.{ext_get_or, get_or-drop, get_or-take, inl, inr}
 use Rattle.sqlite_disk.specs.Disk.{Holds}
-use Rattle.oai_journal.specs.Frames.{entry_in, frame, len_in, next_digest}
-use Rattle.oai_journal.specs.Records.{Entry, IsFit, is_first_kind}
-use Rattle.oai_journal.specs.Recoveries.{Checks, FindsFrame, IsLenAt}
+use Rattle.sqlite_disk.specs.Digest.{digest}
+use Rattle.oai_journal.specs.Frames.{IsFrameHead, body_in, entry_in, frame, frame_front, framed, head_of, len_in, next_digest}
+use Rattle.oai_journal.specs.Heads.{RecordHeadFields, head_front, head_in}
+use Rattle.oai_journal.specs.Records.{Entry, IsFit, is_first_kind, is_within}
+use Rattle.oai_journal.specs.Recoveries.{Checks, FindsFrame, IsHeadOf, IsLenAt}
+use Rattle.oai_journal.specs.declared.records.Kind.{Kind}
 use Rattle.oai_journal.specs.declared.frames.TheConstants.{FRAME_ROOM}
-use Rattle.oai_journal.proofs.FrameLemmas.{frame_len, frame_read, length_frame, some_same}
+use Rattle.oai_journal.proofs.FrameLemmas.{body_of, frame_head, frame_len, frame_read, length_body, length_frame, some_same}
 
 -- bytes that a file has at a place are a part of it
 pub held_part : (file bytes : List ℕ) (at size : ℕ) → length bytes ≡ size → Holds file at bytes → bytes ≡ take size (drop at file)
@@ -54,6 +57,11 @@ module _ (file : List ℕ) (len at : ℕ) (size_is : len ≡ length file) where
   len_read bytes is before e after fit there =
       ap len_in (is ∙ take_least FRAME_ROOM (len - at) (drop at file) (sym left_is) ∙ ap (take FRAME_ROOM) there) ∙ frame_len FRAME_ROOM before e after (omega arith) fit
 
+  pub head_read : (bytes : List ℕ) → bytes ≡ take (min FRAME_ROOM (len - at)) (drop at file) → (before : ℕ) (e : Entry) (after : List ℕ) → IsFit e → drop at file ≡ frame before e ++ after
+      → head_in bytes ≡ Some (head_of e)
+  head_read bytes is before e after fit there =
+      ap head_in (is ∙ take_least FRAME_ROOM (len - at) (drop at file) (sym left_is) ∙ ap (take FRAME_ROOM) there) ∙ frame_head FRAME_ROOM before e after (omega arith) fit
+
   -- and is within the file
   pub len_within : (before : ℕ) (e : Entry) (after : List ℕ) → drop at file ≡ frame before e ++ after → length (frame before e) ≤ len - at
   len_within before e after there = omega (arith, left_is, ap length there, length-append (frame before e) after)
@@ -80,20 +88,58 @@ finds first before size rest read (Some digest) at is checked =
 
 -- ---- the bytes of one frame
 
-pub checks_none : (first : Bool) (before : ℕ) (bytes : List ℕ) → entry_in bytes ≡ None → Checks first before bytes None
-checks_none first before bytes none = λ e is.
-    let read : None ≡ Some e = sym none ∙ ap entry_in is.is ∙ frame_read before e is.fit in
-    cc
+-- the head of each frame with which bytes begin is that of each with which a part of them begins
+pub heads_part : (size : ℕ) (rest : List ℕ) (h : RecordHeadFields) → IsHeadOf h rest → IsHeadOf h (take size rest)
+heads_part size rest h heads before e after fit at =
+    heads before e (after ++ drop size rest) fit (sym (take-append-drop size rest) ∙ ap (λ (l : List ℕ). l ++ drop size rest) at ∙ append_assoc (frame before e) after (drop size rest))
 
-pub checks_refused : (first : Bool) (before : ℕ) (bytes : List ℕ) (read : Entry) → entry_in bytes ≡ Some read → (IsFit read → is_first_kind read.kind ≡ first → ⊥) → Checks first before bytes None
-checks_refused first before bytes read is refused = λ e stands.
-    let same : read ≡ e = some_same read e (sym is ∙ ap entry_in stands.is ∙ frame_read before e stands.fit) in
-    refused (subst IsFit (sym same) stands.fit) (ap (λ (x : Entry). is_first_kind x.kind) same ∙ stands.kind)
+module _ (first : Bool) (before : ℕ) (bytes : List ℕ) (h : RecordHeadFields) (heads : IsHeadOf h bytes) where
+  head_is : (e : Entry) → IsFit e → bytes ≡ frame before e → h ≡ head_of e
+  head_is e fit is = heads before e [] fit (is ∙ sym (append-nil (frame before e)))
 
-pub checks_spelled : (first : Bool) (before : ℕ) (bytes : List ℕ) (read : Entry) (result : Option ℕ) → entry_in bytes ≡ Some read → IsFit read → is_first_kind read.kind ≡ first
-    → MatchOption result (bytes ≢ frame before read) (λ d. (bytes ≡ frame before read) × (d ≡ next_digest before read)) → Checks first before bytes result
-checks_spelled first before bytes read None is fit kind none = λ e stands.
-    let same : read ≡ e = some_same read e (sym is ∙ ap entry_in stands.is ∙ frame_read before e stands.fit) in
-    none (stands.is ∙ ap (frame before) (sym same))
-checks_spelled first before bytes read (Some d) is fit kind spelled =
-    record { entry = read; frame = record { fit = fit; kind = kind; is = spelled.0 }; digest_is = spelled.1; read = is }
+  -- the bytes before the last one are those of the record
+  body_is : (e : Entry) → IsFit e → bytes ≡ frame before e → body_in h.size bytes ≡ Some e.body
+  body_is e fit is = ap (λ n. body_in n bytes) (ap (λ (x : RecordHeadFields). x.size) (head_is e fit is)) ∙ ap (body_in (length e.body)) is ∙ body_of before e
+
+  pub checks_none : body_in h.size bytes ≡ None → Checks first before bytes None
+  checks_none none = λ e stands.
+      let read : None ≡ Some e.body = sym none ∙ body_is e stands.fit stands.is in
+      cc
+
+  pub checks_refused : (is_first_kind h.kind ≡ first → ⊥) → Checks first before bytes None
+  checks_refused refused = λ e stands. refused (ap (λ (x : RecordHeadFields). is_first_kind x.kind) (head_is e stands.fit stands.is) ∙ stands.kind)
+
+  module _ (kind : Kind) (size : ℕ) (written body : List ℕ) (is_head : IsFrameHead h kind size written) (read : body_in h.size bytes ≡ Some body) where
+    abbrev entry : Entry
+    entry = record { moment = h.moment; kind = h.kind; name = h.name; body = body }
+
+    head_same : head_of entry ≡ h
+    head_same = ap (λ n. record { moment = h.moment; kind = h.kind; name = h.name; size = n }) (length_body h.size bytes body read)
+
+    entry_fit : IsFit entry
+    entry_fit = record { moment = is_head.moment; fit = ap (λ n. is_within h.kind h.name n) (length_body h.size bytes body read) ∙ is_head.within }
+
+    text_is : written ≡ head_front (head_of entry)
+    text_is = is_head.text ∙ ap head_front (sym head_same)
+
+    framed_is : framed before written body ≡ frame before entry
+    unfolding frame frame_front next_digest
+    framed_is = ap (λ (l : List ℕ). framed before l body) text_is
+
+    digest_is : digest before (written ++ body) ≡ next_digest before entry
+    unfolding next_digest
+    digest_is = ap (λ (l : List ℕ). digest before (l ++ body)) text_is
+
+    entry_same : (e : Entry) → IsFit e → bytes ≡ frame before e → entry ≡ e
+    entry_same e fit is =
+        let same : body ≡ e.body = some_same _ _ (sym read ∙ body_is e fit is) in
+        ap (λ (l : List ℕ). record { moment = h.moment; kind = h.kind; name = h.name; body = l }) same
+        ∙ ap (λ (x : RecordHeadFields). record { moment = x.moment; kind = x.kind; name = x.name; body = e.body }) (head_is e fit is)
+
+    pub checks_spelled : (result : Option ℕ) → is_first_kind h.kind ≡ first
+        → MatchOption result (bytes ≢ framed before written body) (λ d. (bytes ≡ framed before written body) × (d ≡ digest before (written ++ body)))
+        → Checks first before bytes result
+    checks_spelled None is_kind none = λ e stands. none (stands.is ∙ ap (frame before) (sym (entry_same e stands.fit stands.is)) ∙ sym framed_is)
+    checks_spelled (Some d) is_kind spelled =
+        let is : bytes ≡ frame before entry = spelled.0 ∙ framed_is in
+        record { entry = entry; frame = record { fit = entry_fit; kind = is_kind; is = is }; digest_is = spelled.1 ∙ digest_is; read = ap entry_in is ∙ frame_read before entry entry_fit }

@@ -1,10 +1,11 @@
 -- Frames: how a journal encodes its records. This repository's own.
-use Rattle.std.specs.Prelude.{ℕ, ◌+◌, ◌-◌, nat_lt, List, [], ◌∷◌, ◌++◌, length, take, drop, Option, Some, None, if◌then◌else◌}
+use Rattle.std.specs.Prelude.{◌≡◌, ℕ, ◌+◌, ◌-◌, nat_lt, true, List, [], ◌∷◌, ◌++◌, length, take, drop, Option, Some, None, if◌then◌else◌, FitsSigned}
 use Rattle.std.specs.Int.{w64, to_be_bytes}
 use Rattle.hex.specs.Hex.{encode_lower}
 use Rattle.sqlite_disk.specs.Digest.{digest}
 use Rattle.oai_journal.specs.Records.{Entry, is_within}
 use Rattle.oai_journal.specs.Heads.{RecordHeadFields, head_front, plain, head_in, ◌>>=◌, tested}
+use Rattle.oai_journal.specs.declared.records.Kind.{Kind}
 
 abbrev pub head_of : Entry → RecordHeadFields
 head_of e = record { moment = e.moment; kind = e.kind; name = e.name; size = length e.body }
@@ -29,7 +30,19 @@ frame_front before e = head_front (head_of e) ++ digest_text (next_digest before
 unfoldable pub frame : ℕ → Entry → List ℕ
 frame before e = frame_front before e ++ (e.body ++ plain_line_end)
 
+-- one with a head of that text, and these bytes
+abbrev pub framed : ℕ → List ℕ → List ℕ → List ℕ
+framed before head body = (head ++ digest_text (digest before (head ++ body)) ++ plain_line_end) ++ (body ++ plain_line_end)
+
 -- ---- how one is read
+
+-- a head that a frame may have, of that kind, for that many bytes, and with that text
+pub record IsFrameHead (h : RecordHeadFields) (its : Kind) (bytes : ℕ) (written : List ℕ) : Type 0 where
+  pub moment : FitsSigned w64 h.moment
+  pub within : is_within h.kind h.name h.size ≡ true
+  pub kind : its ≡ h.kind
+  pub size : bytes ≡ h.size
+  pub text : written ≡ head_front h
 
 -- that many bytes before the last one
 unfoldable pub body_in : ℕ → List ℕ → Option (List ℕ)

@@ -2,7 +2,8 @@
 use Rattle.std.specs.Prelude.{◌≡◌, ◌⊎◌, ℕ, ◌+◌, ◌≤◌, Bool, true, false, if◌then◌else◌, List, [], ◌∷◌, ◌++◌, length, map, drop, Option, Some, MatchOption}
 use Rattle.oai_journal.specs.Changes.{GoesOn}
 use Rattle.oai_journal.specs.Files.{AreGated, Gated, IsFirstRecord, digest_after, front, is_commit_set}
-use Rattle.oai_journal.specs.Frames.{entry_in, frame, next_digest}
+use Rattle.oai_journal.specs.Frames.{entry_in, frame, head_of, next_digest}
+use Rattle.oai_journal.specs.Heads.{RecordHeadFields}
 use Rattle.oai_journal.specs.Records.{Entry, IsFit, is_first_kind}
 use Rattle.oai_journal.specs.declared.recovery.Step.{Step}
 use Rattle.oai_journal.specs.declared.recovery.Step.TheVariants.{Changed, End, Frame, Damage}
@@ -26,6 +27,10 @@ Checks first before bytes result = MatchOption result ((e : Entry) → IsFrame f
 -- the length of a frame with which these bytes begin; if there is none, they begin with no frame
 abbrev pub IsLenAt : List ℕ → Option ℕ → Type 0
 IsLenAt bytes found = (before : ℕ) (e : Entry) (after : List ℕ) → IsFit e → bytes ≡ frame before e ++ after → found ≡ Some (length (frame before e))
+
+-- the head is that of each frame with which these bytes begin
+abbrev pub IsHeadOf : RecordHeadFields → List ℕ → Type 0
+IsHeadOf h bytes = (before : ℕ) (e : Entry) (after : List ℕ) → IsFit e → bytes ≡ frame before e ++ after → h ≡ head_of e
 
 -- the bytes do not begin with a frame
 abbrev pub HasNoFrame : Bool → ℕ → List ℕ → Type 0

@@ -1,15 +1,15 @@
 //! Frames: a head with a digest, a line end, the bytes of a log record, and a line end. `groups` and `readings` handle
 //! the commit byte before a frame.
-ghost use Rattle.std.specs.Prelude.{◌≡◌, ◌≢◌, ◌↔◌, ◌<◌, ◌≤◌, ◌+◌, ◌++◌, length, List, ℕ, drop, take, vec_len, vec_capacity, IsTrue, IsSome, IfSome, MatchOption};
+ghost use Rattle.std.specs.Prelude.{◌≡◌, ◌≢◌, ◌↔◌, ◌<◌, ◌≤◌, ◌+◌, ◌++◌, length, List, ℕ, drop, take, vec_len, vec_capacity, IsTrue, IfSome, MatchOption, Some};
 ghost use Rattle.std.specs.Option.{option_copied, option_map};
 ghost use Rattle.sqlite_disk.specs.Digest.{digest};
 ghost use Rattle.oai_journal.specs.Frames as spec;
-ghost use Rattle.oai_journal.specs.Heads.{fields_of_head, head_front};
+ghost use Rattle.oai_journal.specs.Heads.{RecordHeadFields, fields_of_head, head_front, head_in};
 ghost use Rattle.oai_journal.specs.Records.{Entry, IsFit, as_entry, is_fit};
 ghost use Rattle.oai_journal.specs.declared.records.TheConstants.{MAX_FIRST_BODY};
 
 use crate::heads::{MAX_HEAD, RecordHead, parse_head, put, write_head};
-use crate::records::{LogRecord, is_within};
+use crate::records::{Kind, LogRecord, is_within};
 use std::hash::{DefaultHasher, Hasher};
 
 /// The length of a digest as text, in bytes.
@@ -21,6 +21,17 @@ pub(crate) const FRAME_ROOM: usize = 102;
 
 /// A capacity that is enough for what precedes the record's bytes.
 pub(crate) const FRONT_ROOM: usize = 100;
+
+/// What the head of a frame has of it.
+#[derive(Clone, Copy)]
+pub(crate) struct FrameHead {
+    /// The kind of its record.
+    pub(crate) kind: Kind,
+    /// The length of the record's bytes.
+    pub(crate) size: usize,
+    /// The length of the frame.
+    pub(crate) len: usize,
+}
 
 /// Writes a frame into reserved space; returns its digest.
 #[tactic(auto, unfolding(crate::specs::Frames::frame, crate::specs::Heads::plain))]
@@ -71,13 +82,16 @@ fn digest_text(digest: u64) -> [u8; DIGEST_LEN]
     text
 }
 
-/// The length of the frame that begins with these bytes; `out` is cleared, and needs capacity for a head. None if no
-/// frame begins so.
+/// The head with which these bytes begin. Its text is then in `out`, which is cleared, and needs capacity for a head.
+/// None if no frame begins so.
 #[tactic(auto, unfolding(crate::specs::Frames::len_in), using(crate::proofs::FitLemmas::within_parts))]
-pub(crate) fn frame_len(bytes: &[u8], out: &mut Vec<u8>) -> Option<usize>
+pub(crate) fn frame_head(bytes: &[u8], out: &mut Vec<u8>) -> Option<FrameHead>
     requires room { MAX_HEAD ≤ vec_capacity out.old }
-    ensures len { result ≡ spec.len_in bytes.now }
-    ensures some { IfSome result (λ n. 0 < n) }
+    ensures len { option_map (λ head. head.len) result ≡ spec.len_in bytes.now }
+    ensures head { IfSome result (λ head. (h : RecordHeadFields) × (head_in bytes.now ≡ Some h)
+        × spec.IsFrameHead h head.kind head.size out.new.items) }
+    ensures some { IfSome result (λ head. 0 < head.len) }
+    ensures text { IfSome result (λ head. vec_len out.new ≤ MAX_HEAD) }
     ensures room { vec_capacity out.old ≤ vec_capacity out.new }
 {
     let head = parse_head(bytes)?;
@@ -86,7 +100,11 @@ pub(crate) fn frame_len(bytes: &[u8], out: &mut Vec<u8>) -> Option<usize>
     }
     out.clear();
     write_head(&head, out);
-    Some(out.len() + DIGEST_LEN + head.size + 2)
+    Some(FrameHead {
+        kind: head.kind,
+        size: head.size,
+        len: out.len() + DIGEST_LEN + head.size + 2,
+    })
 }
 
 /// The log record in the bytes of a frame; whether the bytes encode it is not tested.
@@ -106,7 +124,7 @@ pub(crate) fn record_in(bytes: &[u8]) -> Option<LogRecord<'_>>
 
 /// That many bytes before the last one.
 #[tactic(auto, unfolding(crate::specs::Frames::body_in))]
-fn body_in(size: usize, bytes: &[u8]) -> Option<&[u8]>
+pub(crate) fn body_in(size: usize, bytes: &[u8]) -> Option<&[u8]>
     ensures { option_copied result ≡ spec.body_in size bytes.now }
 {
     if size < bytes.len() {
@@ -116,24 +134,19 @@ fn body_in(size: usize, bytes: &[u8]) -> Option<&[u8]>
     }
 }
 
-/// Whether the bytes are the frame of the record after the digest `before`, and the digest of that frame; `out` is
-/// cleared, and needs capacity for what precedes the record's bytes.
-pub(crate) fn frame_digest(
-    before: u64,
-    entry: &LogRecord<'_>,
-    bytes: &[u8],
-    out: &mut Vec<u8>,
-) -> Option<u64>
-    requires fit { IsTrue (is_fit (as_entry entry.now)) }
-    requires room { FRONT_ROOM ≤ vec_capacity out.old }
-    ensures spelled { MatchOption result (bytes.now ≢ spec.frame before (as_entry entry.now))
-        (λ d. (bytes.now ≡ spec.frame before (as_entry entry.now))
-        × (d ≡ spec.next_digest before (as_entry entry.now))) }
+/// Whether the bytes are a frame after the digest `before`: the head whose text is in `out`, its digest, a line end,
+/// the bytes of a record, which are those before the last one, and a line end. Returns the digest of that frame; `out`
+/// needs capacity for what precedes the record's bytes.
+pub(crate) fn frame_digest(before: u64, body: &[u8], bytes: &[u8], out: &mut Vec<u8>) -> Option<u64>
+    requires read { spec.body_in (length body.now) bytes.now ≡ Some body.now }
+    requires room { vec_len out.old + DIGEST_LEN + 1 ≤ vec_capacity out.old }
+    ensures spelled { MatchOption result (bytes.now ≢ spec.framed before out.old.items body.now)
+        (λ d. (bytes.now ≡ spec.framed before out.old.items body.now)
+        × (d ≡ digest before (out.old.items ++ body.now))) }
     ensures room { vec_capacity out.old ≤ vec_capacity out.new }
 {
-    out.clear();
-    let digest = write_front(before, entry, out);
-    if is_joined(bytes, out, entry.body, b"\n") {
+    let digest = write_digest(before, 0, body, out);
+    if is_framed(bytes, out, body) {
         Some(digest)
     } else {
         None
@@ -151,7 +164,20 @@ fn write_front(before: u64, entry: &LogRecord<'_>, out: &mut Vec<u8>) -> u64
 {
     let start = out.len();
     write_head(&head_of(entry), out);
-    let digest = digest_of(before, behind(start, out), entry.body);
+    write_digest(before, start, entry.body, out)
+}
+
+/// Writes the digest of a frame, and a line end, behind its head, which begins at that position; returns the digest.
+fn write_digest(before: u64, start: usize, body: &[u8], out: &mut Vec<u8>) -> u64
+    requires within { start ≤ length out.old.items }
+    requires room { vec_len out.old + DIGEST_LEN + 1 ≤ vec_capacity out.old }
+    ensures items { out.new.items ≡ out.old.items
+        ++ spec.digest_text (digest before (drop start out.old.items ++ body.now)) ++ spec.plain_line_end }
+    ensures returned { result ≡ digest before (drop start out.old.items ++ body.now) }
+    ensures len { vec_len out.new ≡ vec_len out.old + DIGEST_LEN + 1 }
+    ensures room { vec_capacity out.old ≤ vec_capacity out.new }
+{
+    let digest = digest_of(before, behind(start, out), body);
     put(&digest_text(digest), out);
     put(b"\n", out);
     digest
@@ -165,13 +191,15 @@ fn behind(at: usize, bytes: &[u8]) -> &[u8]
     &bytes[at..]
 }
 
-/// Whether the whole is the three parts, one after the other.
-fn is_joined(whole: &[u8], first: &[u8], second: &[u8], third: &[u8]) -> bool
-    ensures { IsTrue result ↔ (whole.now ≡ first.now ++ (second.now ++ third.now)) }
+/// Whether the bytes are `front`, the body, and a line end. The body is what they have before their last byte, and is
+/// not compared.
+fn is_framed(bytes: &[u8], front: &[u8], body: &[u8]) -> bool
+    requires { spec.body_in (length body.now) bytes.now ≡ Some body.now }
+    ensures { IsTrue result ↔ (bytes.now ≡ front.now ++ (body.now ++ spec.plain_line_end)) }
 {
-    match whole.strip_prefix(first) {
-        Some(rest) => match rest.strip_prefix(second) {
-            Some(rest) => rest == third,
+    match bytes.strip_prefix(front) {
+        Some(rest) => match rest.strip_suffix(b"\n") {
+            Some(middle) => middle.len() == body.len(),
             None => false,
         },
         None => false,

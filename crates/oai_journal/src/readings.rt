@@ -1,15 +1,16 @@
 //! Reads frames from a disk one at a time, each into a buffer that grows to the longest of them.
-ghost use Rattle.std.specs.Prelude.{◌≡◌, ◌+◌, ◌<◌, ◌≤◌, ℕ, List, Option, Some, length, take, drop, vec_capacity, IsTrue, OnOk, IfOk, IfSome};
+ghost use Rattle.std.specs.Prelude.{◌≡◌, ◌+◌, ◌<◌, ◌≤◌, ℕ, List, length, drop, vec_capacity, vec_len, IsTrue, OnOk, IfOk, IfSome};
+ghost use Rattle.std.specs.Option.{option_map};
 ghost use Rattle.sqlite_disk.specs.Disk.{Only};
 ghost use Rattle.oai_journal.specs.Blocks.{IsBlock};
-ghost use Rattle.oai_journal.specs.Frames.{entry_in};
-ghost use Rattle.oai_journal.specs.Records.{as_entry};
-ghost use Rattle.oai_journal.specs.Recoveries.{Checks, FindsFrame, IsGateAt, IsLenAt};
+ghost use Rattle.oai_journal.specs.Frames.{IsFrameHead};
+ghost use Rattle.oai_journal.specs.Heads.{RecordHeadFields};
+ghost use Rattle.oai_journal.specs.Recoveries.{Checks, FindsFrame, IsGateAt, IsHeadOf, IsLenAt};
+ghost use Rattle.oai_journal.specs.declared.heads.TheConstants.{MAX_HEAD};
 
 use crate::blocks::BlockReader;
-use crate::frames::{FRAME_ROOM, FRONT_ROOM, frame_digest, frame_len, record_in};
+use crate::frames::{FRAME_ROOM, FRONT_ROOM, FrameHead, body_in, frame_digest, frame_head};
 use crate::journals::JournalFault;
-use crate::records::LogRecord;
 use sqlite_disk::Disk;
 
 /// Where a frame is looked for.
@@ -49,7 +50,7 @@ pub(crate) fn read_gate<D: Disk + Drop>(
 
 /// Reads the frame at that place; returns its digest, or None if there is none. Its bytes are then in `frame`. `out`
 /// needs capacity for what precedes a record's bytes. Of a frame that is cut short, whose head is malformed or whose
-/// length is too great, only the head is read.
+/// length is too great, only the head is read. The head is parsed once.
 pub(crate) fn read_frame<D: Disk + Drop>(
     reader: &mut BlockReader<D>,
     len: usize,
@@ -69,28 +70,34 @@ pub(crate) fn read_frame<D: Disk + Drop>(
     ensures crash { (c : List ℕ) → D.Disk.may_leave reader.new.disk c → D.Disk.may_leave reader.old.disk c }
     ensures clean { IsTrue (D.Disk.is_clean reader.new.disk) → IsTrue (D.Disk.is_clean reader.old.disk) }
 {
-    match read_len(reader, len, place.at, frame, out)? {
+    match read_head(reader, len, place.at, frame, out)? {
         None => Ok(None),
-        Some(size) => {
-            reader.read(len, place.at, size, frame)?;
-            Ok(check_frame(place.first, place.before, frame, out))
+        Some(head) => {
+            reader.read(len, place.at, head.len, frame)?;
+            Ok(check_frame(place.first, place.before, head, frame, out))
         }
     }
 }
 
-/// The length of the frame that begins at that position, or None if none does. The frame is within the file.
-fn read_len<D: Disk + Drop>(
+/// The head that begins at that position, or None if no frame begins there. Its text is then in `out`, and the frame is
+/// within the file.
+fn read_head<D: Disk + Drop>(
     reader: &mut BlockReader<D>,
     len: usize,
     at: usize,
     frame: &mut Vec<u8>,
     out: &mut Vec<u8>,
-) -> Result<Option<usize>, JournalFault>
+) -> Result<Option<FrameHead>, JournalFault>
     requires room { FRONT_ROOM ≤ vec_capacity out.old }
     ensures found { IfOk result (λ found. IsTrue (D.Disk.is_clean reader.new.disk) → IsBlock D.Disk.seen reader.old
         → len ≡ length (D.Disk.seen reader.old.disk)
-        → IsLenAt (drop at (D.Disk.seen reader.old.disk)) found) }
-    ensures within { IfOk result (λ found. IfSome found (λ size. (0 < size) × (at + size ≤ len))) }
+        → IsLenAt (drop at (D.Disk.seen reader.old.disk)) (option_map (λ head. head.len) found)) }
+    ensures head { IfOk result (λ found. IfSome found (λ head. (h : RecordHeadFields)
+        × IsFrameHead h head.kind head.size out.new.items
+        × (IsTrue (D.Disk.is_clean reader.new.disk) → IsBlock D.Disk.seen reader.old
+        → len ≡ length (D.Disk.seen reader.old.disk) → IsHeadOf h (drop at (D.Disk.seen reader.old.disk))))) }
+    ensures within { IfOk result (λ found. IfSome found (λ head. (0 < head.len) × (at + head.len ≤ len))) }
+    ensures text { IfOk result (λ found. IfSome found (λ head. vec_len out.new ≤ MAX_HEAD)) }
     ensures room { vec_capacity out.old ≤ vec_capacity out.new }
     ensures block { OnOk result (IsTrue (D.Disk.is_clean reader.new.disk) → IsBlock D.Disk.seen reader.old
         → IsBlock D.Disk.seen reader.new) }
@@ -102,46 +109,34 @@ fn read_len<D: Disk + Drop>(
         return Ok(None);
     }
     reader.read(len, at, FRAME_ROOM.min(len - at), frame)?;
-    match frame_len(frame, out) {
-        Some(size) if size <= len - at => Ok(Some(size)),
+    match frame_head(frame, out) {
+        Some(head) if head.len <= len - at => Ok(Some(head)),
         _ => Ok(None),
     }
 }
 
-/// Whether the bytes are the frame of a record after the digest `before`, of the first one of a journal or of another;
-/// its digest.
-fn check_frame(first: bool, before: u64, bytes: &[u8], out: &mut Vec<u8>) -> Option<u64>
-    requires room { FRONT_ROOM ≤ vec_capacity out.old }
-    ensures checked { Checks first before bytes.now result }
-    ensures room { vec_capacity out.old ≤ vec_capacity out.new }
-{
-    match record_in(bytes) {
-        Some(entry) => check_record(first, before, &entry, bytes, out),
-        None => None,
-    }
-}
-
-/// Whether the bytes from which that record was read are its frame.
-fn check_record(
+/// Whether the bytes are the frame of a record after the digest `before`, of the first one of a journal or of another,
+/// with that head, whose text is in `out`; its digest.
+fn check_frame(
     first: bool,
     before: u64,
-    entry: &LogRecord<'_>,
+    head: FrameHead,
     bytes: &[u8],
     out: &mut Vec<u8>,
 ) -> Option<u64>
-    requires read { entry_in bytes.now ≡ Some (as_entry entry.now) }
+    requires text { vec_len out.old ≤ MAX_HEAD }
     requires room { FRONT_ROOM ≤ vec_capacity out.old }
-    ensures checked { Checks first before bytes.now result }
+    ensures checked { (h : RecordHeadFields) → IsFrameHead h head.kind head.size out.old.items → IsHeadOf h bytes.now
+        → Checks first before bytes.now result }
     ensures room { vec_capacity out.old ≤ vec_capacity out.new }
 {
-    let _moment = entry.moment;
-    if !entry.is_fit() {
+    if head.kind.is_first() != first {
         return None;
     }
-    if entry.kind.is_first() != first {
-        return None;
+    match body_in(head.size, bytes) {
+        Some(body) => frame_digest(before, body, bytes, out),
+        None => None,
     }
-    frame_digest(before, entry, bytes, out)
 }
 
 /// Syncs the file; returns its length in bytes.
