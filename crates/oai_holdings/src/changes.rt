@@ -97,7 +97,10 @@ pub fn told_stamp(index: &ItemIndex, stamp: i64, change: &Change) -> i64
     ensures in_range { IsStamp result }
 {
     match change {
-        Change::Put { identifier, .. } => index.stamp_or(identifier.as_str(), stamp),
+        Change::Put { identifier, .. } => match index.stamp_of(identifier.as_str()) {
+            Some(own) => own,
+            None => stamp,
+        },
         Change::Deposit { .. } => stamp,
         Change::Delete { .. } => stamp,
         Change::Purge { .. } => stamp,

@@ -1,7 +1,7 @@
 //! The index of the items of a repository, and their version in a store, in which they are found by their datestamps.
 ghost use Rattle.std.specs.Prelude.{◌≡◌, ◌≤◌, ◌+◌, ℕ, List, [], if◌then◌else◌, None, Some, true, length, IfOk, IfSome, IsSome, IsTrue, OnErr, OnOk};
 ghost use Rattle.std.specs.BTreeMap.{get_by_text};
-ghost use Rattle.std.specs.Option.{option_copied, unwrap_or};
+ghost use Rattle.std.specs.Option.{option_copied};
 ghost use Rattle.std.specs.Str.{bytes_eq};
 ghost use Rattle.oai_item.specs.Encoding.{encoded};
 ghost use Rattle.oai_item.specs.Items.{item_named, without};
@@ -72,23 +72,11 @@ impl ItemIndex {
     }
 
     /// The datestamp of the item with that identifier, in seconds from 1970 on, if there is one.
-    fn stamp_of(&self, identifier: &str) -> Option<i64>
-        ensures { result ≡ stamp_in identifier.now self.now.entries }
+    pub(crate) fn stamp_of(&self, identifier: &str) -> Option<i64>
+        ensures stamp { result ≡ stamp_in identifier.now self.now.entries }
+        ensures in_range { IfSome result IsStamp }
     {
         self.stamps.get(identifier).copied()
-    }
-
-    /// The datestamp of the item with that identifier, if there is one, and otherwise `other`.
-    pub(crate) fn stamp_or(&self, identifier: &str, other: i64) -> i64
-        requires { IsStamp other }
-        ensures stamp { result ≡ unwrap_or (stamp_in identifier.now self.now.entries) other }
-        ensures in_range { IsStamp result }
-    {
-        let _ = &self.version;
-        match self.stamp_of(identifier) {
-            Some(stamp) => stamp,
-            None => other,
-        }
     }
 
     /// The item with that identifier, if there is one. Any fault but `TooManyPages` may come if it exists, and
@@ -106,7 +94,31 @@ impl ItemIndex {
             ≡ identifier.now)) }
         ensures reads { OnlyReads V.Versions result store.old store.new }
     {
-        match self.stamp_of(identifier) {
+        let known = self.stamp_of(identifier);
+        self.find_known(store, identifier, known)
+    }
+
+    /// The item with that identifier, if there is one, as `find` does; `known` is the datestamp of its entry.
+    pub(crate) fn find_known<V: Versions>(
+        &self,
+        store: &mut V,
+        identifier: &str,
+        known: Option<i64>,
+    ) -> Result<Option<Item>, Fault>
+        requires stands { StandsOn V.Versions self.now store.old }
+        requires known { known ≡ stamp_in identifier.now self.now.entries }
+        ensures found { IfOk result (λ item. IsTrue (V.honest store.old) → item
+            ≡ item_named identifier.now (stored_items self.now (V.lists store.old))) }
+        ensures known { OnErr result (IsTrue (V.honest store.old)
+            → IsSome (item_named identifier.now (stored_items self.now (V.lists store.old)))) }
+        ensures there { IfOk result (λ item. IsSome item
+            → IsSome (stamp_in identifier.now self.now.entries)) }
+        ensures entered { OnErr result (IsSome (stamp_in identifier.now self.now.entries)) }
+        ensures named { IfOk result (λ item. IfSome item (λ item. item.identifier
+            ≡ identifier.now)) }
+        ensures reads { OnlyReads V.Versions result store.old store.new }
+    {
+        match known {
             Some(stamp) => self.find_at(store, stamp, identifier),
             None => Ok(None),
         }
@@ -154,7 +166,31 @@ impl ItemIndex {
         ensures moves { Moves V.Versions result self.old store.old self.new store.new }
         ensures store { Spends V.room V.failures V.honest 1 result store.old store.new }
     {
-        match self.stamp_of(item.identifier().as_str()) {
+        let known = self.stamp_of(item.identifier().as_str());
+        self.put_known(alloc, store, item, known)
+    }
+
+    /// Adds the item as `put` does; `known` is the datestamp of the entry of its identifier, if there is one.
+    pub(crate) fn put_known<V: Versions>(
+        &mut self,
+        alloc: Global,
+        store: &mut V,
+        item: &Item,
+        known: Option<i64>,
+    ) -> Result<(), Fault>
+        requires stands { StandsOn V.Versions self.old store.old }
+        requires fits { length (encoded item.now) ≤ MAX_ITEM_BYTES }
+        requires known { known ≡ stamp_in item.now.identifier self.old.entries }
+        ensures made { OnOk result
+            (IsMadeOn V.Versions (with_new item.now) self.old store.old self.new store.new) }
+        ensures stamped { OnOk result (SetsStamp item.now.identifier (Some item.now.stamp)
+            self.old.entries self.new.entries) }
+        ensures many { OnOk result (length self.new.entries
+            ≡ count_with (stamp_in item.now.identifier self.old.entries) (length self.old.entries)) }
+        ensures moves { Moves V.Versions result self.old store.old self.new store.new }
+        ensures store { Spends V.room V.failures V.honest 1 result store.old store.new }
+    {
+        match known {
             None => self.insert(alloc, store, item),
             Some(stamp) if stamp == item.stamp() => self.overwrite(store, item),
             Some(stamp) => self.move_to_new_stamp(store, stamp, item),

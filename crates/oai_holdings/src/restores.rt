@@ -1,5 +1,5 @@
 //! Restores a part of what was saved: a set or an item is added.
-ghost use Rattle.std.specs.Prelude.{◌≡◌, ◌≤◌, ◌==◌, ◌++◌, ◌∷◌, [], if◌then◌else◌, not, false, true, Some, Ok, Err, length, is_some, IfErr, IfOk, IsTrue, OnErr, OnOk};
+ghost use Rattle.std.specs.Prelude.{◌≡◌, ◌≤◌, ◌&&◌, ◌==◌, ◌++◌, ◌∷◌, [], if◌then◌else◌, not, false, true, Some, Ok, Err, length, is_some, IfErr, IfOk, IsTrue, OnErr, OnOk};
 ghost use Rattle.std.specs.List.{before_first, list_all, list_any};
 ghost use Rattle.std.specs.Option.{option_copied};
 ghost use Rattle.oai_item.specs.Encoding.{encoded};
@@ -105,14 +105,8 @@ fn is_well_kept(
     ensures short { OnErr result (has_element item.now ≡ true) }
     ensures stamped { IsStamp item.now.stamp }
 {
-    let known = have_known_fields(alloc, config.formats(), item.formats())?;
-    Ok(
-        have_formats(config.formats(), item.formats())
-            && item.has_record("oai_dc")
-            && known
-            && have_sets(sets, item.sets())
-            && is_storable(item),
-    )
+    let known = are_in_formats(alloc, config.formats(), item.formats())?;
+    Ok(known && item.has_record("oai_dc") && have_sets(sets, item.sets()) && is_storable(item))
 }
 
 /// Whether the item can be stored.
@@ -123,25 +117,15 @@ fn is_storable(item: &Item) -> bool
     item.encoded_len().is_ok()
 }
 
-/// Whether the repository has the format of each record.
-fn have_formats(formats: &Formats, mut records: ItemRecords<'_>) -> bool
-    ensures { result ≡ list_all (has_format formats.now) records.entry }
-{
-    while let Some(made) = records.next() {
-        if formats.find_named(made.prefix).is_none() {
-            return false;
-        }
-    }
-    true
-}
-
-/// Whether each record may be kept in its format. The error is out of memory, as elements are read.
-fn have_known_fields(
+/// Whether each record is in a format of the repository, and may be kept in it. The error is out of memory, as elements
+/// are read.
+fn are_in_formats(
     alloc: Global,
     formats: &Formats,
     mut records: ItemRecords<'_>,
 ) -> Result<bool, AllocError>
-    ensures known { IfOk result (λ known. known ≡ list_all (has_known_fields formats.now) records.entry) }
+    ensures known { IfOk result (λ known. known ≡ (list_all (has_format formats.now) records.entry
+        && list_all (has_known_fields formats.now) records.entry)) }
     ensures short { OnErr result (list_any keeps_element records.entry ≡ true) }
 {
     while let Some(made) = records.next() {
@@ -152,14 +136,15 @@ fn have_known_fields(
     Ok(true)
 }
 
-/// Whether the fields may be kept in the format, if there is one. The error is out of memory, as elements are read.
+/// Whether there is a format, and the fields may be kept in it. The error is out of memory, as elements are read.
 fn are_known(alloc: Global, format: Option<&Format>, fields: Fields<'_>) -> Result<bool, AllocError>
-    ensures known { IfOk result (λ known. known ≡ are_fields_of (option_copied format.entry) fields.entry) }
+    ensures known { IfOk result (λ known. known ≡ (is_some (option_copied format.entry)
+        && are_fields_of (option_copied format.entry) fields.entry)) }
     ensures short { OnErr result (keep_elements fields.entry ≡ true) }
 {
     match format {
         Some(format) => are_fields_of(alloc, format, fields),
-        None => Ok(true),
+        None => Ok(false),
     }
 }
 

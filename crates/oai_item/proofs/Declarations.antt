@@ -1,12 +1,14 @@
 -- Declaring keeps what is true of the formats of a repository.
 use Rattle.std.proofs.Common.{◌≡◌, ◌<◌, ◌∙◌, ap, sym, subst, ℕ, Bool, true, false, cond, ◌||◌, List, [], ◌∷◌, ◌++◌, length, length-append, refl, Option, Some, None, Result, Ok, Err, map, arith, is_some, not, if◌then◌else◌, nat_lt, slice_get, drop}
 use Rattle.std.specs.List.{list_all, list_any}
+use Rattle.std.specs.Prelude.{OnOk}
 use Rattle.std.specs.Str.{bytes_eq}
 use Rattle.std.proofs.lemmas.Bool.{and_from, and_parts, ltb-true, not_from_false, or_from}
 use Rattle.std.proofs.lemmas.Cmp.{nat_list_eq_equiv}
 use Rattle.std.proofs.lemmas.List.{map-append}
 use Rattle.std.proofs.lemmas.List.Folds.{list_all-append}
-use Rattle.oai_item.specs.Formats.{AreRepositoryFormats, dublin_core, format_named}
+use Rattle.oai_names.specs.Names.{may_be_prefix}
+use Rattle.oai_item.specs.Formats.{AreFormats, AreRepositoryFormats, are_formats_prefixed, dublin_core, format_named}
 use Rattle.oai_item.specs.Rules.{are_names, are_uris, has_few_fields, has_repeat, is_allowed}
 use Rattle.oai_item.specs.Declaring.{HasGoodTexts, IsDeclaring, declare_fault, has_room}
 use Rattle.oai_item.specs.declared.formats.Format.{Format}
@@ -77,8 +79,14 @@ AreRepositoryFormats-push old format valid none =
       few = let below : length old < 64 = ltb-true (length old) 64 (and_parts (nat_lt (length old) 64) (has_few_fields format) fits.4).0 in simp length-append (omega arith);
     }
 
+prefixed-push : (old : List Format) (format : Format) → are_formats_prefixed old ≡ true → may_be_prefix format.prefix ≡ true → are_formats_prefixed (old ++ format ∷ []) ≡ true
+unfolding are_formats_prefixed
+prefixed-push old format valid new =
+    let test : Format → Bool = λ f. may_be_prefix f.prefix in
+    list_all-append test old (format ∷ []) ∙ and_from _ _ valid (and_from _ _ new refl)
+
 -- declaring keeps what is true of the formats
-pub AreRepositoryFormats-declared : (old : List Format) (format : Format) (result : Result (Unit {0}) FormatFault) (new : List Format) → AreRepositoryFormats old → IsDeclaring old format result new → AreRepositoryFormats new
+AreRepositoryFormats-declared : (old : List Format) (format : Format) (result : Result (Unit {0}) FormatFault) (new : List Format) → AreRepositoryFormats old → IsDeclaring old format result new → AreRepositoryFormats new
 AreRepositoryFormats-declared old format (Ok _) new valid declaring = subst AreRepositoryFormats (sym declaring.1) (AreRepositoryFormats-push old format valid declaring.0)
 AreRepositoryFormats-declared old format (Err Duplicate) new valid declaring = subst AreRepositoryFormats (sym declaring.1) valid
 AreRepositoryFormats-declared old format (Err BadName) new valid declaring = subst AreRepositoryFormats (sym declaring.1) valid
@@ -86,3 +94,19 @@ AreRepositoryFormats-declared old format (Err BadUri) new valid declaring = subs
 AreRepositoryFormats-declared old format (Err FieldTwice) new valid declaring = subst AreRepositoryFormats (sym declaring.1) valid
 AreRepositoryFormats-declared old format (Err TooMany) new valid declaring = subst AreRepositoryFormats (sym declaring.1) valid
 AreRepositoryFormats-declared old format (Err NoMemory) new valid declaring = subst AreRepositoryFormats (sym declaring.1) valid
+
+prefixed-declared : (old : List Format) (format : Format) (result : Result (Unit {0}) FormatFault) (new : List Format) → are_formats_prefixed old ≡ true → IsDeclaring old format result new → OnOk result (may_be_prefix format.prefix ≡ true) → are_formats_prefixed new ≡ true
+prefixed-declared old format (Ok _) new valid declaring prefix = ap are_formats_prefixed declaring.1 ∙ prefixed-push old format valid prefix
+prefixed-declared old format (Err Duplicate) new valid declaring prefix = ap are_formats_prefixed declaring.1 ∙ valid
+prefixed-declared old format (Err BadName) new valid declaring prefix = ap are_formats_prefixed declaring.1 ∙ valid
+prefixed-declared old format (Err BadUri) new valid declaring prefix = ap are_formats_prefixed declaring.1 ∙ valid
+prefixed-declared old format (Err FieldTwice) new valid declaring prefix = ap are_formats_prefixed declaring.1 ∙ valid
+prefixed-declared old format (Err TooMany) new valid declaring prefix = ap are_formats_prefixed declaring.1 ∙ valid
+prefixed-declared old format (Err NoMemory) new valid declaring prefix = ap are_formats_prefixed declaring.1 ∙ valid
+
+-- .. and of their prefixes
+pub AreFormats-declared : (old : List Format) (format : Format) (result : Result (Unit {0}) FormatFault) (new : List Format) → AreFormats old → IsDeclaring old format result new → OnOk result (may_be_prefix format.prefix ≡ true) → AreFormats new
+AreFormats-declared old format result new valid declaring prefix = record {
+  repository = AreRepositoryFormats-declared old format result new valid.repository declaring;
+  prefixed = prefixed-declared old format result new valid.prefixed declaring prefix;
+}

@@ -1,7 +1,8 @@
 -- Metadata formats. OAI-PMH 2.0, section 3.4.
-use Rattle.std.specs.Prelude.{◌≡◌, ◌≤◌, ℕ, true, false, List, [], ◌∷◌, length, map, drop, slice_get, codes, Option, Some}
+use Rattle.std.specs.Prelude.{◌≡◌, ◌≤◌, ℕ, Bool, true, false, List, [], ◌∷◌, length, map, drop, slice_get, codes, Option, Some}
 use Rattle.std.specs.List.{find, list_all}
 use Rattle.std.specs.Str.{bytes_eq}
+use Rattle.oai_names.specs.Names.{may_be_prefix}
 use Rattle.oai_item.specs.Rules.{has_repeat, is_allowed}
 use Rattle.oai_item.specs.declared.formats.Format.{Format}
 
@@ -30,3 +31,12 @@ pub record AreRepositoryFormats (formats : List Format) : Type 0 where
   pub declared : list_all is_allowed (drop 1 formats) ≡ true
   pub apart : has_repeat (map (λ format. format.prefix) formats) ≡ false
   pub few : length formats ≤ 64
+
+-- the prefix of each is valid, as its type says
+unfoldable pub are_formats_prefixed : List Format → Bool
+are_formats_prefixed formats = list_all (λ format. may_be_prefix format.prefix) formats
+
+-- both
+pub record AreFormats (formats : List Format) : Type 0 where
+  pub repository : AreRepositoryFormats formats
+  pub prefixed : are_formats_prefixed formats ≡ true

@@ -43,6 +43,7 @@ impl Item {
 }
 
 /// The records under the prefixes of their formats, in one buffer unless they have too many bytes.
+#[tactic(auto, using(crate::proofs::FormatLemmas::prefixed_in))]
 fn held_records(
     alloc: Global,
     formats: &Formats,
@@ -52,21 +53,10 @@ fn held_records(
     ensures held { IfOk result (λ held. held ≡ records.now) }
     ensures prefixed { are_prefixed records.now ≡ true }
 {
-    see_prefixes(formats, records);
+    formats.prefix_law();
     match HeldRecords::deposited(alloc, records)? {
         Some(held) => Ok(held),
         None => Ok(HeldRecords::typed(typed_records(alloc, formats, records)?)),
-    }
-}
-
-/// Reads the prefix of each record's format, so that the invariants of its type, grammar and length, are known of the
-/// record's. It changes nothing.
-fn see_prefixes(formats: &Formats, records: &[(Text, Sequence<Field>)])
-    requires { list_all (has_format formats.now) records.now ≡ true }
-    ensures { are_prefixed records.now ≡ true }
-{
-    for deposited in records {
-        prefix_of(formats, deposited).as_str();
     }
 }
 

@@ -1,8 +1,9 @@
 mod checks;
 
-ghost use Rattle.std.specs.Prelude.{◌≡◌, [], ◌∷◌, length, map, IfOk, IfSome, slice_get};
+ghost use Rattle.std.specs.Prelude.{◌≡◌, [], ◌∷◌, true, length, map, IfOk, IfSome, OnOk, slice_get};
 ghost use Rattle.std.specs.Option.{option_copied};
-ghost use Rattle.oai_item.specs.Formats.{AreRepositoryFormats, dublin_core, format_named};
+ghost use Rattle.oai_names.specs.Names.{may_be_prefix};
+ghost use Rattle.oai_item.specs.Formats.{AreRepositoryFormats, are_formats_prefixed, dublin_core, format_named};
 ghost use Rattle.oai_item.specs.Declaring.{IsDeclaring};
 
 use checks::check;
@@ -87,15 +88,16 @@ impl Model for Formats {
 
     ghost Value = { List Format };
 
-    ghost use Rattle.oai_item.specs.Formats.{AreRepositoryFormats};
+    ghost use Rattle.oai_item.specs.Formats.{AreFormats};
 
     ghost view = { λ f. f.formats.items };
 
-    ghost invariant = { λ f. AreRepositoryFormats f.formats.items };
+    ghost invariant = { λ f. AreFormats f.formats.items };
 }
 
 impl Formats {
     /// The formats of a repository that declares none: oai_dc alone. The error is out of memory.
+    #[tactic(auto, using(crate::proofs::FormatLemmas::prefixed_dc))]
     pub fn dc(alloc: Global) -> Result<Formats, AllocError>
         ensures { IfOk result (λ formats. formats ≡ dublin_core ∷ []) }
     {
@@ -150,12 +152,20 @@ impl Formats {
     {
         self.formats.len()
     }
+
+    /// The law of the prefixes: the prefix of each format is valid. It reads no format.
+    pub(crate) fn prefix_law(&self)
+        ensures { are_formats_prefixed self.now ≡ true }
+    {
+        let _ = self.formats.as_slice();
+    }
 }
 
 /// Adds the format at the end, if it may be declared beside the others.
 #[tactic(auto, using(crate::proofs::Declarations::good_texts))]
 fn add(formats: &mut Vec<Format>, format: Format) -> Result<(), FormatFault>
-    ensures { IsDeclaring formats.old.items format result formats.new.items }
+    ensures declared { IsDeclaring formats.old.items format result formats.new.items }
+    ensures prefix { OnOk result (may_be_prefix format.prefix ≡ true) }
 {
     check(*formats.allocator(), formats.as_slice(), &format)?;
     match formats.push(format) {

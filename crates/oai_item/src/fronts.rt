@@ -97,6 +97,15 @@ pub(crate) fn first_sets(bytes: &[u8]) -> (SpelledSets<'_>, &[u8])
     (SpelledSets::new(count, start), rest)
 }
 
+/// The list of sets at the start of the bytes. What is behind it is not looked for, so the sets are not passed over.
+pub(crate) fn sets_alone(bytes: &[u8]) -> SpelledSets<'_>
+    requires { Stands (encoded_list encoded_text) (λ sets. are_sets sets ≡ true) bytes.now }
+    ensures { result ≡ (first_list first_text bytes.now).0 }
+{
+    let (count, start) = read_count(bytes).unwrap();
+    SpelledSets::new(count, start)
+}
+
 /// The record at the start of the bytes, and the remaining bytes.
 pub(crate) fn first_record(bytes: &[u8]) -> (SpelledRecord<'_>, &[u8])
     requires { Stands encoded_record (λ format. is_record format ≡ true) bytes.now }

@@ -16,7 +16,7 @@ use crate::covering::none_covers;
 use crate::decodings::{
     DecodeFault, read_identifier, read_live, read_records, read_sets, read_stamp,
 };
-use crate::fronts::{first_records, first_sets, first_text};
+use crate::fronts::{first_records, first_sets, first_text, sets_alone};
 use crate::keys::ItemKey;
 use crate::sizes::MAX_ITEM_BYTES;
 use crate::walks::{SpelledRecords, SpelledSets};
@@ -113,8 +113,7 @@ impl<'a> Spelling<'a> {
     pub fn sets(&self) -> SpelledSets<'a>
         ensures { result ≡ self.now.sets }
     {
-        let (sets, _) = first_sets(self.rest);
-        sets
+        sets_alone(self.rest)
     }
 
     /// Iterates over the record in each format, in the order of the prefixes.

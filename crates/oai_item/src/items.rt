@@ -203,10 +203,20 @@ impl Item {
         ensures { IsEncoding self.now out.old result out.new }
     {
         self.encoded_len()?;
+        Ok(self.encode_measured(out))
+    }
+
+    /// Writes the encoded item as `encode_into` does, where its length is known to be at most 1,048,576. Returns its
+    /// length. Allocates nothing.
+    pub fn encode_measured(&self, out: &mut [u8]) -> usize
+        requires few { length (encoded self.now) ≤ MAX_ITEM_BYTES }
+        requires room { length (encoded self.now) ≤ length out.old }
+        ensures { IsEncoding self.now out.old (Ok result) out.new }
+    {
         let identifier = self.identifier.as_str();
         let sets = self.sets.as_slice();
         let records = &self.formats;
-        Ok(put_parts(out, self.live, self.stamp, identifier, sets, records))
+        put_parts(out, self.live, self.stamp, identifier, sets, records)
     }
 
     /// The item that the bytes, all of them, encode, as `encode_into` writes it; each item has exactly one encoding.

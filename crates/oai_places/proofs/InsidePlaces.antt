@@ -1,9 +1,9 @@
 -- Places of which all items are wanted: they are counted and passed over by their number.
 use Rattle.std.proofs.Common.{◌≡◌, ◌∙◌, ◌==◌, false, ◌∷◌, ◌-◌, ◌<◌, ◌≤◌, ℕ, ℤ, Bool, List, [], Option, None, Some, ◌⊎◌, ⊎_elim, length, get_or, refl, sym, ap, subst, arith, true, inl, inr}
 use Rattle.std.specs.Prelude.{filter, option_map}
-use Rattle.std.proofs.lemmas.Bool.{cases_lt}
+use Rattle.std.proofs.lemmas.Bool.{and_from, cases_Bool, cases_lt, cond-false, cond-true}
 use Rattle.std.proofs.lemmas.List.{get_or_read}
-use Rattle.std.specs.List.{AllByRecursion}
+use Rattle.std.specs.List.{AllByRecursion, list_all}
 use Rattle.std.specs.Ordering.{is_gt}
 use Rattle.oai_item.specs.Item.{IsStamp, ItemState}
 use Rattle.oai_item.specs.Items.{item_at, items_after}
@@ -93,6 +93,24 @@ known_past pages places asked stamp identifier at n most part skip h within past
     let own : List ItemState = items_at pages (get_or places at d) in
     let is = known_counted pages places asked stamp identifier at n h within known d in
     subst (λ (m : ℕ). IsPartTaken wanted most part part skip (skip - m) own) (sym is) (taken_past wanted most part skip own (omega (arith, is, past)))
+
+-- if as many are wanted as there are, all are
+all_pass : (p : ItemState → Bool) (items : List ItemState) → length items ≤ length (filter p items) → list_all p items ≡ true
+all_pass p [] h = refl
+all_pass p (x ∷ items) h =
+    elim (cases_Bool (p x)) [
+      | inl passes ↦
+          and_from (p x) (list_all p items) passes (all_pass p items (omega (arith, h, ap length (cond-true (p x) (x ∷ filter p items) (filter p items) passes))))
+      | inr fails ↦ absurd (omega (arith, h, ap length (cond-false (p x) (x ∷ filter p items) (filter p items) fails), most_items p items))
+    ]
+
+pub all_known : (pages : Pages) (places : List PlaceState) (asked : Filter) (stamp : ℤ) (identifier : List ℕ) (at : ℕ) (d : PlaceState) → IsDirectory pages places → at < length places
+    → IsKnown places at asked stamp identifier (get_or places at d).len → list_all (is_wanted asked stamp identifier) (items_at pages (get_or places at d)) ≡ true
+all_known pages places asked stamp identifier at d h within known =
+    let q : PlaceState = get_or places at d in
+    let sound = (placed-cut pages places at d within h.placed).0 in
+    all_pass (is_wanted asked stamp identifier) (items_at pages q)
+    (omega (arith, known_counted pages places asked stamp identifier at q.len h within known d, sound.counted))
 
 -- what the code finds
 pub known_from : (places : List PlaceState) (asked : Filter) (stamp : ℤ) (identifier : List ℕ) (at n : ℕ) (p : PlaceState) (set : Option (List ℕ)) → at < length places → p ≡ get_or places at p → known_in p set ≡ Some n

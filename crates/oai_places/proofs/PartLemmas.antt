@@ -1,7 +1,8 @@
 -- Parts of what is wanted, item by item and place by place.
 use Rattle.std.proofs.Common.{◌≡◌, ◌∙◌, ◌+◌, ◌-◌, ◌<◌, ◌≤◌, inl, inr, ℕ, suc, zero, Bool, true, false, cond, ◌&&◌, List, [], ◌∷◌, ◌++◌, length, take, drop, get_or, refl, sym, ap, subst, arith, append_assoc, append-nil, length-append}
 use Rattle.std.specs.Prelude.{filter}
-use Rattle.std.proofs.lemmas.Bool.{cases_Bool, cond-false, cond-true}
+use Rattle.std.specs.List.{list_all}
+use Rattle.std.proofs.lemmas.Bool.{and_parts, cases_Bool, cond-false, cond-true}
 use Rattle.std.proofs.lemmas.List.{take-append-drop, take_more}
 use Rattle.std.proofs.lemmas.List.Elements.{filter-append}
 use Rattle.oai_item.specs.Item.{ItemState}
@@ -164,3 +165,26 @@ one_not p most old mid new skip between left items i d within h fails new_is lef
     subst (λ (l : ℕ). IsPartTaken p most old new skip l (take (i + 1) items)) (sym left_is)
     (subst (λ (xs : List ItemState). IsPartTaken p most old xs skip between (take (i + 1) items)) (sym new_is)
     (taken_more p most old mid mid skip between between items i d within h (taken_not p most mid between (get_or items i d) fails)))
+
+-- ---- items that are all wanted
+
+passed_all : (p : ItemState → Bool) (items : List ItemState) (n : ℕ) → list_all p items ≡ true → n ≤ length items → length (filter p (take n items)) ≡ n
+passed_all p [] zero all within = refl
+passed_all p (x ∷ items) zero all within = refl
+passed_all p [] (suc n) all within = absurd (omega (arith, within))
+passed_all p (x ∷ items) (suc n) all within =
+    let parts = and_parts (p x) (list_all p items) all in
+    ap length (cond-true (p x) (x ∷ filter p (take n items)) (filter p (take n items)) parts.0) ∙ ap (λ m. suc m) (passed_all p items n parts.1 (omega (arith, within)))
+
+-- the first ones are skipped
+pub taken_first : (p : ItemState → Bool) (most : ℕ) (part : List ItemState) (skip : ℕ) (items : List ItemState) → list_all p items ≡ true → skip ≤ length items
+    → IsPartTaken p most part part skip 0 (take skip items)
+taken_first p most part skip items all within =
+    let is = passed_all p items skip all within in
+    let none : skip - length (filter p (take skip items)) ≡ 0 = omega (arith, is) in
+    subst (λ (m : ℕ). IsPartTaken p most part part skip m (take skip items)) none (taken_past p most part skip (take skip items) (omega (arith, is)))
+
+pub passes_at : (p : ItemState → Bool) (items : List ItemState) (i : ℕ) (d : ItemState) → list_all p items ≡ true → i < length items → p (get_or items i d) ≡ true
+passes_at p [] i d all within = absurd (omega (arith, within))
+passes_at p (x ∷ items) zero d all within = (and_parts (p x) (list_all p items) all).0
+passes_at p (x ∷ items) (suc i) d all within = passes_at p items i d (and_parts (p x) (list_all p items) all).1 (omega (arith, within))

@@ -17,6 +17,7 @@ use crate::entry_bytes::{
     are_zeros, common, copied, copied_ends, ends_of, entry_of, fill_with, first_number, has_each,
     joined, prefixes_of, push_moved, read_ends,
 };
+use crate::held_bytes::HeldBytes;
 use crate::sizes::{FRONT_BYTES, FULL_BYTES, MAX_ENTRY_BYTES, MAX_WHOLE_BYTES, NUMBER_BYTES};
 use oai_device::PAGE_BYTES;
 use oai_item::{DecodeFault, Item, ItemKey, Spelling};
@@ -26,12 +27,13 @@ use oai_sums::{PackedCounts, SetCounts, SetNames, Span};
 use std::alloc::{AllocError, Global};
 use std::cmp::Ordering;
 use std::marker::Model;
+use std::rc::Rc;
 
 /// Items as the entries of a leaf page: each encoded, after its length. Contracts see them as the list of the items.
-/// None of them is decoded until it is requested.
+/// None of them is decoded until it is requested; those of one page are read where the cache holds it.
 #[derive(Drop)]
 pub struct Entries {
-    bytes: Vec<u8>,
+    bytes: HeldBytes,
     ends: Vec<usize>,
 }
 
@@ -42,9 +44,9 @@ impl Model for Entries {
 
     ghost Value = { List ItemState };
 
-    ghost view = { λ e. items_with e.bytes.items e.ends.items };
+    ghost view = { λ e. items_with e.bytes e.ends.items };
 
-    ghost invariant = { λ e. AreEntries e.bytes.items e.ends.items };
+    ghost invariant = { λ e. AreEntries e.bytes e.ends.items };
 }
 
 /// Where entries are split, to be put on at most three pages.
@@ -62,7 +64,7 @@ impl Entries {
         ensures { result ≡ [] }
     {
         Entries {
-            bytes: Vec::new(alloc),
+            bytes: HeldBytes::own(Vec::new(alloc)),
             ends: Vec::new(alloc),
         }
     }
@@ -75,45 +77,46 @@ impl Entries {
     {
         let count = first_number(page);
         let (ends, size) = read_ends(alloc, &page[NUMBER_BYTES..], count)?;
-        Entries::ending(alloc, page, ends, size)
+        let (entries, _) = page[NUMBER_BYTES..].split_at(size);
+        let bytes = HeldBytes::own(copied(alloc, entries)?);
+        Entries::ending(page, bytes, ends, size)
     }
 
-    /// The entries of a page, each of which is known to encode an item, and is not validated. The errors: `Damaged` if
-    /// the bytes are not a page of items; `NoMemory`.
-    pub(crate) fn of_page(alloc: Global, page: &[u8]) -> Result<Entries, DecodeFault>
-        requires long { 4 ≤ length page.now }
-        requires tested { has_items page.now ≡ true }
-        ensures { IsPageReading page.now result }
+    /// The entries of a page, each of which is known to encode an item, and is not validated. They are not copied: the
+    /// page stays in memory with them. The errors: `Damaged` if the bytes are not a page of items; `NoMemory`.
+    pub(crate) fn of_page(alloc: Global, page: &Rc<Page>) -> Result<Entries, DecodeFault>
+        requires { has_items page.now.value ≡ true }
+        ensures { IsPageReading page.now.value result }
     {
-        let count = first_number(page);
-        let (ends, size) = ends_of(alloc, &page[NUMBER_BYTES..], count)?;
-        Entries::ending(alloc, page, ends, size)
+        let all = &page[..];
+        let count = first_number(all);
+        let (ends, size) = ends_of(alloc, &all[NUMBER_BYTES..], count)?;
+        let bytes = HeldBytes::on_page(page.clone()?, size);
+        Entries::ending(all, bytes, ends, size)
     }
 
-    /// The entries of a page, which have that many bytes, and each of which ends at one of the numbers. The errors:
-    /// `Damaged` if the bytes are not a page of items; `NoMemory`.
+    /// The entries of a page, which are these bytes, of that many, and each of which ends at one of the numbers.
+    /// `Damaged` if the bytes are not a page of items.
     fn ending(
-        alloc: Global,
         page: &[u8],
+        bytes: HeldBytes,
         ends: Vec<usize>,
         size: usize,
     ) -> Result<Entries, DecodeFault>
         requires long { 4 ≤ length page.now }
         requires entries { HasEntries (drop 4 page.now) ends.items (first_number page.now) size }
+        requires bytes { bytes ≡ take size (drop 4 page.now) }
         ensures { IsPageReading page.now result }
     {
         let count = first_number(page);
         if count == 0 {
             return Err(DecodeFault::Damaged);
         }
-        let (bytes, behind) = page[NUMBER_BYTES..].split_at(size);
+        let (_, behind) = page[NUMBER_BYTES..].split_at(size);
         if !are_zeros(behind) {
             return Err(DecodeFault::Damaged);
         }
-        let entries = Entries {
-            bytes: copied(alloc, bytes)?,
-            ends,
-        };
+        let entries = Entries { bytes, ends };
         if !entries.are_rising() {
             return Err(DecodeFault::Damaged);
         }
@@ -377,7 +380,7 @@ impl Entries {
     {
         let start = self.size();
         let bytes = joined(alloc, self.bytes.as_slice(), &[], others.bytes.as_slice())?;
-        let mut ends = copied_ends(alloc, &self.ends)?;
+        let mut ends = copied_ends(alloc, &self.ends, self.len().wrapping_add(others.len()))?;
         push_moved(&mut ends, &others.ends, 0, start)?;
         Ok(Entries { bytes, ends })
     }
@@ -438,7 +441,7 @@ impl Entries {
     {
         let start = self.start(from);
         let end = self.start(to);
-        &self.bytes[start..end]
+        &self.bytes.as_slice()[start..end]
     }
 
     /// The encoded item at that position.
@@ -448,7 +451,7 @@ impl Entries {
     {
         let start = self.start(at);
         let end = self.end(at);
-        let entry = &self.bytes[start..end];
+        let entry = &self.bytes.as_slice()[start..end];
         &entry[NUMBER_BYTES..]
     }
 
@@ -573,7 +576,7 @@ impl Entries {
         let back = self.entries(behind, len);
         let bytes = joined(alloc, self.entries(0, at), entry.as_slice(), back)?;
         let end = bytes.len() - back.len();
-        let mut ends = copied_ends(alloc, &self.ends[..at])?;
+        let mut ends = copied_ends(alloc, &self.ends[..at], len.wrapping_add(1))?;
         ends.push(end)?;
         push_moved(&mut ends, &self.ends[behind..], self.start(behind), end)?;
         Ok(Entries { bytes, ends })
@@ -589,7 +592,7 @@ impl Entries {
         let back = self.entries(at + 1, len);
         let bytes = joined(alloc, self.entries(0, at), &[], back)?;
         let start = bytes.len() - back.len();
-        let mut ends = copied_ends(alloc, &self.ends[..at])?;
+        let mut ends = copied_ends(alloc, &self.ends[..at], len)?;
         push_moved(&mut ends, &self.ends[at + 1..], self.end(at), start)?;
         Ok(Entries { bytes, ends })
     }

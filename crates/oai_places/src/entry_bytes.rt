@@ -9,6 +9,7 @@ ghost use Rattle.oai_pool.specs.Kinds.{leading_number, spells_item, spells_items
 ghost use Rattle.oai_places.specs.Entries.{HasEntries, HasEntry, IsEntryReading};
 ghost use Rattle.oai_places.specs.Pages.{AreStorable, entries_of, entry_of, filled, first_number};
 
+use crate::held_bytes::HeldBytes;
 use crate::sizes::NUMBER_BYTES;
 use oai_device::PAGE_BYTES;
 use oai_item::{DecodeFault, Item, Spelling, is_spelling};
@@ -135,7 +136,7 @@ pub(crate) fn ends_of(
     requires { spells_items count bytes.now ≡ true }
     ensures { IfOk result (λ read. HasEntries bytes.now read.0.items count read.1) }
 {
-    let mut ends = Vec::new(alloc);
+    let mut ends = Vec::with_capacity(alloc, count)?;
     let mut end = 0;
     for _ in 0..count {
         end += spelled_len(&bytes[end..]);
@@ -184,11 +185,15 @@ pub(crate) fn copied(alloc: Global, bytes: &[u8]) -> Result<Vec<u8>, AllocError>
     Ok(copy)
 }
 
-/// A copy of the numbers.
-pub(crate) fn copied_ends(alloc: Global, ends: &[usize]) -> Result<Vec<usize>, AllocError>
+/// A copy of the numbers, with room for that many in all.
+pub(crate) fn copied_ends(
+    alloc: Global,
+    ends: &[usize],
+    room: usize,
+) -> Result<Vec<usize>, AllocError>
     ensures { IfOk result (λ copy. copy.items ≡ ends.now) }
 {
-    let mut copy = Vec::with_capacity(alloc, ends.len())?;
+    let mut copy = Vec::with_capacity(alloc, room)?;
     copy.extend_from_slice(ends)?;
     Ok(copy)
 }
@@ -199,10 +204,27 @@ pub(crate) fn joined(
     front: &[u8],
     middle: &[u8],
     back: &[u8],
+) -> Result<HeldBytes, AllocError>
+    ensures { IfOk result (λ copy. copy ≡ front.now ++ (middle.now ++ back.now)) }
+{
+    Ok(HeldBytes::own(joined_bytes(alloc, front, middle, back)?))
+}
+
+/// A copy of the bytes, one part after the other.
+fn joined_bytes(
+    alloc: Global,
+    front: &[u8],
+    middle: &[u8],
+    back: &[u8],
 ) -> Result<Vec<u8>, AllocError>
     ensures { IfOk result (λ copy. copy.items ≡ front.now ++ (middle.now ++ back.now)) }
 {
-    let mut copy = copied(alloc, front)?;
+    let len = front
+        .len()
+        .wrapping_add(middle.len())
+        .wrapping_add(back.len());
+    let mut copy = Vec::with_capacity(alloc, len)?;
+    copy.extend_from_slice(front)?;
     copy.extend_from_slice(middle)?;
     copy.extend_from_slice(back)?;
     Ok(copy)
@@ -216,7 +238,7 @@ pub(crate) fn entry_of(alloc: Global, item: &Item) -> Result<Vec<u8>, AllocError
 {
     let spelling = spelling_of(alloc, item)?;
     let number = (spelling.len() as u32).to_be_bytes();
-    let entry = joined(alloc, &number, spelling.as_slice(), &[])?;
+    let entry = joined_bytes(alloc, &number, spelling.as_slice(), &[])?;
     Ok(entry)
 }
 
@@ -229,10 +251,8 @@ fn spelling_of(alloc: Global, item: &Item) -> Result<Vec<u8>, AllocError>
     match item.encoded_len() {
         Ok(len) => {
             let mut bytes = vec![in alloc; 0; len]?;
-            match item.encode_into(&mut bytes) {
-                Ok(_) => Ok(bytes),
-                Err(_) => unreachable!(),
-            }
+            item.encode_measured(&mut bytes);
+            Ok(bytes)
         }
         Err(_) => unreachable!(),
     }

@@ -8,6 +8,7 @@ mod entry_bytes;
 mod faults;
 mod finding;
 mod groups;
+mod held_bytes;
 mod known;
 mod leaves;
 mod names;

@@ -1,10 +1,11 @@
 //! Parts of the items of a directory that are wanted.
-ghost use Rattle.std.specs.Prelude.{◌≡◌, ◌+◌, ◌<◌, ◌≤◌, length, take, drop, filter, HoldsAt, IfOk, IsTrue};
+ghost use Rattle.std.specs.Prelude.{◌≡◌, ◌+◌, ◌<◌, ◌≤◌, length, take, drop, filter, true, HoldsAt, IfOk, IsTrue};
+ghost use Rattle.std.specs.List.{list_all};
 ghost use Rattle.oai_item.specs.Items.{items_after};
 ghost use Rattle.oai_item.specs.Selection.{selected};
 ghost use Rattle.oai_places.specs.Calls.{ReadsPages};
 ghost use Rattle.oai_places.specs.Directory.{StandsIn};
-ghost use Rattle.oai_places.specs.Parts.{IsPartTaken};
+ghost use Rattle.oai_places.specs.Parts.{IsKnown, IsPartTaken};
 ghost use Rattle.oai_places.specs.Places.{is_wanted, items_at, items_on};
 ghost use Rattle.oai_places.specs.Sums.{AreGroups};
 
@@ -13,7 +14,7 @@ use crate::known::{known_at, start_of};
 use crate::leaves::LeafList;
 use crate::picking::{pick_at, sparse_span};
 use crate::reading::read_place;
-use crate::wanted::{Portion, Wanted, is_wanted};
+use crate::wanted::{Portion, Wanted, is_item_wanted};
 use oai_catalogue::Filter;
 use oai_item::{Fault, Item, ItemKey};
 use oai_names::Sequence;
@@ -170,12 +171,37 @@ impl LeafList<'_> {
             if portion.skip >= count {
                 return Ok(portion.skip - count);
             }
+            if count == places[at].len() {
+                return self.take_whole(alloc, pages, at, portion, part);
+            }
         }
         let place = &places[at];
         if let Some(span) = sparse_span(place, portion.wanted) {
             return pick_at(alloc, pages, place, span, portion, part);
         }
         self.take_read(alloc, pages, at, portion, part)
+    }
+
+    /// As `take_at` does, of a leaf whose items are all known to be wanted, more than are to be skipped: none is tested.
+    fn take_whole<P: PagePool>(
+        self,
+        alloc: Global,
+        pages: &mut P,
+        at: usize,
+        portion: Portion<'_>,
+        part: &mut Vec<Item>,
+    ) -> Result<usize, Fault>
+        requires within { at < length self.places.now }
+        requires stands { StandsIn P.PagePool pages.old self.places.now }
+        requires known { HoldsAt (λ place. IsKnown self.places.now at portion.wanted.filter.now portion.wanted.key.stamp portion.wanted.key.identifier.now place.len) self.places.now at }
+        requires more { HoldsAt (λ place. portion.skip < place.len) self.places.now at }
+        ensures taken { IfOk result (λ left. IsTrue (P.honest pages.old)
+            → HoldsAt (λ place. IsPartTaken (is_wanted portion.entry.wanted.filter.now portion.entry.wanted.key.stamp portion.entry.wanted.key.identifier.now) portion.entry.most
+            part.old.items part.new.items portion.entry.skip left (items_at (P.pages pages.old) place)) self.entry.places.now at) }
+        ensures pages { ReadsPages P.PagePool result pages.old pages.new }
+    {
+        let entries = read_place(alloc, pages, self.places, at)?;
+        Ok(take_all(alloc, &entries, portion, part)?)
     }
 
     /// As `take_at` does, with all entries of the place read.
@@ -215,13 +241,35 @@ fn take_in(
         if part.len() >= portion.most {
             break;
         }
-        if is_wanted(entries, at, portion.wanted) {
+        let item = entries.spelled(at);
+        if is_item_wanted(&item, portion.wanted) {
             if left == 0 {
-                part.push(entries.item(alloc, at)?)?;
+                part.push(Item::spelled(alloc, &item)?)?;
             } else {
                 left -= 1;
             }
         }
     }
     Ok(left)
+}
+
+/// As `take_in` does, of entries that are all wanted, more than are to be skipped.
+fn take_all(
+    alloc: Global,
+    entries: &Entries,
+    portion: Portion<'_>,
+    part: &mut Vec<Item>,
+) -> Result<usize, AllocError>
+    requires { portion.skip < length entries.now }
+    ensures { IfOk result (λ left. list_all (is_wanted portion.entry.wanted.filter.now portion.entry.wanted.key.stamp portion.entry.wanted.key.identifier.now) entries.now ≡ true
+        → IsPartTaken (is_wanted portion.entry.wanted.filter.now portion.entry.wanted.key.stamp portion.entry.wanted.key.identifier.now) portion.entry.most
+        part.old.items part.new.items portion.entry.skip left entries.now) }
+{
+    'entries: for at in portion.skip..entries.len() {
+        if part.len() >= portion.most {
+            break;
+        }
+        part.push(entries.item(alloc, at)?)?;
+    }
+    Ok(0)
 }

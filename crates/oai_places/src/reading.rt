@@ -41,7 +41,7 @@ fn read_page<P: PagePool>(alloc: Global, pages: &mut P, no: PageNo) -> Result<En
     ensures pages { ReadsPages P.PagePool result pages.old pages.new }
 {
     match pages.read(no, PageKind::Items) {
-        Ok(page) => match Entries::of_page(alloc, &page[..]) {
+        Ok(page) => match Entries::of_page(alloc, &page) {
             Ok(entries) => {
                 if !entries.fit_one() {
                     return Err(Fault::Damaged);

@@ -1,5 +1,5 @@
 //! Which items are wanted.
-ghost use Rattle.std.specs.Prelude.{◌≡◌, ◌<◌, length, HoldsAt};
+ghost use Rattle.std.specs.Prelude.{◌≡◌, ◌<◌, length, true, HoldsAt};
 ghost use Rattle.std.specs.Ordering.{is_gt};
 ghost use Rattle.oai_item.specs.Item.{IsStamp, ItemState};
 ghost use Rattle.oai_item.specs.Order.{place_cmp};
@@ -77,14 +77,11 @@ fn is_behind(item: &Spelling<'_>, wanted: Wanted<'_>) -> bool
     item.order_to(wanted.key.stamp, wanted.key.identifier) == Ordering::Greater
 }
 
-/// Whether the item passes the filter.
+/// Whether the item, which is in the filter's set, if it has one, passes the filter.
 fn passes(item: &Spelling<'_>, filter: &Filter) -> bool
+    requires given { is_in_given filter.now.set item.now.sets ≡ true }
     ensures { result ≡ passes filter.now item.now }
 {
-    item.passes(
-        filter.prefix.as_str(),
-        filter.lower,
-        filter.upper,
-        &filter.set,
-    )
+    let any_set = None;
+    item.passes(filter.prefix.as_str(), filter.lower, filter.upper, &any_set)
 }

@@ -42,22 +42,27 @@ pub(crate) fn delete<V: Versions>(
     ensures moves { Moves V.Versions result index.old store.old index.new store.new }
     ensures store { Spends V.room V.failures V.honest 1 (fault_in result) store.old store.new }
 {
-    let Some(item) = index.find(store, identifier.as_str())? else {
+    let text = identifier.as_str();
+    let known = index.stamp_of(text);
+    let Some(item) = index.find_known(store, text, known)? else {
         return Err(Refusal::Refused(ChangeRefusal::NoSuchItem));
     };
-    delete_item(context, store, index, &item)
+    delete_item(context, store, index, &item, known)
 }
 
-/// Deletes the item, which is one of the repository's, or refuses it if it is already deleted.
+/// Deletes the item, which is one of the repository's, or refuses it if it is already deleted; `known` is the datestamp
+/// of its entry.
 fn delete_item<V: Versions>(
     context: &ChangeContext<'_>,
     store: &mut V,
     index: &mut ItemIndex,
     item: &Item,
+    known: Option<i64>,
 ) -> Result<(), Refusal>
     requires stamped { IsStamp context.now.stamp }
     requires stands { StandsOn V.Versions index.old store.old }
     requires held { HoldsItem V.Versions index.old item.now store.old }
+    requires known { known ≡ stamp_in item.now.identifier index.old.entries }
     ensures done { let items = stored_items index.old (V.lists store.old) in
         IsDoneOn V.Versions None (dead_refusal (Some item.now))
         (after_deletion context.now.config.now.deleted context.now.stamp item.now.identifier items)
@@ -71,19 +76,22 @@ fn delete_item<V: Versions>(
     if !item.is_live() {
         return Err(Refusal::Refused(ChangeRefusal::AlreadyDeleted));
     }
-    Ok(take_out(context, store, index, item)?)
+    Ok(take_out(context, store, index, item, known)?)
 }
 
-/// Removes the item if the policy is to keep no deleted records, and replaces it by its tombstone otherwise.
+/// Removes the item if the policy is to keep no deleted records, and replaces it by its tombstone otherwise; `known` is
+/// the datestamp of its entry.
 fn take_out<V: Versions>(
     context: &ChangeContext<'_>,
     store: &mut V,
     index: &mut ItemIndex,
     item: &Item,
+    known: Option<i64>,
 ) -> Result<(), Fault>
     requires stamped { IsStamp context.now.stamp }
     requires stands { StandsOn V.Versions index.old store.old }
     requires held { HoldsItem V.Versions index.old item.now store.old }
+    requires known { known ≡ stamp_in item.now.identifier index.old.entries }
     ensures made { OnOk result (IsMadeOn V.Versions
         (after_deletion context.now.config.now.deleted context.now.stamp item.now.identifier) index.old store.old index.new store.new) }
     ensures stamped { OnOk result (SetsStamp item.now.identifier (stamp_after_deletion context.now.config.now.deleted context.now.stamp)
@@ -94,21 +102,23 @@ fn take_out<V: Versions>(
 {
     match context.config.deleted() {
         DeletedRecord::No => index.remove(store, item),
-        DeletedRecord::Transient => replace_with_tombstone(context, store, index, item),
-        DeletedRecord::Persistent => replace_with_tombstone(context, store, index, item),
+        DeletedRecord::Transient => replace_with_tombstone(context, store, index, item, known),
+        DeletedRecord::Persistent => replace_with_tombstone(context, store, index, item, known),
     }
 }
 
-/// Replaces the item by its tombstone.
+/// Replaces the item by its tombstone; `known` is the datestamp of its entry.
 fn replace_with_tombstone<V: Versions>(
     context: &ChangeContext<'_>,
     store: &mut V,
     index: &mut ItemIndex,
     item: &Item,
+    known: Option<i64>,
 ) -> Result<(), Fault>
     requires stamped { IsStamp context.now.stamp }
     requires stands { StandsOn V.Versions index.old store.old }
     requires held { HoldsItem V.Versions index.old item.now store.old }
+    requires known { known ≡ stamp_in item.now.identifier index.old.entries }
     ensures made { OnOk result (IsMadeOn V.Versions
         (with_new (tombstone_of context.now.stamp item.now)) index.old store.old index.new store.new) }
     ensures stamped { OnOk result (SetsStamp item.now.identifier (Some context.now.stamp) index.old.entries
@@ -118,19 +128,21 @@ fn replace_with_tombstone<V: Versions>(
     ensures store { Spends V.room V.failures V.honest 1 result store.old store.new }
 {
     let left = item.tombstone(context.alloc, context.stamp)?;
-    put_left(context.alloc, store, index, &left)
+    put_left(context.alloc, store, index, &left, known)
 }
 
-/// Replaces an item by its tombstone. A fault leaves everything unchanged, and is `Damaged` if the tombstone is too
-/// large to be stored.
+/// Replaces an item by its tombstone; `known` is the datestamp of the entry of its identifier, if there is one. A fault
+/// leaves everything unchanged, and is `Damaged` if the tombstone is too large to be stored.
 fn put_left<V: Versions>(
     alloc: Global,
     store: &mut V,
     index: &mut ItemIndex,
     left: &Item,
+    known: Option<i64>,
 ) -> Result<(), Fault>
     requires stands { StandsOn V.Versions index.old store.old }
     requires small { IsTrue (V.honest store.old) → not (is_too_large left.now) ≡ true }
+    requires known { known ≡ stamp_in left.now.identifier index.old.entries }
     ensures made { OnOk result
         (IsMadeOn V.Versions (with_new left.now) index.old store.old index.new store.new) }
     ensures stamped { OnOk result (SetsStamp left.now.identifier (Some left.now.stamp)
@@ -143,5 +155,5 @@ fn put_left<V: Versions>(
     if left.encoded_len().is_err() {
         return Err(Fault::Damaged);
     }
-    index.put(alloc, store, left)
+    index.put_known(alloc, store, left, known)
 }

@@ -153,9 +153,10 @@ fn put_item<V: Versions>(
     ensures moves { Moves V.Versions result index.old store.old index.new store.new }
     ensures store { Spends V.room V.failures V.honest 1 (fault_in result) store.old store.new }
 {
-    match refusal_among(context.config, store, index, item)? {
+    let known = index.stamp_of(item.identifier().as_str());
+    match refusal_among(context.config, store, index, item, known)? {
         Some(cause) => Err(Refusal::Refused(cause)),
-        None => Ok(index.put(context.alloc, store, item)?),
+        None => Ok(index.put_known(context.alloc, store, item, known)?),
     }
 }
 
@@ -179,7 +180,9 @@ fn put_item_if_new<V: Versions>(
     ensures moves { Moves V.Versions result index.old store.old index.new store.new }
     ensures store { Spends V.room V.failures V.honest 1 (fault_in result) store.old store.new }
 {
-    let found = index.find(store, item.identifier().as_str())?;
+    let identifier = item.identifier().as_str();
+    let known = index.stamp_of(identifier);
+    let found = index.find_known(store, identifier, known)?;
     match item_refusal(context.config, found.as_ref(), index.len(), item) {
         Some(cause) => return Err(Refusal::Refused(cause)),
         None => {}
@@ -187,17 +190,20 @@ fn put_item_if_new<V: Versions>(
     if is_held_so(item, found.as_ref()) {
         return Ok(());
     }
-    Ok(index.put(context.alloc, store, item)?)
+    Ok(index.put_known(context.alloc, store, item, known)?)
 }
 
-/// Why the item may not be added to the others: the first cause. Any fault but `TooManyPages` may come.
+/// Why the item may not be added to the others: the first cause; `known` is the datestamp of its identifier's entry,
+/// if there is one. Any fault but `TooManyPages` may come.
 fn refusal_among<V: Versions>(
     config: &RepoConfig,
     store: &mut V,
     index: &ItemIndex,
     item: &Item,
+    known: Option<i64>,
 ) -> Result<Option<ChangeRefusal>, Fault>
     requires stands { StandsOn V.Versions index.now store.old }
+    requires known { known ≡ stamp_in item.now.identifier index.now.entries }
     ensures cause { let items = stored_items index.now (V.lists store.old) in
         IfOk result (λ cause. IsTrue (V.honest store.old) → cause ≡ spec.item_refusal config.now
         (item_named item.now.identifier items) (length items) item.now) }
@@ -209,7 +215,7 @@ fn refusal_among<V: Versions>(
         ≤ config.now.items) }
     ensures reads { OnlyReads V.Versions result store.old store.new }
 {
-    let replaced = index.find(store, item.identifier().as_str())?;
+    let replaced = index.find_known(store, item.identifier().as_str(), known)?;
     Ok(item_refusal(config, replaced.as_ref(), index.len(), item))
 }
 

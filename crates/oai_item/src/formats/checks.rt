@@ -1,5 +1,6 @@
-ghost use Rattle.std.specs.Prelude.{◌≡◌, IfOk};
+ghost use Rattle.std.specs.Prelude.{◌≡◌, true, IfOk, OnOk};
 ghost use Rattle.std.specs.List.{list_all, list_any};
+ghost use Rattle.oai_names.specs.Names.{may_be_prefix};
 ghost use Rattle.oai_item.specs.Declaring.{IsCheck, has_room};
 ghost use Rattle.oai_item.specs.Rules.{are_names, are_uris, has_repeat, is_element_name, is_element_name_byte, is_first_byte, is_name, is_space, is_uri};
 
@@ -21,7 +22,8 @@ const MAX_NAME_BYTES: usize = 64;
 /// Whether the format may be added to these; the error is the first cause against it.
 #[tactic(auto, unfolding(crate::specs::Declaring::declare_fault))]
 pub(super) fn check(alloc: Global, formats: &[Format], format: &Format) -> Result<(), FormatFault>
-    ensures { IsCheck formats.now format.now result }
+    ensures checked { IsCheck formats.now format.now result }
+    ensures prefix { OnOk result (may_be_prefix format.now.prefix ≡ true) }
 {
     if format_named(format.prefix.as_str(), formats).is_some() {
         return Err(FormatFault::Duplicate);

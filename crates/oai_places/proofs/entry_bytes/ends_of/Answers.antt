@@ -7,7 +7,7 @@ use Rattle.oai_places.proofs.TestedLemmas.{AreKnown, more_known, next_known, non
 use Rattle.oai_places.proofs.entry_bytes.ends_of.Goals as goal
 
 pub loop-init : goal.loop-init
-loop-init c = subst (λ (ends : List ℕ). AreKnown c.args.bytes.now ends c.args.count 0 0) (sym c.new-ends.ensures.items) (none_known c.args.bytes.now c.args.count c.requires)
+loop-init c = subst (λ (ends : List ℕ). AreKnown c.args.bytes.now ends c.args.count 0 0) (sym c.in_ok-ends.ensures.items) (none_known c.args.bytes.now c.args.count c.requires)
 
 pub slice_bounds-spelled_len-count : goal.slice_bounds-spelled_len-count
 slice_bounds-spelled_len-count c = size_within c.args.bytes.now c.loop.ends.items c.loop.counter c.loop.end c.loop.invariant.entries

@@ -11,8 +11,8 @@ read-requires-clause-kind g c = known_page (g.P.PagePool.pages c.args.pages.now)
 
 pub returns-in-Ok-of_page-clause-items : goal.returns-in-Ok-of_page-clause-items
 returns-in-Ok-of_page-clause-items g c =
-    λ honest. sym (items_in-page c.deref.result.now c.in-Ok-of_page.entries c.in-Ok-of_page.ensures)
-    ∙ ap items_in (c.deref.ensures ∙ sym (ap (λ o. unwrap_or o []) (c.in-Ok.ensures.value honest)))
+    λ honest. sym (items_in-page c.in-Ok.page.value c.in-Ok-of_page.entries c.in-Ok-of_page.ensures)
+    ∙ ap items_in (sym (ap (λ o. unwrap_or o []) (c.in-Ok.ensures.value honest)))
 
 pub returns-then-not-fit_one-clause-pages : goal.returns-then-not-fit_one-clause-pages
 returns-then-not-fit_one-clause-pages g c =
@@ -23,6 +23,6 @@ returns-then-not-fit_one-clause-pages g c =
     (read_page G c.read.result p q c.read.ensures.counts c.read.ensures.same c.read.ensures.pool)
     (not_honest_from (G.honest p) c.fit_one.result
     (λ honest. c.fit_one.ensures
-    ∙ ap fit_one (sym (items_in-page c.deref.result.now c.in-Ok-of_page.entries c.in-Ok-of_page.ensures) ∙ ap items_in (c.deref.ensures ∙ sym (ap (λ o. unwrap_or o []) (c.in-Ok.ensures.value honest))))
+    ∙ ap fit_one (sym (items_in-page c.in-Ok.page.value c.in-Ok-of_page.entries c.in-Ok-of_page.ensures) ∙ ap items_in (sym (ap (λ o. unwrap_or o []) (c.in-Ok.ensures.value honest))))
     ∙ c.requires.one)
     c.if-not-fit_one.true)

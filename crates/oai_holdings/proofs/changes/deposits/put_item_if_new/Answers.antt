@@ -11,7 +11,7 @@ returns-clause-few g c = λ few.
     let identifier = c.args.item.now.identifier in
     let entries = c.args.index.now.entries in
     let found : option_copied c.as_ref.result ≡ c.in_ok-found.found = c.as_ref.ensures.value in
-    let there = rw (c.as_str.ensures.text, c.identifier.ensures) at c.in_ok-found.ensures.there in
+    let there = rw (c.as_str-identifier.ensures.text, c.identifier.ensures) at c.in_ok-found.ensures.there in
     let room = rw (found, c.len.ensures) at (c.item_refusal.ensures.room c.in-None.is) in
-    rw c.in_ok-put.ensures.many
+    rw c.in_ok-put_known.ensures.many
     (few_put config c.in_ok-found.found (stamp_in identifier entries) (length entries) (count_with (stamp_in identifier entries) (length entries)) there room refl few)

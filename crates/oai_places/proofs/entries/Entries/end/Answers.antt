@@ -5,11 +5,11 @@ use Rattle.oai_places.proofs.entries.Entries.end.Goals as goal
 
 pub index-requires : goal.index-requires
 index-requires c =
-    let f = fields_are c.self.inside.bytes.items c.self.inside.ends.items c.args.self.now c.self.view_is c.self.invariant in
+    let f = fields_are c.self.inside.bytes c.self.inside.ends.items c.args.self.now c.self.view_is c.self.invariant in
     omega (arith, c.requires, many_fields _ _ _ f, c.self.inside.ends.ok.0)
 
 pub returns : goal.returns
 returns c =
-    let f = fields_are c.self.inside.bytes.items c.self.inside.ends.items c.args.self.now c.self.view_is c.self.invariant in
+    let f = fields_are c.self.inside.bytes c.self.inside.ends.items c.args.self.now c.self.view_is c.self.invariant in
     get_or_read c.self.inside.ends.items c.args.at c.index.result.now (omega (arith, c.requires, many_fields _ _ _ f)) c.index.ensures 0
     ∙ end_at c.self.inside.ends.items c.args.self.now c.args.at f.ending c.requires

@@ -1,4 +1,4 @@
-use Rattle.std.proofs.Common.{◌≡◌, ◌∙◌, List, length, drop, take, ap, subst, sym, arith}
+use Rattle.std.proofs.Common.{◌≡◌, ◌∙◌, List, length, drop, ap, subst, sym, arith}
 use Rattle.std.specs.List.{list_all}
 use Rattle.std.proofs.lemmas.List.{take_rest}
 use Rattle.oai_item.specs.Item.{ItemState}
@@ -25,25 +25,22 @@ returns-then-not-are_zeros c =
 
 pub invariant_of-entries : goal.invariant_of-entries
 invariant_of-entries c =
-    let rest = take_rest c.args.page.now 4 in
-    (entries_read _ c.in_ok-copied.field-0.items _ _ _ c.requires.entries (c.in_ok-copied.ensures ∙ c.split_at.ensures.front ∙ ap (take c.args.size) rest)).1
+    (entries_read _ c.args.bytes _ _ _ c.requires.entries c.requires.bytes).1
 
 pub returns-then-not-are_rising : goal.returns-then-not-are_rising
 returns-then-not-are_rising c =
-    let rest = take_rest c.args.page.now 4 in
-    let made = entries_read _ c.in_ok-copied.field-0.items _ _ _ c.requires.entries (c.in_ok-copied.ensures ∙ c.split_at.ensures.front ∙ ap (take c.args.size) rest) in
+    let made = entries_read _ c.args.bytes _ _ _ c.requires.entries c.requires.bytes in
     no_page-rising c.args.page.now c.args.ends.items c.args.size c.requires.entries (sym (c.are_rising.ensures ∙ ap are_in_order made.0) ∙ c.if-not-are_rising.true)
 
 pub invariant_of-entries-2 : goal.invariant_of-entries-2
 invariant_of-entries-2 c =
-    let rest = take_rest c.args.page.now 4 in
-    (entries_read _ c.in_ok-copied.field-0.items _ _ _ c.requires.entries (c.in_ok-copied.ensures ∙ c.split_at.ensures.front ∙ ap (take c.args.size) rest)).1
+    (entries_read _ c.args.bytes _ _ _ c.requires.entries c.requires.bytes).1
 
 pub returns : goal.returns
 returns c =
     let count : c.first_number-count.result ≡ first_number c.args.page.now = c.first_number-count.ensures in
     let rest = take_rest c.args.page.now 4 in
-    let made = entries_read _ c.in_ok-copied.field-0.items _ _ _ c.requires.entries (c.in_ok-copied.ensures ∙ c.split_at.ensures.front ∙ ap (take c.args.size) rest) in
+    let made = entries_read _ c.args.bytes _ _ _ c.requires.entries c.requires.bytes in
     subst (λ (items : List ItemState). IsPage c.args.page.now items) (sym made.0)
     (is_page c.args.page.now c.args.ends.items c.args.size c.requires.entries (λ i. omega (arith, c.type_inv.page i)) c.requires.long (omega (arith, count, c.if-count-eq0.false))
     (sym (c.are_zeros.ensures ∙ ap (list_all is_zero) (c.split_at.ensures.back ∙ ap (drop c.args.size) rest)) ∙ c.if-not-are_zeros.false)

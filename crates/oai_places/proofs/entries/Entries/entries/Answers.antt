@@ -14,13 +14,13 @@ slice_bounds-result-start c =
 
 pub slice_bounds-result-end : goal.slice_bounds-result-end
 slice_bounds-result-end c =
-    let f = fields_are c.self.inside.bytes.items c.self.inside.ends.items c.args.self.now c.self.view_is c.self.invariant in
-    let h : c.start-end.result ≤ length c.deref.result.now =
-    omega (arith, c.start-end.ensures, size_of-cut c.args.self.now c.args.to, size_is c.deref.result.now c.args.self.now (c.deref.ensures.value ∙ f.spelling))
+    let f = fields_are c.self.inside.bytes c.self.inside.ends.items c.args.self.now c.self.view_is c.self.invariant in
+    let h : c.start-end.result ≤ length c.as_slice.result.now =
+    omega (arith, c.start-end.ensures, size_of-cut c.args.self.now c.args.to, size_is c.as_slice.result.now c.args.self.now (c.as_slice.ensures.value ∙ f.spelling))
     in
     h
 
 pub returns : goal.returns
 returns c =
-    let f = fields_are c.self.inside.bytes.items c.self.inside.ends.items c.args.self.now c.self.view_is c.self.invariant in
-    entries_part c.deref.result.now c.args.self.now c.args.from c.args.to c.start-start.result c.start-end.result (c.deref.ensures.value ∙ f.spelling) c.requires.order c.start-start.ensures c.start-end.ensures
+    let f = fields_are c.self.inside.bytes c.self.inside.ends.items c.args.self.now c.self.view_is c.self.invariant in
+    entries_part c.as_slice.result.now c.args.self.now c.args.from c.args.to c.start-start.result c.start-end.result (c.as_slice.ensures.value ∙ f.spelling) c.requires.order c.start-start.ensures c.start-end.ensures

@@ -4,5 +4,5 @@ use Rattle.oai_places.proofs.entries.Entries.len.Goals as goal
 
 pub returns-clause-len : goal.returns-clause-len
 returns-clause-len c =
-    let f = fields_are c.self.inside.bytes.items c.self.inside.ends.items c.args.self.now c.self.view_is c.self.invariant in
+    let f = fields_are c.self.inside.bytes c.self.inside.ends.items c.args.self.now c.self.view_is c.self.invariant in
     omega (arith, c.len.ensures, many_fields _ _ _ f, c.self.inside.ends.ok.0)

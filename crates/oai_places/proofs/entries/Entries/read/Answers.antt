@@ -1,8 +1,8 @@
-use Rattle.std.proofs.Common.{◌≡◌, ◌∙◌, Err, ap, sym}
+use Rattle.std.proofs.Common.{◌≡◌, ◌∙◌, Err, ap, arith, sym, take}
 use Rattle.std.proofs.lemmas.List.{take_rest}
 use Rattle.std.proofs.lemmas.Result.{err_from_is_err_and}
 use Rattle.oai_places.specs.Pages.{first_number}
-use Rattle.oai_places.proofs.ReadLemmas.{entries_seen, no_page-entries, page_fails}
+use Rattle.oai_places.proofs.ReadLemmas.{entries_seen, no_page-entries, page_fails, size_within}
 use Rattle.oai_places.proofs.entries.Entries.read.Goals as goal
 
 pub returns-in_err-ends : goal.returns-in_err-ends
@@ -15,3 +15,11 @@ returns-in_err-ends c =
 
 pub ending-requires-clause-entries : goal.ending-requires-clause-entries
 ending-requires-clause-entries c = entries_seen c.args.page.now _ _ _ _ (take_rest c.args.page.now 4) c.first_number-count.ensures c.in_ok-ends.ensures.read
+
+pub split_at-requires : goal.split_at-requires
+split_at-requires c =
+    let within = size_within _ _ _ _ c.in_ok-ends.ensures.read in
+    omega (arith, within)
+
+pub ending-requires-clause-bytes : goal.ending-requires-clause-bytes
+ending-requires-clause-bytes c = c.own-bytes.ensures ∙ c.in_ok-copied.ensures ∙ c.split_at.ensures.front ∙ ap (take c.in_ok-ends.size) (take_rest c.args.page.now 4)

@@ -4,5 +4,5 @@ use Rattle.oai_places.proofs.entries.Entries.size.Goals as goal
 
 pub returns : goal.returns
 returns c =
-    let f = fields_are c.self.inside.bytes.items c.self.inside.ends.items c.args.self.now c.self.view_is c.self.invariant in
-    omega (arith, c.len.ensures, size_is c.self.inside.bytes.items c.args.self.now f.spelling, c.self.inside.bytes.ok.0)
+    let f = fields_are c.self.inside.bytes c.self.inside.ends.items c.args.self.now c.self.view_is c.self.invariant in
+    omega (arith, c.len.ensures, size_is c.self.inside.bytes c.args.self.now f.spelling)

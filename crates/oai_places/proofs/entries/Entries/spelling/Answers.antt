@@ -17,34 +17,34 @@ slice_bounds-entry-start c =
 
 pub slice_bounds-entry-end : goal.slice_bounds-entry-end
 slice_bounds-entry-end c =
-    let f = fields_are c.self.inside.bytes.items c.self.inside.ends.items c.args.self.now c.self.view_is c.self.invariant in
-    let h : c.end-end.result ≤ length c.deref.result.now =
-    omega (arith, c.end-end.ensures, size_of-cut c.args.self.now (c.args.at + 1), size_is c.deref.result.now c.args.self.now (c.deref.ensures.value ∙ f.spelling))
+    let f = fields_are c.self.inside.bytes c.self.inside.ends.items c.args.self.now c.self.view_is c.self.invariant in
+    let h : c.end-end.result ≤ length c.as_slice.result.now =
+    omega (arith, c.end-end.ensures, size_of-cut c.args.self.now (c.args.at + 1), size_is c.as_slice.result.now c.args.self.now (c.as_slice.ensures.value ∙ f.spelling))
     in
     h
 
 pub slice_bounds-result-count : goal.slice_bounds-result-count
 slice_bounds-result-count c =
-    let f = fields_are c.self.inside.bytes.items c.self.inside.ends.items c.args.self.now c.self.view_is c.self.invariant in
-    let entry : take (c.end-end.result - c.start-start.result) (drop c.start-start.result c.deref.result.now) ≡ entries_of (between c.args.at (c.args.at + 1) c.args.self.now) =
-    entries_part c.deref.result.now c.args.self.now c.args.at (c.args.at + 1) c.start-start.result c.end-end.result (c.deref.ensures.value ∙ f.spelling) (omega arith) c.start-start.ensures c.end-end.ensures
+    let f = fields_are c.self.inside.bytes c.self.inside.ends.items c.args.self.now c.self.view_is c.self.invariant in
+    let entry : take (c.end-end.result - c.start-start.result) (drop c.start-start.result c.as_slice.result.now) ≡ entries_of (between c.args.at (c.args.at + 1) c.args.self.now) =
+    entries_part c.as_slice.result.now c.args.self.now c.args.at (c.args.at + 1) c.start-start.result c.end-end.result (c.as_slice.ensures.value ∙ f.spelling) (omega arith) c.start-start.ensures c.end-end.ensures
     in
     entry_long _ c.args.self.now c.args.at entry c.requires
 
 pub slice_bounds-result-start : goal.slice_bounds-result-start
 slice_bounds-result-start c =
-    let f = fields_are c.self.inside.bytes.items c.self.inside.ends.items c.args.self.now c.self.view_is c.self.invariant in
-    let entry : take (c.end-end.result - c.start-start.result) (drop c.start-start.result c.deref.result.now) ≡ entries_of (between c.args.at (c.args.at + 1) c.args.self.now) =
-    entries_part c.deref.result.now c.args.self.now c.args.at (c.args.at + 1) c.start-start.result c.end-end.result (c.deref.ensures.value ∙ f.spelling) (omega arith) c.start-start.ensures c.end-end.ensures
+    let f = fields_are c.self.inside.bytes c.self.inside.ends.items c.args.self.now c.self.view_is c.self.invariant in
+    let entry : take (c.end-end.result - c.start-start.result) (drop c.start-start.result c.as_slice.result.now) ≡ entries_of (between c.args.at (c.args.at + 1) c.args.self.now) =
+    entries_part c.as_slice.result.now c.args.self.now c.args.at (c.args.at + 1) c.start-start.result c.end-end.result (c.as_slice.ensures.value ∙ f.spelling) (omega arith) c.start-start.ensures c.end-end.ensures
     in
-    let h : 4 ≤ length (take (c.end-end.result - c.start-start.result) (drop c.start-start.result c.deref.result.now)) = entry_long _ c.args.self.now c.args.at entry c.requires in
+    let h : 4 ≤ length (take (c.end-end.result - c.start-start.result) (drop c.start-start.result c.as_slice.result.now)) = entry_long _ c.args.self.now c.args.at entry c.requires in
     h
 
 pub returns : goal.returns
 returns c = λ d.
-    let f = fields_are c.self.inside.bytes.items c.self.inside.ends.items c.args.self.now c.self.view_is c.self.invariant in
-    let entry : take (c.end-end.result - c.start-start.result) (drop c.start-start.result c.deref.result.now) ≡ entries_of (between c.args.at (c.args.at + 1) c.args.self.now) =
-    entries_part c.deref.result.now c.args.self.now c.args.at (c.args.at + 1) c.start-start.result c.end-end.result (c.deref.ensures.value ∙ f.spelling) (omega arith) c.start-start.ensures c.end-end.ensures
+    let f = fields_are c.self.inside.bytes c.self.inside.ends.items c.args.self.now c.self.view_is c.self.invariant in
+    let entry : take (c.end-end.result - c.start-start.result) (drop c.start-start.result c.as_slice.result.now) ≡ entries_of (between c.args.at (c.args.at + 1) c.args.self.now) =
+    entries_part c.as_slice.result.now c.args.self.now c.args.at (c.args.at + 1) c.start-start.result c.end-end.result (c.as_slice.ensures.value ∙ f.spelling) (omega arith) c.start-start.ensures c.end-end.ensures
     in
-    subst (λ (text : List ℕ). Spells text (get_or c.args.self.now c.args.at d)) (sym (take_rest (take (c.end-end.result - c.start-start.result) (drop c.start-start.result c.deref.result.now)) 4))
+    subst (λ (text : List ℕ). Spells text (get_or c.args.self.now c.args.at d)) (sym (take_rest (take (c.end-end.result - c.start-start.result) (drop c.start-start.result c.as_slice.result.now)) 4))
     (spelling_at _ c.args.self.now c.args.at d entry f.storable c.requires)

@@ -1,0 +1,16 @@
+-- The bytes of entries as they are held in memory. No definition rests on these words.
+use Rattle.std.specs.Prelude.{◌+◌, ◌≤◌, ℕ, List, drop, take}
+use Rattle.oai_device.specs.declared.devices.TheConstants.{PAGE_BYTES}
+use Rattle.oai_places.specs.declared.held_bytes.Held.{Held}
+use Rattle.oai_places.specs.declared.held_bytes.Held.TheVariants as held
+use Rattle.oai_places.specs.declared.sizes.TheConstants.{NUMBER_BYTES}
+
+-- the bytes
+abbrev pub bytes_held : Held → List ℕ
+bytes_held (held.Own bytes) = bytes.items
+bytes_held (held.OnPage page size) = take size (drop NUMBER_BYTES page.value)
+
+-- those of a page are on it
+abbrev pub AreHeldOnPage : Held → Type 0
+AreHeldOnPage (held.Own bytes) = Unit {0}
+AreHeldOnPage (held.OnPage page size) = NUMBER_BYTES + size ≤ PAGE_BYTES
