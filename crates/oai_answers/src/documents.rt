@@ -1,4 +1,4 @@
-ghost use Rattle.std.specs.Prelude.{◌≡◌, ◌++◌, OnOk, OnErr};
+ghost use Rattle.std.specs.Prelude.{◌≡◌, ◌++◌, IfOk, OnOk, OnErr};
 ghost use Rattle.oai_answers.specs.Answers.{HasWritableTimes, IsWritableDocument};
 ghost use Rattle.oai_answers.specs.Appends.{Appends};
 ghost use Rattle.oai_answers.specs.Borrowed.{body_answer, document_of};
@@ -51,20 +51,28 @@ pub struct Doc<'a> {
     pub body: Body<'a>,
 }
 
-/// Appends the XML document (OAI-PMH 2.0, section 3.2), in UTF-8. The date, the earliest datestamp of an answer to
-/// Identify and the moment at which a token expires lie in the years 0000 to 9999. The error is out of memory, and the
-/// buffer is unchanged.
+/// The XML document (OAI-PMH 2.0, section 3.2), in UTF-8. The date, the earliest datestamp of an answer to Identify and the
+/// moment at which a token expires lie in the years 0000 to 9999. The error is out of memory.
 ///
 /// It costs one pass over the texts of the document, and a search among the records of an item for each record, and for
-/// each format that is listed of an item. The document is written into a buffer of its own, with an estimated capacity;
-/// `out` takes it over if it was empty, otherwise it is copied once.
+/// each format that is listed of an item. The buffer is allocated with an estimated capacity.
+pub fn document(alloc: Global, doc: &Doc<'_>) -> Result<Vec<u8>, AllocError>
+    requires { IsWritableDocument (document_of doc.now) }
+    ensures { IfOk result (λ bytes. bytes.items ≡ document (document_of doc.now)) }
+{
+    let mut document = Vec::with_capacity(alloc, room_of(&doc.body))?;
+    append(doc, &mut document)?;
+    Ok(document)
+}
+
+/// Appends the document. The error is out of memory, and the buffer is unchanged. An empty `out` takes the document over;
+/// to any other it is copied once.
 pub fn write_document(alloc: Global, doc: &Doc<'_>, out: &mut Vec<u8>) -> Result<(), AllocError>
     requires { IsWritableDocument (document_of doc.now) }
     ensures ok { OnOk result (out.new.items ≡ out.old.items ++ document (document_of doc.now)) }
     ensures err { OnErr result (out.new.items ≡ out.old.items) }
 {
-    let mut document = Vec::with_capacity(alloc, room_of(&doc.body))?;
-    append(doc, &mut document)?;
+    let document = document(alloc, doc)?;
     if out.is_empty() {
         *out = document;
         return Ok(());
@@ -72,7 +80,7 @@ pub fn write_document(alloc: Global, doc: &Doc<'_>, out: &mut Vec<u8>) -> Result
     out.extend_from_slice(&document)
 }
 
-/// As `write_document`, but what was appended before memory ran out stays.
+/// Appends the document. What was appended before memory ran out stays.
 #[tactic(auto, unfolding(crate::specs::Documents::document))]
 fn append(doc: &Doc<'_>, out: &mut Vec<u8>) -> Result<(), AllocError>
     requires { IsWritableDocument (document_of doc.now) }

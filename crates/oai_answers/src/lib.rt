@@ -20,7 +20,7 @@ mod sets;
 mod tags;
 mod tokens;
 
-pub use documents::{Body, Doc, write_document};
+pub use documents::{Body, Doc, document, write_document};
 pub use errors::ErrorCode;
 pub use formats::Offered;
 pub use identify::Identity;

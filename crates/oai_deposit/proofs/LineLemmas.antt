@@ -1,17 +1,20 @@
 -- What the value of a line asks for is what the line asks for.
-use Rattle.std.proofs.Common.{◌≡◌, ℕ, Option, Some, List, Result, Ok, Err, ap, subst, sym, ◌∙◌}
+use Rattle.std.proofs.Common.{◌≡◌, ◌<◌, ℕ, Option, Some, None, List, length, Result, Ok, Err, ap, refl, subst, sym, ◌∙◌}
+use Rattle.std.specs.Str.{IsUtf8}
 use Rattle.serde_json.specs.Data.{Data}
+use Rattle.serde_json.specs.Read.{read}
 use Rattle.oai_deposit.specs.declared.changes.Change.{Change}
 use Rattle.oai_item.specs.declared.forms.Forms.{Forms}
 use Rattle.oai_deposit.specs.declared.faults.LineFault.{LineFault}
 use Rattle.oai_deposit.specs.declared.faults.LineFault.TheVariants.{NoMemory, Refused}
 use Rattle.oai_json.specs.Json.{TakesMemory, json_in}
 use Rattle.oai_item.specs.declared.refusals.LineRefusal.{LineRefusal}
+use Rattle.oai_item.specs.declared.refusals.LineRefusal.TheVariants.{BadJson}
 use Rattle.oai_names.specs.Optional.{◌>>=◌}
 use Rattle.oai_deposit.specs.Calls.{Anywhere}
 use Rattle.oai_deposit.specs.Lines.{LineAbout, Shape, asked_change, change_asked, line_of, shape_of, value_asked}
 use Rattle.oai_deposit.specs.Readings.{Finds, ReturnsReading}
-use Rattle.oai_json.proofs.JsonLemmas.{takes-read}
+use Rattle.oai_json.proofs.JsonLemmas.{json_in-None, takes-read, takes-text}
 
 pub line_gives : (forms : Forms) (line : List ℕ) (d : Data) (P : Type 0) (result : Result Change LineFault) → json_in line ≡ Some d
     → ReturnsReading P result (change_asked (shape_of forms d)) → ReturnsReading (TakesMemory line) result (line_of forms line)
@@ -19,6 +22,19 @@ unfolding line_of
 line_gives forms line d P (Ok change) is gives = ap (value_asked forms) is ∙ gives
 line_gives forms line d P (Err (Refused refusal)) is gives = ap (value_asked forms) is ∙ gives
 line_gives forms line d P (Err NoMemory) is gives = takes-read line d is
+
+-- a line that is not in UTF-8, or no JSON text
+pub no_text : (forms : Forms) (line : List ℕ) → (IsUtf8 line → ⊥) → line_of forms line ≡ Err BadJson
+unfolding line_of
+no_text forms line none = ap (value_asked forms) (json_in-None line (λ utf8. absurd (none utf8)))
+
+pub no_json : (forms : Forms) (line : List ℕ) → read line ≡ None → line_of forms line ≡ Err BadJson
+unfolding line_of
+no_json forms line none = ap (value_asked forms) (json_in-None line (λ utf8. none))
+
+-- a line that is there, in UTF-8
+pub takes : (line : List ℕ) → IsUtf8 line → 0 < length line → TakesMemory line
+takes line utf8 some = takes-text line line refl utf8 some
 
 -- ---- what is about records is the last that is read of a shape
 

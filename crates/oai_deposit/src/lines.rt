@@ -1,5 +1,6 @@
 ghost use Rattle.std.specs.Prelude.{◌≡◌, ℕ, List, Ok, true, map, is_some};
 ghost use Rattle.std.specs.List.{list_all};
+ghost use Rattle.std.specs.Str.{IsUtf8};
 ghost use Rattle.serde_json.specs.View.{view};
 ghost use Rattle.oai_names.specs.Names.{may_be_identifier};
 ghost use Rattle.oai_names.specs.Optional.{each_of, tested};
@@ -25,7 +26,7 @@ use crate::records::records_at;
 use crate::tokens::read_deposit;
 use json::Scratch;
 use oai_item::{Forms, LineRefusal, Records, is_short_text};
-use oai_json::{has_members, has_members_and, read_json};
+use oai_json::{has_members, has_members_and, read_json_text};
 use oai_names::{Identifier, NameFault, Sequence, SetSpec, Text};
 use serde_json::Value;
 use std::alloc::Global;
@@ -37,8 +38,19 @@ use std::alloc::Global;
 /// with one name the last counts. A deposit with its members in the order `deposit`, `sets`, `records`, and no
 /// other, under rising prefixes, is read without making a JSON value of it; each text of a line is copied from the parser's result at most
 /// once.
-#[tactic(auto, unfolding(crate::specs::Lines::line_of))]
+#[tactic(auto, using(crate::proofs::LineLemmas::no_text))]
 pub fn read_line(alloc: Global, forms: Forms, line: &[u8]) -> Result<Change, LineFault>
+    ensures { ReturnsReading (json.TakesMemory line.now) result (lines.line_of forms line.now) }
+{
+    match str::from_utf8(line) {
+        Ok(text) => read_text(alloc, forms, text),
+        Err(_) => Err(LineFault::Refused(LineRefusal::BadJson)),
+    }
+}
+
+/// Reads a line in UTF-8.
+fn read_text(alloc: Global, forms: Forms, line: &str) -> Result<Change, LineFault>
+    requires { IsUtf8 line.now }
     ensures { ReturnsReading (json.TakesMemory line.now) result (lines.line_of forms line.now) }
 {
     let mut scratch = Scratch::new(alloc);
@@ -49,11 +61,12 @@ pub fn read_line(alloc: Global, forms: Forms, line: &[u8]) -> Result<Change, Lin
 }
 
 /// Reads a line of any command, with its members in any order, by its JSON value.
-#[tactic(auto, unfolding(crate::specs::Lines::line_of))]
-fn read_any(alloc: Global, forms: Forms, line: &[u8]) -> Result<Change, LineFault>
+#[tactic(auto, using(crate::proofs::LineLemmas::takes))]
+fn read_any(alloc: Global, forms: Forms, line: &str) -> Result<Change, LineFault>
+    requires { IsUtf8 line.now }
     ensures { ReturnsReading (json.TakesMemory line.now) result (lines.line_of forms line.now) }
 {
-    match read_json(alloc, line)? {
+    match read_json_text(alloc, line)? {
         Some(value) => read_value(alloc, forms, &value),
         None => Err(LineFault::Refused(LineRefusal::BadJson)),
     }

@@ -3,6 +3,7 @@
 
 ghost use Rattle.std.specs.Prelude.{◌≡◌, [], ◌∷◌, ◌++◌, map, true, IfSome};
 ghost use Rattle.std.specs.List.{flat_map};
+ghost use Rattle.std.specs.Str.{IsUtf8};
 ghost use Rattle.json.specs.Token as token;
 ghost use Rattle.oai_item.specs.Item.{are_rising};
 ghost use Rattle.oai_item.specs.declared.givens.Given.TheVariants.{Whole};
@@ -28,15 +29,15 @@ const USUAL_FIELDS: usize = 8;
 pub(crate) fn read_deposit<'a>(
     alloc: Global,
     forms: Forms,
-    line: &'a [u8],
+    line: &'a str,
     scratch: &'a mut Scratch,
 ) -> Option<DepositTexts<'a>>
+    requires { IsUtf8 line.now }
     ensures line { IfSome result (λ texts. tokens.IsDepositLine forms line.now
         texts.identifier.now (map (λ set. set.now) texts.sets.items) texts.records) }
     ensures alone { IfSome result (λ texts. texts.abouts ≡ []) }
 {
-    let text = str::from_utf8(line).ok()?;
-    let mut reader = Reader::new(text, scratch).ok()?;
+    let mut reader = Reader::new(line, scratch).ok()?;
     let texts = take_deposit(alloc, forms, &mut reader)?;
     if reader.next().is_some() {
         return None;

@@ -1,7 +1,7 @@
 -- The JSON value of a text; arrays and objects as lists.
-use Rattle.std.proofs.Common.{◌≡◌, ◌<◌, ◌+◌, ◌-◌, ℕ, suc, Bool, true, false, cond, ◌&&◌, eqb, Option, Some, None, is_some, List, [], ◌∷◌, map, length, String, Global, BTreeMap, Bor, string_bytes, refl, sym, ap, ◌∙◌, arith}
+use Rattle.std.proofs.Common.{◌≡◌, ◌<◌, ◌+◌, ◌-◌, ℕ, suc, Bool, true, false, cond, ◌&&◌, eqb, Option, Some, None, is_some, Result, Ok, Err, List, [], ◌∷◌, map, length, String, Global, BTreeMap, Bor, string_bytes, refl, sym, ap, ◌∙◌, arith}
 use Rattle.std.proofs.lemmas.Str.{is_utf8-from_IsUtf8, IsUtf8-from_is_utf8}
-use Rattle.std.specs.Prelude.{filter, nat_le}
+use Rattle.std.specs.Prelude.{filter, nat_le, IfOk, OnErr}
 use Rattle.std.proofs.lemmas.Bool.Decides.{nat_tests}
 use Rattle.std.specs.Option.{option_map}
 use Rattle.std.specs.Str.{IsUtf8, is_utf8}
@@ -36,6 +36,18 @@ json_in-None text none = no_value (is_utf8 text) (read text) (λ utf8. none (IsU
 -- the text that bytes are
 pub takes-text : (line text : List ℕ) → text ≡ line → IsUtf8 line → 0 < length text → TakesMemory line
 takes-text line text same is some = record { text = is_utf8-from_IsUtf8 line is; some = rw (← same) some }
+
+-- what is read of that text is read of the bytes
+pub in_bytes : {A E : Type 0} (seen : A → Option Data) (line text : List ℕ) (result : Result A E) → text ≡ line → IsUtf8 line
+    → IfOk result (λ v. read text ≡ seen v) → IfOk result (λ v. json_in line ≡ seen v)
+unfolding json_in
+in_bytes seen line text (Ok v) same utf8 is = ap (λ b. cond b (read line) None) (is_utf8-from_IsUtf8 line utf8) ∙ ap read (sym same) ∙ is
+in_bytes seen line text (Err e) same utf8 is = tt
+
+pub taken_for : {A E : Type 0} (line text : List ℕ) (result : Result A E) → text ≡ line → IsUtf8 line
+    → OnErr result (0 < length text) → OnErr result (TakesMemory line)
+taken_for line text (Ok v) same utf8 some = tt
+taken_for line text (Err e) same utf8 some = takes-text line text same utf8 some
 
 -- each text that was read is one in UTF-8, and not empty
 none_of_nothing : read [] ≡ None

@@ -8,5 +8,6 @@ pub use tokens::{
     take_begin_array, take_begin_object, take_end_object, take_key, take_text, take_texts,
 };
 pub use values::{
-    elements_at, elements_of, has_members, has_members_and, number_at, read_json, text_at,
+    elements_at, elements_of, has_members, has_members_and, number_at, read_json, read_json_text,
+    text_at,
 };

@@ -1,6 +1,7 @@
-ghost use Rattle.std.specs.Prelude.{◌≡◌, is_some, length, map, option_copied, option_map, IfOk, OnErr};
+ghost use Rattle.std.specs.Prelude.{◌≡◌, ◌<◌, is_some, length, map, option_copied, option_map, IfOk, OnErr};
 ghost use Rattle.std.specs.List.{filter, list_all};
 ghost use Rattle.serde_json.specs.Find.{get};
+ghost use Rattle.serde_json.specs.Read.{read};
 ghost use Rattle.serde_json.specs.View.{view};
 ghost use Rattle.oai_json.specs.Json as json;
 
@@ -17,6 +18,15 @@ pub fn read_json(alloc: Global, text: &[u8]) -> Result<Option<Value>, AllocError
     let Ok(text) = str::from_utf8(text) else {
         return Ok(None);
     };
+    read_json_text(alloc, text)
+}
+
+/// The JSON value of the text (RFC 8259); `None` if it is no JSON text. The error is out of memory, which does not come
+/// for an empty text.
+pub fn read_json_text(alloc: Global, text: &str) -> Result<Option<Value>, AllocError>
+    ensures ok { IfOk result (λ value. read text.now ≡ option_map view value) }
+    ensures err { OnErr result (0 < length text.now) }
+{
     match Value::from_str(alloc, text) {
         Ok(value) => Ok(Some(value)),
         Err(error) if error.is_memory() => Err(AllocError),

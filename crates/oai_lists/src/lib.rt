@@ -7,4 +7,4 @@ mod tokens;
 
 pub use lists::{LAST_NUMBER, Lists, OpenListFault, ReopenFault};
 pub use open_lists::{Mark, NewList, OpenList};
-pub use tokens::Token;
+pub use tokens::{Token, read_decimal};

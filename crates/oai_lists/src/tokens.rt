@@ -61,14 +61,14 @@ fn read_numbers(list: &str, cursor: &str) -> Option<Token>
     ensures only { (token : TokenData)
         → AreNumbers list.now cursor.now token → result ≡ Some token }
 {
-    match (read_number(list), read_number(cursor)) {
+    match (read_decimal(list), read_decimal(cursor)) {
         (Some(list), Some(cursor)) => Some(Token { list, cursor }),
         _ => None,
     }
 }
 
-/// The number below 2^64 that the text spells, decimal without leading zeros.
-fn read_number(text: &str) -> Option<u64>
+/// The number below 2^64 that the text spells, decimal without leading zeros. Allocates nothing.
+pub fn read_decimal(text: &str) -> Option<u64>
     ensures found { IfSome result (λ n. text.now ≡ decimal n) }
     ensures only { (n : ℕ) → n < 2 ^ 64 → text.now ≡ decimal n → result ≡ Some n }
 {

@@ -1,10 +1,8 @@
 -- What a set lies in is a set too: along its parents, each of which is one.
-use Rattle.std.proofs.Common.{◌≡◌, ◌∙◌, ℕ, ◌≤◌, zero, suc, Bool, true, false, ◌||◌, cond, if◌then◌else◌, List, [], ◌∷◌, ◌++◌, length, take, drop, Option, None, Some, inl, inr, refl, sym, ap, subst, arith, length-append, take-append-drop}
+use Rattle.std.proofs.Common.{◌≡◌, ◌∙◌, ℕ, ◌≤◌, zero, suc, Bool, true, List, [], ◌∷◌, ◌++◌, length, take, drop, Option, None, Some, inl, inr, refl, sym, ap, subst, arith, length-append, take-append-drop}
 use Rattle.std.proofs.lemmas.Bool.{or_cases, or_left}
 use Rattle.std.proofs.lemmas.List.Folds.{list_any-append}
 use Rattle.std.proofs.lemmas.Slice.Eq.{bytes_eq-Decides}
-use Rattle.std.specs.Prelude.{find}
-use Rattle.std.specs.Option.{option_map}
 use Rattle.std.specs.List.{list_any, slice_get}
 use Rattle.std.specs.Str.{bytes_eq}
 use Rattle.oai_names.proofs.Parents.{IsBelow, above_parent, above_root, parent_splits_off}
@@ -17,20 +15,6 @@ at_place p (x ∷ xs) h = elim (or_cases (p x) (list_any p xs) h) [
   | inl here ↦ (0, x, refl, here)
   | inr later ↦ let found = at_place p xs later in (suc found.0, found.1, found.2, found.3)
 ]
-
--- the set that is found has the setSpec, and one is found where the setSpec is that of a set
-pub found_set : (spec : List ℕ) (sets : List (List ℕ × List ℕ))
-    → option_map (λ (set : List ℕ × List ℕ). set.0) (find (λ (set : List ℕ × List ℕ). bytes_eq spec set.0) sets) ≡ (if has_set sets spec then Some spec else None)
-found_set spec [] = refl
-found_set spec (set ∷ sets) = by_test (bytes_eq spec set.0) ((bytes_eq-Decides spec set.0).0) (found_set spec sets)
-  where
-    first : List ℕ × List ℕ → List ℕ
-    first s = s.0
-
-    by_test : (b : Bool) → (b ≡ true → spec ≡ set.0) → option_map first (find (λ (s : List ℕ × List ℕ). bytes_eq spec s.0) sets) ≡ (if has_set sets spec then Some spec else None)
-        → option_map first (cond b (Some set) (find (λ (s : List ℕ × List ℕ). bytes_eq spec s.0) sets)) ≡ (if b || has_set sets spec then Some spec else None)
-    by_test true same later = ap Some (sym (same refl))
-    by_test false same later = later
 
 -- a set among the first ones is one of all
 of_front : (sets : List (List ℕ × List ℕ)) (i : ℕ) (spec : List ℕ) → has_set (take i sets) spec ≡ true → has_set sets spec ≡ true

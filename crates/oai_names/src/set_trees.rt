@@ -1,14 +1,14 @@
-ghost use Rattle.std.specs.Prelude.{◌≡◌, ◌<◌, ◌++◌, [], ◌∷◌, true, false, find, if◌then◌else◌, None, Some, length, IfOk, MatchResult};
+ghost use Rattle.std.specs.Prelude.{◌≡◌, ◌<◌, ◌++◌, [], ◌∷◌, true, false, if◌then◌else◌, None, Some, length, IfOk, MatchResult};
 ghost use Rattle.std.specs.List.{slice_get};
 ghost use Rattle.std.specs.Option.{option_copied, option_map};
-ghost use Rattle.std.specs.Str.{bytes_eq};
+ghost use Rattle.oai_names.specs.SetPlaces.{IsSetPlace, spec_at};
 ghost use Rattle.oai_names.specs.Sets.{HasParentsBefore, HasSetsAbove, IsAdding, IsSetTree, has_parent, has_set, parent_of};
 
 use crate::limits::MAX_SETS;
 use crate::set_specs::SetSpec;
 use crate::texts::Text;
 use std::alloc::{AllocError, Global};
-use std::collections::BTreeSet;
+use std::collections::BTreeMap;
 use std::marker::Model;
 use thiserror::Error;
 
@@ -33,26 +33,27 @@ pub enum SetFault {
 /// setSpecs are distinct. The parent of a set, whose setSpec is the same without the last part, stands before it. There
 /// are at most 10,000 sets.
 ///
-/// A B-tree over the setSpecs stands beside the list: a look-up takes O(log n) comparisons, a few dozen among 10,000
-/// sets.
+/// A B-tree of the setSpecs, each with the position of its set, stands beside the list: a look-up takes O(log n)
+/// comparisons, a few dozen among 10,000 sets.
 #[derive(Debug, Drop)]
 pub struct SetTree {
     sets: Vec<(SetSpec, Text)>,
-    specs: BTreeSet<String>,
+    places: BTreeMap<String, usize>,
 }
 
 impl Model for SetTree {
-    ghost use Rattle.std.specs.Prelude.{◌≡◌, ℕ, List};
-    ghost use Rattle.std.specs.BTreeSet.{contains_text};
+    ghost use Rattle.std.specs.Prelude.{ℕ, List};
+    ghost use Rattle.std.specs.BTreeMap.{get_by_text};
 
     ghost Value = { List (List ℕ × List ℕ) };
 
-    ghost use Rattle.oai_names.specs.Sets.{IsSetTree, has_set};
+    ghost use Rattle.oai_names.specs.SetPlaces.{IsSetPlace};
+    ghost use Rattle.oai_names.specs.Sets.{IsSetTree};
 
     ghost view = { λ t. t.sets.items };
 
     ghost invariant = { λ t. IsSetTree t.sets.items
-        × ((spec : List ℕ) → contains_text t.specs spec ≡ has_set t.sets.items spec) };
+        × ((spec : List ℕ) → IsSetPlace t.sets.items spec (get_by_text t.places spec)) };
 }
 
 impl SetTree {
@@ -62,7 +63,7 @@ impl SetTree {
     {
         SetTree {
             sets: Vec::new(alloc),
-            specs: BTreeSet::new(alloc),
+            places: BTreeMap::new(alloc),
         }
     }
 
@@ -95,17 +96,16 @@ impl SetTree {
     }
 
     /// The setSpec of the set with that setSpec, if it exists; a set that does not exist has no descendants. O(log n)
-    /// by the index; if the set exists, also a scan of the list.
+    /// by the index.
     pub fn find(&self, spec: &str) -> Option<&SetSpec>
         ensures found { option_copied result
             ≡ (if has_set self.now spec.now then Some spec.now else None) }
         ensures above { HasSetsAbove self.now }
     {
-        let sets = self.sets.as_slice();
-        if !self.has_text(spec) {
-            return None;
+        match self.place_of(spec) {
+            Some(place) => self.spec_at(place),
+            None => None,
         }
-        spec_among(sets, spec)
     }
 
     /// The setSpec and the name of the set at position `i`, counted from 0 in order of addition; `None` if there are at
@@ -150,7 +150,25 @@ impl SetTree {
     fn has_text(&self, spec: &str) -> bool
         ensures { result ≡ has_set self.now spec.now }
     {
-        self.specs.contains(spec)
+        self.place_of(spec).is_some()
+    }
+
+    /// The position of the set with that setSpec, if it exists.
+    fn place_of(&self, spec: &str) -> Option<usize>
+        ensures place { IsSetPlace self.now spec.now result }
+        ensures tree { IsSetTree self.now }
+    {
+        self.places.get(spec).copied()
+    }
+
+    /// The setSpec of the set at that position, if there is one.
+    fn spec_at(&self, place: usize) -> Option<&SetSpec>
+        ensures { option_copied result ≡ spec_at self.now place }
+    {
+        match self.sets.get(place) {
+            Some((spec, _)) => Some(spec),
+            None => None,
+        }
     }
 
     /// Adds a set that has a place in the tree. All that may fail comes before the first visible change.
@@ -165,7 +183,8 @@ impl SetTree {
         self.sets.reserve(1)?;
         let set = copied(alloc, spec, name)?;
         let key = String::from_str(alloc, spec.as_str())?;
-        self.specs.insert(key)?;
+        let place = self.sets.len();
+        self.places.insert(key, place)?;
         self.sets.push(set)?;
         Ok(())
     }
@@ -177,23 +196,6 @@ fn copied(alloc: Global, spec: &SetSpec, name: &str) -> Result<(SetSpec, Text), 
 {
     let spec = spec.copy(alloc)?;
     Ok((spec, Text::new(alloc, name)?))
-}
-
-/// The setSpec of the set with that setSpec, if it is among these.
-fn spec_among<'a>(sets: &'a [(SetSpec, Text)], spec: &str) -> Option<&'a SetSpec>
-    ensures { option_copied result ≡ (if has_set sets.now spec.now then Some spec.now else None) }
-{
-    match set_among(sets, spec) {
-        Some((found, _)) => Some(found),
-        None => None,
-    }
-}
-
-/// The set with that setSpec, if it is among these.
-fn set_among<'a>(sets: &'a [(SetSpec, Text)], spec: &str) -> Option<&'a (SetSpec, Text)>
-    ensures { option_copied result ≡ find (λ set. bytes_eq spec.now set.0) sets.now }
-{
-    sets.iter().find(|set| spec == set.0.as_str())
 }
 
 /// The setSpec of the parent, everything before the last colon; `None` if there is no colon, so that the set is a root

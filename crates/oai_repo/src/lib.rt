@@ -20,3 +20,4 @@ pub use oai_settings::RepoConfig;
 pub use repo::Repo;
 pub use responses::{Replay, Replied, Reply};
 pub use saved_parts::{SavedList, SavedPart};
+pub use view::verb_name;

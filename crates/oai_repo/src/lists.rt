@@ -77,7 +77,7 @@ pub(crate) fn reply_with_list<V: Versions>(
 {
     let asked = selection_of(repo, request)?;
     match asked {
-        Ok(selection) => reply_with_selection(repo, lists, store, &selection),
+        Ok(selection) => reply_with_selection(repo, lists, store, selection),
         Err(code) => Ok(Replied::listless(reply_with_error(repo, code)?)),
     }
 }
@@ -112,13 +112,13 @@ fn reply_with_selection<V: Versions>(
     repo: &RepoView<'_>,
     lists: &mut Lists,
     store: &mut V,
-    selection: &Selection<'_>,
+    selection: Selection<'_>,
 ) -> Result<Replied, Fault>
     requires ready { IsReady V.Versions repo.now lists.old store.old }
-    requires selection { IsOfFormat repo.now.config.now selection.now }
+    requires selection { IsOfFormat repo.now.config.now selection }
     ensures reply { IfOk result (λ replied. IsTrue (V.honest store.old)
         → IsViewReply repo.now
-        (view_selection_response repo.now lists.old (V.lists store.old) selection.now)
+        (view_selection_response repo.now lists.old (V.lists store.old) selection.entry)
         replied lists.new (V.lists store.new)) }
     ensures same { IfOk result (λ replied. AreAsBefore V.Versions replied.replay lists.old store.old
         lists.new store.new) }
@@ -139,16 +139,16 @@ fn reply_by_first<V: Versions>(
     repo: &RepoView<'_>,
     lists: &mut Lists,
     store: &mut V,
-    selection: &Selection<'_>,
+    selection: Selection<'_>,
     first: &[Item],
 ) -> Result<Replied, Fault>
     requires ready { IsReady V.Versions repo.now lists.old store.old }
-    requires selection { IsOfFormat repo.now.config.now selection.now }
+    requires selection { IsOfFormat repo.now.config.now selection }
     requires first { IsTrue (V.honest store.old)
-        → first.now ≡ first_items repo.now (V.lists store.old) selection.now.filter }
+        → first.now ≡ first_items repo.now (V.lists store.old) selection.filter }
     ensures reply { IfOk result (λ replied. IsTrue (V.honest store.old)
         → IsViewReply repo.now
-        (view_selection_response repo.now lists.old (V.lists store.old) selection.now)
+        (view_selection_response repo.now lists.old (V.lists store.old) selection.entry)
         replied lists.new (V.lists store.new)) }
     ensures same { IfOk result (λ replied. AreAsBefore V.Versions replied.replay lists.old store.old
         lists.new store.new) }
@@ -158,7 +158,7 @@ fn reply_by_first<V: Versions>(
     if repo.config.chunk() < first.len() as u64 {
         return open_list(repo, lists, store, selection, first);
     }
-    Ok(Replied::listless(reply_with_all(repo, selection, first)?))
+    Ok(Replied::listless(reply_with_all(repo, &selection, first)?))
 }
 
 /// Replies with the items, which are the whole selection.
@@ -200,15 +200,15 @@ fn open_list<V: Versions>(
     repo: &RepoView<'_>,
     lists: &mut Lists,
     store: &mut V,
-    selection: &Selection<'_>,
+    selection: Selection<'_>,
     first: &[Item],
 ) -> Result<Replied, Fault>
     requires ready { IsReady V.Versions repo.now lists.old store.old }
-    requires selection { IsOfFormat repo.now.config.now selection.now }
-    requires first { IsBeyondPart V.Versions repo.now selection.now.filter first.now store.old }
+    requires selection { IsOfFormat repo.now.config.now selection }
+    requires first { IsBeyondPart V.Versions repo.now selection.filter first.now store.old }
     ensures reply { IfOk result (λ replied. IsTrue (V.honest store.old)
         → IsViewReply repo.now
-        (view_new_list repo.now lists.old (V.lists store.old) selection.now
+        (view_new_list repo.now lists.old (V.lists store.old) selection.entry
         (view_wait repo.now lists.old (V.lists store.old)))
         replied lists.new (V.lists store.new)) }
     ensures same { IfOk result (λ replied. AreAsBefore V.Versions replied.replay lists.old store.old
@@ -229,17 +229,17 @@ fn start_list<V: Versions>(
     repo: &RepoView<'_>,
     lists: &mut Lists,
     store: &mut V,
-    selection: &Selection<'_>,
+    selection: Selection<'_>,
     first: &[Item],
     number: u64,
 ) -> Result<Replied, Fault>
     requires ready { IsReady V.Versions repo.now lists.old store.old }
-    requires selection { IsOfFormat repo.now.config.now selection.now }
-    requires first { IsBeyondPart V.Versions repo.now selection.now.filter first.now store.old }
+    requires selection { IsOfFormat repo.now.config.now selection }
+    requires first { IsBeyondPart V.Versions repo.now selection.filter first.now store.old }
     requires next { number_or_fault (open_fault lists.old repo.now.clock) lists.old.next ≡ Ok number }
     ensures reply { IfOk result (λ replied. IsTrue (V.honest store.old)
         → IsViewReply repo.now
-        (view_new_list repo.now lists.old (V.lists store.old) selection.now None)
+        (view_new_list repo.now lists.old (V.lists store.old) selection.entry None)
         replied lists.new (V.lists store.new)) }
     ensures same { IfOk result (λ replied. AreAsBefore V.Versions replied.replay lists.old store.old
         lists.new store.new) }
@@ -260,35 +260,34 @@ fn start_list<V: Versions>(
 }
 
 /// Opens a list of that many records with that mark, without reading a part: a snapshot of the items is taken for it, and
-/// it gets a copy of the filter.
+/// it gets the filter.
 pub(crate) fn start_unread<V: Versions>(
     repo: &RepoView<'_>,
     lists: &mut Lists,
     store: &mut V,
-    selection: &Selection<'_>,
+    selection: Selection<'_>,
     size: u64,
     mark: Option<Mark>,
 ) -> Result<(), Fault>
     requires ready { IsReady V.Versions repo.now lists.old store.old }
-    requires selection { IsOfFormat repo.now.config.now selection.now }
+    requires selection { IsOfFormat repo.now.config.now selection }
     requires size { IsTrue (V.honest store.old)
-        → size ≡ length (view_selected repo.now (V.lists store.old) selection.now.filter) }
+        → size ≡ length (view_selected repo.now (V.lists store.old) selection.filter) }
     requires mark { IsTrue (V.honest store.old)
-        → is_place_in (view_selected repo.now (V.lists store.old) selection.now.filter) mark ≡ true }
-    ensures begun { OnOk result (HasListBegun V.Versions repo.now selection.now size mark lists.old store.old
+        → is_place_in (view_selected repo.now (V.lists store.old) selection.filter) mark ≡ true }
+    ensures begun { OnOk result (HasListBegun V.Versions repo.now selection.entry size mark lists.old store.old
         lists.new store.new) }
     ensures passed { OnOk result (IsTrue (V.honest store.old)
         → view_open_lists repo.now lists.new (V.lists store.new)
-        ≡ (view_new_list repo.now lists.old (V.lists store.old) selection.now None).1) }
+        ≡ (view_new_list repo.now lists.old (V.lists store.old) selection.entry None).1) }
     ensures left { LeavesTableAndLists V.Versions result repo.now lists.old store.old lists.new store.new }
     ensures store { Spends V.room V.failures V.honest 1 result store.old store.new }
 {
     let end = repo.end();
-    let filter = selection.filter.copy(repo.alloc)?;
     let frozen = store.freeze(repo.index.version())?;
     let list = NewList {
         verb: selection.verb,
-        filter,
+        filter: selection.filter,
         version: frozen,
         size,
         end,

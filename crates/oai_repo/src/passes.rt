@@ -108,24 +108,24 @@ fn pass_list<V: Versions>(
 {
     let asked = selection_of(repo, request)?;
     match asked {
-        Ok(selection) => pass_selection(repo, lists, store, &selection),
+        Ok(selection) => pass_selection(repo, lists, store, selection),
         Err(_) => Ok(()),
     }
 }
 
-/// Replays a list request by its selection: a list is opened if that is longer than a part of a list. No page is read;
-/// it is only counted.
+/// Replays a list request by its selection: a list is opened if that is longer than a part of a list. No record is read;
+/// they are only counted.
 fn pass_selection<V: Versions>(
     repo: &RepoView<'_>,
     lists: &mut Lists,
     store: &mut V,
-    selection: &Selection<'_>,
+    selection: Selection<'_>,
 ) -> Result<(), Fault>
     requires ready { IsReady V.Versions repo.now lists.old store.old }
-    requires selection { IsOfFormat repo.now.config.now selection.now }
+    requires selection { IsOfFormat repo.now.config.now selection }
     ensures passed { OnOk result (IsTrue (V.honest store.old)
         → view_open_lists repo.now lists.new (V.lists store.new)
-        ≡ (view_selection_response repo.now lists.old (V.lists store.old) selection.now).1) }
+        ≡ (view_selection_response repo.now lists.old (V.lists store.old) selection.entry).1) }
     ensures left { LeavesTableAndLists V.Versions result repo.now lists.old store.old lists.new store.new }
     ensures store { Spends V.room V.failures V.honest 1 result store.old store.new }
 {
@@ -138,16 +138,16 @@ fn pass_counted<V: Versions>(
     repo: &RepoView<'_>,
     lists: &mut Lists,
     store: &mut V,
-    selection: &Selection<'_>,
+    selection: Selection<'_>,
     size: u64,
 ) -> Result<(), Fault>
     requires ready { IsReady V.Versions repo.now lists.old store.old }
-    requires selection { IsOfFormat repo.now.config.now selection.now }
+    requires selection { IsOfFormat repo.now.config.now selection }
     requires size { IsTrue (V.honest store.old)
-        → size ≡ length (view_selected repo.now (V.lists store.old) selection.now.filter) }
+        → size ≡ length (view_selected repo.now (V.lists store.old) selection.filter) }
     ensures passed { OnOk result (IsTrue (V.honest store.old)
         → view_open_lists repo.now lists.new (V.lists store.new)
-        ≡ (view_selection_response repo.now lists.old (V.lists store.old) selection.now).1) }
+        ≡ (view_selection_response repo.now lists.old (V.lists store.old) selection.entry).1) }
     ensures left { LeavesTableAndLists V.Versions result repo.now lists.old store.old lists.new store.new }
     ensures store { Spends V.room V.failures V.honest 1 result store.old store.new }
 {

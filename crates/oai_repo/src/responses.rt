@@ -1,9 +1,8 @@
 //! The reply to a request: a document, or how long to wait.
 ghost use Rattle.std.specs.Ordering.{int_eq};
 ghost use Rattle.std.specs.Prelude.{◌≡◌, true, IfOk, if◌then◌else◌};
-ghost use Rattle.oai_answers.specs.Answers.{HasWritableTimes, IsWritableDocument, fails};
-ghost use Rattle.oai_answers.specs.Borrowed.{body_answer, document_of};
-ghost use Rattle.oai_answers.specs.Documents.{document};
+ghost use Rattle.oai_answers.specs.Answers.{HasWritableTimes, fails};
+ghost use Rattle.oai_answers.specs.Borrowed.{body_answer};
 ghost use Rattle.oai_settings.specs.Config.{is_in_years};
 ghost use Rattle.oai_repo.specs.declared.responses.Replay.TheVariants as replay;
 ghost use Rattle.oai_repo.specs.declared.responses.Reply.TheVariants as reply;
@@ -11,9 +10,9 @@ ghost use Rattle.oai_repo.specs.Replays.{at_clock};
 ghost use Rattle.oai_repo.specs.Views.{document_reply};
 
 use crate::view::RepoView;
-use oai_answers::{Body, Doc, ErrorCode, write_document};
+use oai_answers::{Body, Doc, ErrorCode, document};
 use oai_names::Sequence;
-use std::alloc::{AllocError, Global};
+use std::alloc::AllocError;
 
 /// The reply to a request.
 #[derive(Debug, Drop)]
@@ -122,14 +121,4 @@ pub(crate) fn reply_with_error(repo: &RepoView<'_>, code: ErrorCode) -> Result<R
     ensures { IfOk result (λ reply. reply ≡ document_reply repo.now (fails code)) }
 {
     make_reply(repo, Body::Error(code))
-}
-
-/// The bytes of the document.
-fn document(alloc: Global, doc: &Doc<'_>) -> Result<Vec<u8>, AllocError>
-    requires { IsWritableDocument (document_of doc.now) }
-    ensures { IfOk result (λ bytes. bytes.items ≡ document (document_of doc.now)) }
-{
-    let mut bytes = Vec::new(alloc);
-    write_document(alloc, doc, &mut bytes)?;
-    Ok(bytes)
 }

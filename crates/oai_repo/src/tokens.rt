@@ -1,5 +1,5 @@
 //! Resumption tokens (OAI-PMH 2.0, section 3.5): parts of a list, and the token for the next one.
-ghost use Rattle.std.specs.Prelude.{◌≡◌, ◌≢◌, ◌<◌, ◌≤◌, ◌+◌, ◌+ℤ◌, pos, length, slice_get, true, Some, IfOk, IfSome, IsSome, IsTrue, OnSome};
+ghost use Rattle.std.specs.Prelude.{◌≡◌, ◌≢◌, ◌<◌, ◌≤◌, ◌+◌, length, slice_get, true, Some, IfOk, IfSome, IsSome, IsTrue, OnSome};
 ghost use Rattle.std.specs.Option.{option_map};
 ghost use Rattle.oai_time.specs.Stamp.{IsWritable};
 ghost use Rattle.oai_item.specs.Formats.{format_named};
@@ -24,6 +24,7 @@ use oai_catalogue::Versions;
 use oai_item::{Fault, Format, Item};
 use oai_lists::{Lists, Mark, OpenList, Token};
 use oai_names::ListVerb;
+use oai_settings::RepoConfig;
 use std::alloc::AllocError;
 
 /// A part of a list that is too long for one answer, an incomplete list.
@@ -159,12 +160,17 @@ fn reply_from<V: Versions>(
     ensures reads { OnlyReads V.Versions result store.old store.new }
 {
     let items = read_part(store, list, cursor, repo.config.chunk())?;
-    let extent = Extent {
-        size: list.size,
-        cursor,
+    let part = ListPart {
+        number: list.number,
+        end: repo.end(),
+        extent: Extent {
+            size: list.size,
+            cursor,
+        },
     };
-    let next = end_of_part(extent, items.as_slice());
-    let reply = reply_with_items(repo, verb, list, items.as_slice(), cursor)?;
+    let next = end_of_part(part.extent, items.as_slice());
+    let format = format_of(repo.config, list);
+    let reply = reply_with_part(repo, verb, format, items.as_slice(), part)?;
     Ok(AnsweredPart {
         reply,
         next: cursor_behind(list.size, next),
@@ -188,41 +194,13 @@ pub(crate) fn cursor_behind(size: u64, next: u64) -> Option<u64>
     if next < size { Some(next) } else { None }
 }
 
-/// The document with the items as the part of the list that begins after its first `cursor` records.
-fn reply_with_items(
-    repo: &RepoView<'_>,
-    verb: ListVerb,
-    list: &OpenList,
-    items: &[Item],
-    cursor: u64,
-) -> Result<Reply, AllocError>
-    requires dated { is_in_years repo.now.clock ≡ true }
-    requires within { cursor + length items.now ≤ list.now.size }
-    requires known { IsSome (format_named list.now.filter.prefix repo.now.config.now.formats) }
-    requires lists { is_of_records verb ≡ true }
-    ensures { IfOk result (λ reply. reply ≡ document_reply repo.now (listing.part_answer verb
-        (format_named list.now.filter.prefix repo.now.config.now.formats) (record {
-          items = items.now;
-          granularity = repo.now.config.now.granularity;
-          continuation = listing.continued_at list.now.number
-              (repo.now.clock +ℤ pos repo.now.config.now.lifetime)
-              (record { size = list.now.size; cursor = cursor }) (cursor + length items.now);
-        }))) }
+/// The format of the list, which is one of the repository's.
+fn format_of<'a>(config: &'a RepoConfig, list: &OpenList) -> &'a Format
+    requires { IsSome (format_named list.now.filter.prefix config.now.formats) }
+    ensures { format_named list.now.filter.prefix config.now.formats ≡ Some result.now }
 {
-    let part = ListPart {
-        number: list.number,
-        end: repo.end(),
-        extent: Extent {
-            size: list.size,
-            cursor,
-        },
-    };
-    match repo
-        .config
-        .formats()
-        .find_named(list.filter.prefix().as_str())
-    {
-        Some(format) => reply_with_part(repo, verb, format, items, part),
+    match config.formats().find_named(list.filter.prefix().as_str()) {
+        Some(format) => format,
         None => unreachable!(),
     }
 }

@@ -97,11 +97,11 @@ fn arguments_of(ask: &Ask) -> RequestAttributes<'_>
             from: bound_text_in(from),
             until: bound_text_in(until),
             set: text_in(set),
-            ..asked_for(name_of(*verb))
+            ..asked_for(verb_name(*verb))
         },
         Ask::Resume { verb, token } => RequestAttributes {
             token: Some(token.as_str()),
-            ..asked_for(name_of(*verb))
+            ..asked_for(verb_name(*verb))
         },
     }
 }
@@ -117,7 +117,7 @@ fn asked_for(verb: &str) -> RequestAttributes<'_>
 }
 
 /// The name of the verb.
-fn name_of(verb: ListVerb) -> &'static str
+pub fn verb_name(verb: ListVerb) -> &'static str
     ensures { result.now ≡ name_of (verb_of_list verb) }
 {
     match verb {

@@ -57,7 +57,7 @@ is_date granularity seconds = is_in_years seconds && int_eq (stamp_of granularit
 
 -- ---- the limits: their ranges are this repository's own
 
--- records a page
+-- records in a part of a list
 abbrev pub is_chunk : ℕ → Bool
 is_chunk n = is_in_range 1 1_000 n
 

@@ -116,7 +116,7 @@ impl RepoConfig {
         self.granularity
     }
 
-    /// Records a page: 1 to 1,000.
+    /// Records in a part of a list: 1 to 1,000.
     pub fn chunk(&self) -> u64
         ensures chunk { result ≡ self.now.chunk }
         ensures valid { IsConfig self.now }
@@ -124,7 +124,7 @@ impl RepoConfig {
         self.limits.chunk
     }
 
-    /// Seconds that a list stays open after each of its pages: 1 to 31,536,000.
+    /// Seconds that a list stays open after each of its parts: 1 to 31,536,000.
     pub fn lifetime(&self) -> u64
         ensures lifetime { result ≡ self.now.lifetime }
         ensures valid { IsConfig self.now }

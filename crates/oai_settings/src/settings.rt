@@ -53,9 +53,9 @@ pub struct Settings {
     pub deleted: DeletedRecord,
     /// The granularity of the datestamps.
     pub granularity: Granularity,
-    /// Records a page: 1 to 1,000.
+    /// Records in a part of a list: 1 to 1,000.
     pub chunk: Option<u64>,
-    /// Seconds that a list stays open after each of its pages: 1 to 31,536,000.
+    /// Seconds that a list stays open after each of its parts: 1 to 31,536,000.
     pub lifetime: Option<u64>,
     /// Lists that are open at once: 1 to 10,000.
     pub lists: Option<u64>,

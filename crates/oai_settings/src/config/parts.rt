@@ -20,7 +20,7 @@ use std::mem;
 /// The first second of the year 0001.
 const FIRST_DATE: i64 = -62_135_596_800;
 
-/// The maximum number of records a page.
+/// The maximum number of records in a part of a list.
 const MAX_CHUNK: u64 = 1_000;
 
 /// The maximum lifetime of a list in seconds: a year of 365 days.
@@ -35,9 +35,9 @@ const MAX_ITEMS: u64 = 1_000_000;
 /// The limits of a repository.
 #[derive(Clone, Copy, Debug)]
 pub struct Limits {
-    /// Records a page.
+    /// Records in a part of a list.
     pub chunk: u64,
-    /// Seconds that a list stays open after each of its pages.
+    /// Seconds that a list stays open after each of its parts.
     pub lifetime: u64,
     /// Lists that are open at once.
     pub lists: u64,

@@ -1,6 +1,5 @@
-use Rattle.std.proofs.Common.{◌≡◌, [], ◌++◌, ℕ, List, Bor, map, true, ap, ◌∙◌, rules}
+use Rattle.std.proofs.Common.{◌≡◌, [], ◌++◌, ℕ, List, Bor, map, true, ap, refl, ◌∙◌, rules}
 use Rattle.std.proofs.lemmas.List.{append-nil}
-use Rattle.std.specs.Str.{IsUtf8}
 use Rattle.json.specs.Lex.{tokens}
 use Rattle.oai_item.specs.Item.{are_rising}
 use Rattle.oai_deposit.specs.Lines.{are_records_of}
@@ -10,15 +9,13 @@ use Rattle.oai_deposit.proofs.tokens.read_deposit.Goals as goal
 
 pub returns-clause-line : goal.returns-clause-line
 returns-clause-line c =
-    let text = c.in_ok-text.text.now in
+    let line = c.args.line.now in
     let identifier = c.in_ok-texts.texts.identifier.now in
     let sets = map (λ (set : Bor (List ℕ)). set.now) c.in_ok-texts.texts.sets.items in
     let records = c.in_ok-texts.texts.records in
-    let same : text ≡ c.args.line.now = search rules in
-    let utf8 : IsUtf8 c.args.line.now = search rules in
     let rise : are_rising records ≡ true = search rules in
     let formed : are_records_of c.args.forms records ≡ true = search rules in
     let none : c.take_deposit.new.reader ≡ [] = search rules in
-    let are : tokens text ≡ deposit_tokens identifier sets records ++ c.take_deposit.new.reader = search rules in
-    is_deposit_line c.args.forms c.args.line.now text identifier sets records same utf8 rise formed
+    let are : tokens line ≡ deposit_tokens identifier sets records ++ c.take_deposit.new.reader = search rules in
+    is_deposit_line c.args.forms line line identifier sets records refl c.requires rise formed
     (are ∙ ap (λ ts. deposit_tokens identifier sets records ++ ts) none ∙ append-nil (deposit_tokens identifier sets records))

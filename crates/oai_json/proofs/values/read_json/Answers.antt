@@ -1,13 +1,15 @@
-use Rattle.oai_json.proofs.JsonLemmas.{json_in-Some, json_in-None, takes-text}
+use Rattle.std.specs.Prelude.{option_map}
+use Rattle.serde_json.specs.View.{view}
+use Rattle.oai_json.proofs.JsonLemmas.{in_bytes, json_in-None, taken_for}
 use Rattle.oai_json.proofs.values.read_json.Goals as goal
 
 pub returns-in_default-clause-ok : goal.returns-in_default-clause-ok
 returns-in_default-clause-ok c = json_in-None c.args.text.now (λ text. absurd (c.in_default.ensures.cases.0 text))
 
-pub returns-in-Ok-from_str-clause-ok : goal.returns-in-Ok-from_str-clause-ok
-returns-in-Ok-from_str-clause-ok c =
-    json_in-Some c.args.text.now _ c.in-Ok.ensures.cases.1 (rw (← c.in-Ok.ensures.cases.0) c.in-Ok-from_str.ensures.ok)
+pub returns-clause-ok : goal.returns-clause-ok
+returns-clause-ok c =
+    in_bytes (option_map view) c.args.text.now c.in-Ok.text.now c.read_json_text.result c.in-Ok.ensures.cases.0 c.in-Ok.ensures.cases.1 c.read_json_text.ensures.ok
 
-pub returns-in-Err-clause-err : goal.returns-in-Err-clause-err
-returns-in-Err-clause-err c =
-    takes-text c.args.text.now c.in-Ok.text.now c.in-Ok.ensures.cases.0 c.in-Ok.ensures.cases.1 (c.in-Err.ensures.memory (c.is_memory.ensures.0 c.if-is_memory.true))
+pub returns-clause-err : goal.returns-clause-err
+returns-clause-err c =
+    taken_for c.args.text.now c.in-Ok.text.now c.read_json_text.result c.in-Ok.ensures.cases.0 c.in-Ok.ensures.cases.1 c.read_json_text.ensures.err

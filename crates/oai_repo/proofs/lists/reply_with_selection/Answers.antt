@@ -12,7 +12,7 @@ returns-clause-reply g c =
     let V = g.V.Versions in
     let repo = c.args.repo.now in
     let table = c.args.lists.now in
-    let selection = c.args.selection.now in
+    let selection = c.args.selection in
     let lists = c.reply_by_first.new.lists in
     let after = V.lists c.reply_by_first.new.store in
     let from : (replied : Replied) → (IsTrue (V.honest c.part.new.self) → IsViewReply repo (view_selection_response repo table (V.lists c.part.new.self) selection) replied lists after)

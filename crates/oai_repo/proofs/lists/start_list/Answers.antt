@@ -17,7 +17,7 @@ use Rattle.oai_repo.proofs.lists.start_list.Goals as goal
 pub start_unread-requires-clause-mark : goal.start_unread-requires-clause-mark
 start_unread-requires-clause-mark g c = λ honest.
     let repo = c.args.repo.now in
-    let chosen : List ItemState = view_selected repo (g.V.Versions.lists c.args.store.now) c.args.selection.now.filter in
+    let chosen : List ItemState = view_selected repo (g.V.Versions.lists c.args.store.now) c.args.selection.filter in
     let was : IsTrue (g.V.Versions.honest c.args.store.now) = subst (λ (b : Bool). IsTrue b) c.count_beyond.ensures.reads.store.honesty.same honest in
     let behind = rw (c.chunk.ensures.chunk, c.chunk-2.ensures.chunk) at c.mark_behind-mark.ensures in
     rw c.count_beyond.ensures.reads.same (mark_first chosen c.args.first.now repo.config.now.chunk c.mark_behind-mark.result (c.requires.first.items was) c.requires.first.more behind)
@@ -30,7 +30,7 @@ returns-clause-reply g c = λ honest.
     let config = repo.config.now in
     let table = c.args.lists.now in
     let all = g.V.Versions.lists c.args.store.now in
-    let selection = c.args.selection.now in
+    let selection = c.args.selection in
     let chosen : List ItemState = view_selected repo all selection.filter in
     let list : FrozenList = new_list config repo.clock (view_open_lists repo table all) selection.verb selection.format.now.prefix chosen in
     let number = (may_begin config repo.clock table all c.args.number c.requires.ready.kept.limit c.requires.next).1 in

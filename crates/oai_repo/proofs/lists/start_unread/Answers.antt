@@ -25,14 +25,14 @@ returns-in-Ok-clause-passed g c = λ honest.
     let config = repo.config.now in
     let table = c.args.lists.now in
     let all = g.V.Versions.lists c.args.store.now in
-    let selection = c.args.selection.now in
+    let selection = c.args.selection in
     let v = repo.index.now.version in
     let items : List ItemState = list_at all v in
     let chosen : List ItemState = view_selected repo all selection.filter in
     let list : FrozenList = new_list config repo.clock (view_open_lists repo table all) selection.verb selection.format.now.prefix chosen in
     let entry : OpenList = record { number = table.next; verb = selection.verb; filter = selection.filter; version = c.in_ok-frozen.frozen; size = c.args.size; end = c.end-end.result; given = c.chunk.result; mark = c.args.mark } in
     let frozen = rw c.version.ensures at c.in_ok-frozen.ensures.ok in
-    let opened = rw c.in_ok-filter.ensures at (simp to_z-of_z at c.in-Ok.ensures.opened) in
+    let opened = simp to_z-of_z at c.in-Ok.ensures.opened in
     let open_lists = open_lists_opened repo.clock v table all entry items c.requires.ready.stands c.in_ok-frozen.ensures.unused c.end-end.ensures.later in
     let made : List ℕ → ℤ → ℕ → FrozenList = λ prefix end given. record { number = table.next; verb = selection.verb; prefix = prefix; items = selected selection.filter items; end = end; given = given } in
     let same : made selection.filter.prefix c.end-end.result c.chunk.result ≡ list =
@@ -50,11 +50,11 @@ returns-in-Ok-clause-left g c =
     let config = repo.config.now in
     let table = c.args.lists.now in
     let all = g.V.Versions.lists c.args.store.now in
-    let selection = c.args.selection.now in
+    let selection = c.args.selection in
     let v = repo.index.now.version in
     let entry : OpenList = record { number = table.next; verb = selection.verb; filter = selection.filter; version = c.in_ok-frozen.frozen; size = c.args.size; end = c.end-end.result; given = c.chunk.result; mark = c.args.mark } in
     let frozen = rw c.version.ensures at c.in_ok-frozen.ensures.ok in
-    let opened = rw c.in_ok-filter.ensures at (simp to_z-of_z at c.in-Ok.ensures.opened) in
+    let opened = simp to_z-of_z at c.in-Ok.ensures.opened in
     record {
       left = rw (opened.2, frozen) (left_opened config repo.clock v table all entry (list_at all v) c.requires.ready.kept c.requires.ready.stands c.in_ok-frozen.ensures.unused c.end-end.ensures.last c.requires.selection.known refl (room_for_one table repo.clock opened.0));
       agrees = λ honest.
@@ -77,7 +77,7 @@ returns-in-Err-clause-left g c =
     let all = g.V.Versions.lists c.args.store.now in
     let frozen = rw c.version.ensures at c.in_ok-frozen.ensures.ok in
     let same_lists = c.release.ensures.ok ∙ ap (without_list c.in_ok-frozen.frozen) frozen ∙ without_with c.in_ok-frozen.frozen (list_at all repo.index.now.version) all c.in_ok-frozen.ensures.unused in
-    let entry : OpenList = record { number = table.next; verb = c.args.selection.now.verb; filter = c.in_ok-filter.filter; version = c.in_ok-frozen.frozen; size = c.args.size; end = to_z w64 (of_z w64 c.end-end.result); given = c.chunk.result; mark = c.args.mark } in
+    let entry : OpenList = record { number = table.next; verb = c.args.selection.verb; filter = c.args.selection.filter; version = c.in_ok-frozen.frozen; size = c.args.size; end = to_z w64 (of_z w64 c.end-end.result); given = c.chunk.result; mark = c.args.mark } in
     let same_table = opening_failed table (to_z w64 (of_z w64 repo.clock)) entry c.in-Err.field-0 c.open.new.self c.in-Err.ensures.opened in
     record {
       left = rw (same_table, same_lists) (left_same_table repo.config.now repo.clock repo.index.now.version table all c.requires.ready.kept c.requires.ready.stands);
@@ -101,8 +101,8 @@ returns-in-Ok-clause-begun g c =
     let fits_now : FitsSigned w64 c.args.repo.now.clock = years_fit c.args.repo.now.clock c.requires.ready.dated in
     let fits : FitsSigned w64 c.end-end.result = record { sfits = c.end-end.type_inv } in
     let table = c.args.lists.now in
-    let selection = c.args.selection.now in
-    let opened = rw c.in_ok-filter.ensures at (simp to_z-of_z at c.in-Ok.ensures.opened) in
+    let selection = c.args.selection in
+    let opened = simp to_z-of_z at c.in-Ok.ensures.opened in
     let made : ℤ → ℕ → OpenList = λ end given. opened_list table.next (record { verb = selection.verb; filter = selection.filter; version = c.in_ok-frozen.frozen; size = c.args.size; end = end; given = given; mark = c.args.mark }) in
     record {
       version = c.in_ok-frozen.frozen;

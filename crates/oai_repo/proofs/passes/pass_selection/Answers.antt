@@ -9,7 +9,7 @@ returns-clause-passed g c =
     let V = g.V.Versions in
     let repo = c.args.repo.now in
     let table = c.args.lists.now in
-    let selection = c.args.selection.now in
+    let selection = c.args.selection in
     let after = view_open_lists repo c.pass_counted.new.lists (V.lists c.pass_counted.new.store) in
     let from : (IsTrue (V.honest c.count.new.self) → after ≡ (view_selection_response repo table (V.lists c.count.new.self) selection).1)
     → IsTrue (V.honest c.args.store.now) → after ≡ (view_selection_response repo table (V.lists c.args.store.now) selection).1 =

@@ -1,6 +1,6 @@
 use Rattle.oai_deposit.specs.Calls.{Anywhere}
 use Rattle.oai_deposit.proofs.LineLemmas.{line_gives}
-use Rattle.oai_deposit.proofs.lines.read_line.Goals as goal
+use Rattle.oai_deposit.proofs.lines.read_text.Goals as goal
 
 pub returns-in-Some : goal.returns-in-Some
 returns-in-Some c =

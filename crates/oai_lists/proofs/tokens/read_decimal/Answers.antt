@@ -4,7 +4,7 @@ use Rattle.std.specs.Str.{bytes_eq}
 use Rattle.std.proofs.lemmas.Bool.{false≢true}
 use Rattle.std.proofs.lemmas.Fmt.{parse-decimal}
 use Rattle.std.proofs.lemmas.Slice.Eq.{bytes_eq-Decides}
-use Rattle.oai_lists.proofs.tokens.read_number.Goals as goal
+use Rattle.oai_lists.proofs.tokens.read_decimal.Goals as goal
 
 pub returns-in-Ok-clause-only : goal.returns-in-Ok-clause-only
 returns-in-Ok-clause-only c = λ n small e. let read = parse-decimal 64 n c.args.text.now c.parse.result small small e c.parse.ensures.value.0 in cc
