@@ -167,6 +167,20 @@ front_of_all : (front left : List (List ℕ)) → take (length front) (front ++ 
 front_of_all [] left = refl
 front_of_all (one ∷ front) left = ap (λ (xs : List (List ℕ)). one ∷ xs) (front_of_all front left)
 
+-- so many lines were performed
+pub many_done : (honest : Bool) (old new : RepoFields) (before after : VersionLists) (moment : ℤ) (all left lines : List (List ℕ)) (told : List ℕ) (done : ℕ)
+    → AreDone honest old before moment all left told done new after → lines ≡ take done all → done ≡ length lines
+many_done honest old new before after moment all left lines told done so_far are =
+    let front : take done all ≡ so_far.front = ap (λ (n : ℕ). take n all) so_far.many ∙ ap (λ (its : List (List ℕ)). take (length so_far.front) its) so_far.whole ∙ front_of_all so_far.front left in
+    so_far.many ∙ sym (ap (λ (its : List (List ℕ)). length its) (are ∙ front))
+
+-- all of them, if no line is left
+pub many_in_all : (honest : Bool) (old new : RepoFields) (before after : VersionLists) (moment : ℤ) (all left : List (List ℕ)) (told : List ℕ) (done : ℕ)
+    → AreDone honest old before moment all left told done new after → left ≡ [] → done ≡ length all
+many_in_all honest old new before after moment all left told done so_far none =
+    let whole : all ≡ so_far.front = so_far.whole ∙ ap (λ (its : List (List ℕ)). so_far.front ++ its) none ∙ ends_here so_far.front in
+    so_far.many ∙ sym (ap (λ (its : List (List ℕ)). length its) whole)
+
 -- a line failed
 pub line_failed : (honest : Bool) (old new : RepoFields) (before after : VersionLists) (moment : ℤ) (all left : List (List ℕ)) (text told : List ℕ) (done : ℕ) (fault : Fault)
     → AreDone honest old before moment all (text ∷ left) told done new after

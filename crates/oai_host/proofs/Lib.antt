@@ -16,3 +16,6 @@ pub mod PieceLemmas
 pub mod RestoreLemmas
 pub mod ListLemmas
 pub mod SavingLemmas
+pub mod InUseLemmas
+pub mod HostSnapshotLemmas
+pub mod GrownLemmas

@@ -29,7 +29,7 @@ use Rattle.oai_host.proofs.PlaceLemmas.{named_last, names_last, names_set, nothi
 
 -- ---- another one stands for what it stood for
 
-state_same : (other : RepoFields) (before after : VersionLists) → ((n : ℕ) → has (numbers_of other) n ≡ true → after n ≡ before n) → state_of other after ≡ state_of other before
+pub state_same : (other : RepoFields) (before after : VersionLists) → ((n : ℕ) → has (numbers_of other) n ≡ true → after n ≡ before n) → state_of other after ≡ state_of other before
 state_same other before after same =
     let v : ℕ = other.index.version in
     let items : stored_items other.index after ≡ stored_items other.index before =

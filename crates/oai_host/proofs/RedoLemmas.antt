@@ -1,7 +1,7 @@
 -- What an exchange left is what is left again by as much of it as was performed.
-use Rattle.std.proofs.Common.{◌≡◌, ◌∙◌, inl, inr, ℕ, ℤ, Bool, true, false, not, ◌&&◌, ◌==◌, ◌≤◌, IsTrue, List, [], ◌∷◌, length, take, Option, None, Some, Result, Ok, Err, refl, sym, ap, arith}
+use Rattle.std.proofs.Common.{◌≡◌, ◌∙◌, inl, inr, ℕ, ℤ, Bool, true, false, not, ◌&&◌, ◌≤◌, IsTrue, ◌≢◌, List, [], ◌∷◌, length, take, Option, None, Some, Result, Ok, Err, refl, sym, ap, arith}
 use Rattle.std.specs.Prelude.{MatchOption, OnOk}
-use Rattle.std.proofs.lemmas.Bool.{cases_Bool, cond-true, cond-false, eqb-true}
+use Rattle.std.proofs.lemmas.Bool.{cases_Bool, cond-true, cond-false}
 use Rattle.oai_item.specs.declared.faults.Fault.{Fault}
 use Rattle.oai_item.specs.declared.faults.Fault.TheVariants.{Damaged, Device, NoMemory, TooManyPages}
 use Rattle.oai_settings.specs.Config.{RepositoryConfig}
@@ -34,7 +34,7 @@ use Rattle.oai_host.specs.Bodies.{lines_in}
 use Rattle.oai_host.specs.DepositLines.{HasDone}
 use Rattle.oai_host.specs.Hosts.{AreSteps, HostState, IsExchanged, Repository, is_of_none, refused, store_of}
 use Rattle.oai_host.specs.Performed.{HasStopped, IsDone, IsPerformed, StoreState}
-use Rattle.oai_host.specs.Redone.{AreNoLonger, IsLeftBy, IsRedone, arguments_to_replay, lines_to_replay, redone_at, redone_repositories, reply_all}
+use Rattle.oai_host.specs.Redone.{AreNoLonger, IsLeftBy, IsRedone, arguments_to_replay, if_any, lines_to_replay, redone_at, redone_repositories, reply_all}
 use Rattle.oai_host.specs.Tasks.{Task, asking, depositing, refusing, task_of}
 use Rattle.oai_host.proofs.DepositLemmas.{lines_exact}
 use Rattle.oai_host.proofs.RoomLemmas.{fault_told}
@@ -139,9 +139,14 @@ module _ (config : RepositoryConfig) (moment : ℤ) (body : List ℕ) (answer : 
       ∙ ap (λ (text : List ℕ). (done_alone config before moment (depositing (lines_in text))).1) (sym nothing)
   done_left (Some fault) (Some n) lines is count taken = first_left fault n lines is count taken
 
+  -- and nothing, if there are none
+  left_if_any : (its : List (List ℕ)) (lines : List ℕ) → lines_in lines ≡ its → after ≡ (done_alone config before moment (depositing (lines_in lines))).1
+      → IsLeftBy config moment Deposits (if_any its lines) before after
+  left_if_any [] lines is left = left ∙ ap (λ (its : List (List ℕ)). (done_alone config before moment (depositing its)).1) is
+  left_if_any (line ∷ its) lines is left = left
+
   pub lines_left : (lines : List ℕ) → HasDone body answer lines → IsLeftBy config moment Deposits (lines_to_replay lines) before after
-  lines_left [] done = done_left answer.fault answer.done [] refl refl done
-  lines_left (b ∷ lines) done = done_left answer.fault answer.done (b ∷ lines) refl refl done
+  lines_left lines done = left_if_any (lines_in lines) lines refl (done_left answer.fault answer.done lines refl refl done)
 
 -- a deposit that failed, and its first lines
 pub failed_lines : (body lines : List ℕ) (fault : Fault) (n : ℕ) → lines_in lines ≡ take n (lines_in body) → HasDone body (failed fault (Some n)) lines
@@ -150,17 +155,22 @@ failed_lines body lines TooManyPages n is = is
 failed_lines body lines Device n is = is
 failed_lines body lines Damaged n is = is
 
+-- lines that are there are to be replayed
+pub any_lines : (its : List (List ℕ)) (lines : List ℕ) (count : ℕ) → count ≡ length its → count ≢ 0 → Some lines ≡ if_any its lines
+any_lines [] lines count many some = absurd (some many)
+any_lines (line ∷ its) lines count many some = refl
+
+-- and none are not
+pub none_lines : (its : List (List ℕ)) (lines : List ℕ) (count : ℕ) → count ≡ length its → count ≡ 0 → None ≡ if_any its lines
+none_lines [] lines count many none = refl
+none_lines (line ∷ its) lines count many none = absurd (omega (arith, many, none))
+
+within_if_any : (its : List (List ℕ)) (body lines : List ℕ) → length lines ≤ length body → AreNoLonger body (if_any its lines)
+within_if_any [] body lines within = tt
+within_if_any (line ∷ its) body lines within = within
+
 pub lines_within : (body lines : List ℕ) → length lines ≤ length body → AreNoLonger body (lines_to_replay lines)
-lines_within body [] within = tt
-lines_within body (b ∷ lines) within = within
-
-pub no_lines : (lines : List ℕ) → (length lines == 0) ≡ true → None ≡ lines_to_replay lines
-no_lines [] none = refl
-no_lines (b ∷ lines) none = absurd (omega (arith, eqb-true _ 0 none))
-
-pub some_lines : (lines : List ℕ) → (length lines == 0) ≡ false → Some lines ≡ lines_to_replay lines
-some_lines [] some = absurd cc
-some_lines (b ∷ lines) some = refl
+lines_within body lines within = within_if_any (lines_in lines) body lines within
 
 -- ---- what of a request is to be replayed
 

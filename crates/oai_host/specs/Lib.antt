@@ -16,4 +16,5 @@ pub mod Places
 pub mod Saved
 pub mod Emptied
 pub mod Saving
+pub mod HostSnapshots
 pub mod ListReadings

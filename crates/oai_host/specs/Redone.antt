@@ -63,10 +63,14 @@ arguments_to_replay Nothing arguments = None
 arguments_to_replay Tick arguments = Some []
 arguments_to_replay Request arguments = Some arguments
 
--- the lines of a deposit that were performed, if any were
+-- the body, if it has any of these lines
+abbrev pub if_any : List (List ℕ) → List ℕ → Option (List ℕ)
+if_any [] body = None
+if_any (line ∷ lines) body = Some body
+
+-- the lines of a deposit that were performed, if any were; blank ones are none
 abbrev pub lines_to_replay : List ℕ → Option (List ℕ)
-lines_to_replay [] = None
-lines_to_replay (b ∷ lines) = Some (b ∷ lines)
+lines_to_replay body = if_any (lines_in body) body
 
 -- they are no longer
 abbrev pub AreNoLonger : List ℕ → Option (List ℕ) → Type 0

@@ -25,20 +25,22 @@ use std::alloc::Global;
 /// The maximum length in bytes of the line that answers a line, with its line end.
 const MAX_LINE: usize = 40;
 
-/// Performs the lines of a deposit at the moment, in seconds from 1970 on, one after the other, and returns their answer
-/// and the bytes of the body that were performed; a fault ends them. Space for the answer to a line is reserved before
-/// the line is performed, so a line that was performed is always answered and counted.
+/// Performs the lines of a deposit at the moment, in seconds from 1970 on, one after the other, and returns their
+/// answer, the bytes of the body that were performed, and how many lines these are; a fault ends them. Space for the
+/// answer to a line is reserved before the line is performed, so a line that was performed is always answered and
+/// counted.
 pub(crate) fn perform_lines<'a, V: Versions>(
     alloc: Global,
     repo: &mut Repo,
     store: &mut V,
     moment: i64,
     body: &'a [u8],
-) -> (Answer, &'a [u8])
+) -> (Answer, &'a [u8], u64)
     requires owns { Owns (V.honest store.old) repo.old (V.lists store.old) }
     ensures performed { PerformsIn V.Versions moment (depositing (lines_in body.now)) result.0 repo.old
         store.old repo.new store.new }
     ensures lines { HasDone body.now result.0 result.1.now }
+    ensures count { result.2 ≡ length (lines_in result.1.now) }
     ensures size { length result.1.now ≤ length body.now }
 {
     let mut rest = body;
@@ -49,12 +51,12 @@ pub(crate) fn perform_lines<'a, V: Versions>(
             Ok(()) => done += 1,
             Err(fault) => {
                 let answer = Answer::of_fault(alloc, fault, Some(done));
-                return (answer, &body[..body.len() - rest.len()]);
+                return (answer, &body[..body.len() - rest.len()], done);
             }
         }
         rest = behind;
     }
-    (Answer::with_body(Sequence::new(told)), body)
+    (Answer::with_body(Sequence::new(told)), body, done)
 }
 
 /// Performs a line and writes its answer, for which space is reserved first. A fault leaves everything unchanged.

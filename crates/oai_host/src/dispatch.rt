@@ -144,9 +144,9 @@ fn perform_deposit<'a, V: Versions>(
         (state_of repo.new (V.lists store.new)) }
     ensures size { AreNoLonger body.now (option_copied result.bytes) }
 {
-    let (answer, lines) = perform_lines(alloc, repo, store, moment, body);
+    let (answer, lines, count) = perform_lines(alloc, repo, store, moment, body);
     Recorded {
         answer,
-        bytes: lines_to_replay(lines),
+        bytes: lines_to_replay(lines, count),
     }
 }

@@ -5,6 +5,7 @@
 mod deposits;
 mod dispatch;
 mod host;
+mod host_snapshots;
 mod laws;
 mod list_parts;
 mod records;
@@ -15,6 +16,6 @@ mod saves;
 mod saving;
 
 pub use host::Host;
-pub use laws::failures_law;
+pub use laws::{failures_law, host_snapshots_law};
 pub use oai_config::{Config, ReadFault};
 pub use oai_http::{Answer, Call, Exchange, Status, Target};

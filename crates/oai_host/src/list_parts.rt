@@ -1,5 +1,5 @@
 //! An open list as a part of a saved state: how it is spelled, and which list bytes spell.
-ghost use Rattle.oai_args.specs.Verbs.{is_of_records, name_of, verb_of_list};
+ghost use Rattle.oai_args.specs.Verbs.{is_of_records};
 ghost use Rattle.oai_host.specs.ListReadings.{CanBeWords, IsListReading, IsPieceReading, IsPrefix, IsGivenSet, IsSetSpec, list_of_words};
 ghost use Rattle.oai_host.specs.Saved as spec;
 ghost use Rattle.oai_host.specs.Saving.{CanBeFilter};
@@ -13,7 +13,7 @@ use oai_bytes::{read_moment, read_number, split_at_space};
 use oai_catalogue::Filter;
 use oai_item::Fault;
 use oai_names::{ListVerb, NameFault, Prefix, Sequence, SetSpec};
-use oai_repo::SavedList;
+use oai_repo::{SavedList, verb_name};
 use std::alloc::{AllocError, Global};
 use std::marker::Model;
 
@@ -126,17 +126,6 @@ fn put_word(word: &[u8], out: &mut Vec<u8>) -> Result<(), AllocError>
     Ok(())
 }
 
-/// The name of the verb.
-fn verb_name(verb: ListVerb) -> &'static str
-    ensures { result.now ≡ name_of (verb_of_list verb) }
-{
-    match verb {
-        ListVerb::Identifiers => "ListIdentifiers",
-        ListVerb::Records => "ListRecords",
-        ListVerb::Sets => "ListSets",
-    }
-}
-
 /// The list that the bytes spell. The errors: `Damaged` if they spell none, and `NoMemory`.
 pub(crate) fn list_in(alloc: Global, bytes: &[u8]) -> Result<ReadList, Fault>
     ensures { IsListReading bytes.now result }
@@ -187,10 +176,10 @@ fn verb_in(name: &[u8]) -> Option<ListVerb>
     ensures verb { result ≡ spec.verb_in name.now }
     ensures items { IfSome result (λ verb. is_of_records verb ≡ true) }
 {
-    if name == b"ListRecords".as_slice() {
+    if name == verb_name(ListVerb::Records).as_bytes() {
         return Some(ListVerb::Records);
     }
-    if name == b"ListIdentifiers".as_slice() {
+    if name == verb_name(ListVerb::Identifiers).as_bytes() {
         return Some(ListVerb::Identifiers);
     }
     None

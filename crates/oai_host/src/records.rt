@@ -1,11 +1,12 @@
 //! What of an exchange has to be replayed, and its replay.
 ghost use Rattle.oai_host.specs.Answers.{failure_in};
+ghost use Rattle.oai_host.specs.Bodies.{lines_in};
 ghost use Rattle.oai_host.specs.Exchanged.{RedoesIn};
 ghost use Rattle.oai_host.specs.Redone.{arguments_to_replay, lines_to_replay, task_again};
 ghost use Rattle.oai_host.specs.Tasks as spec;
 ghost use Rattle.oai_repo.specs.Fields.{Owns};
 ghost use Rattle.std.specs.Option.{option_copied};
-ghost use Rattle.std.specs.Prelude.{◌≡◌};
+ghost use Rattle.std.specs.Prelude.{length, ◌≡◌};
 
 use crate::deposits::perform_lines;
 use oai_catalogue::Versions;
@@ -34,11 +35,13 @@ pub(crate) fn arguments_to_replay(replay: Replay, arguments: &[u8]) -> Option<&[
     }
 }
 
-/// The lines of a deposit that have to be replayed: those that were performed, if any were.
-pub(crate) fn lines_to_replay(lines: &[u8]) -> Option<&[u8]>
+/// The lines of a deposit that have to be replayed: those that were performed, so many, if any were. Blank lines are
+/// none.
+pub(crate) fn lines_to_replay(lines: &[u8], count: u64) -> Option<&[u8]>
+    requires { count ≡ length (lines_in lines.now) }
     ensures { option_copied result ≡ lines_to_replay lines.now }
 {
-    if lines.is_empty() { None } else { Some(lines) }
+    if count == 0 { None } else { Some(lines) }
 }
 
 /// Replays at the repository, at the moment, in seconds from 1970 on, what these bytes performed there: a request with
@@ -58,7 +61,7 @@ pub(crate) fn redo<V: Versions>(
     match endpoint {
         Endpoint::Requests => pass_request(repo, store, moment, bytes),
         Endpoint::Deposits => {
-            let (answer, _) = perform_lines(alloc, repo, store, moment, bytes);
+            let (answer, _, _) = perform_lines(alloc, repo, store, moment, bytes);
             fault_of(&answer)
         }
     }

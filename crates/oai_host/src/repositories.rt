@@ -4,6 +4,7 @@ ghost use Rattle.oai_device.specs.Device.{CountsFailures};
 ghost use Rattle.oai_item.specs.declared.faults.Fault.TheVariants as fault;
 ghost use Rattle.oai_host.specs.Answers.{failure_in};
 ghost use Rattle.oai_host.specs.Exchanged.{store_state};
+ghost use Rattle.oai_host.specs.HostSnapshots.{HasChangedAt};
 ghost use Rattle.oai_host.specs.Hosts.{AreSteps, begun};
 ghost use Rattle.oai_host.specs.NamedRepos.{AreNamedRepos, place_in, repo_names, repositories_of};
 ghost use Rattle.oai_host.specs.Places.{IsRepoPlace};
@@ -152,6 +153,7 @@ impl Repositories {
             (repositories_of self.old (V.lists store.old))
             (repositories_of self.new (V.lists store.new)) }
         ensures size { IsNoLonger exchange.now (option_copied result.bytes) }
+        ensures changed { HasChangedAt place self.old (V.lists store.old) self.new (V.lists store.new) }
         ensures repos { AreNamedRepos (V.honest store.new) self.new (V.lists store.new) }
         ensures device { CountsFailures fault.Device (failure_in result.answer) (V.failures store.old) (V.failures store.new) }
         ensures honesty { IsHonest (failure_in result.answer) (V.honest store.old) (V.honest store.new) }
@@ -175,6 +177,7 @@ impl Repositories {
             (store_state V.Versions store.old) (store_state V.Versions store.new)
             (repositories_of self.old (V.lists store.old))
             (repositories_of self.new (V.lists store.new)) }
+        ensures changed { HasChangedAt place self.old (V.lists store.old) self.new (V.lists store.new) }
         ensures repos { AreNamedRepos (V.honest store.new) self.new (V.lists store.new) }
     {
         let own = &mut self.repos[place].repo;
@@ -202,6 +205,8 @@ impl Repositories {
             ≡ restored_in (repositories_of self.old (V.lists store.old)) (as_part part.now)) }
         ensures err { OnErr result (repositories_of self.new (V.lists store.new)
             ≡ repositories_of self.old (V.lists store.old)) }
+        ensures changed { IsTrue (V.honest store.old)
+            → HasChangedAt place self.old (V.lists store.old) self.new (V.lists store.new) }
         ensures repos { AreNamedRepos (V.honest store.new) self.new (V.lists store.new) }
         ensures honesty { V.honest store.new ≡ V.honest store.old }
     {

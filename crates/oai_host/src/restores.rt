@@ -10,9 +10,9 @@ ghost use Rattle.oai_repo.specs.Fields.{Owns};
 ghost use Rattle.std.specs.Prelude.{Err, IfOk, IfSome, decimal, true, ◌++◌, ◌∷◌, ◌≡◌};
 
 use crate::list_parts::list_in;
-use itoa::Buffer;
 use oai_catalogue::Versions;
 use oai_item::{DecodeFault, Fault, Forms, Item};
+use oai_lists::read_decimal;
 use oai_names::{NameFault, SetSpec};
 use oai_replay::{Part, PartKind};
 use oai_repo::{Repo, SavedPart};
@@ -128,13 +128,9 @@ fn restore_gone<V: Versions>(repo: &mut Repo, store: &mut V, part: &Part<'_>) ->
 fn number_in(bytes: &[u8]) -> Option<u64>
     ensures { IfSome result (λ n. bytes.now ≡ decimal n) }
 {
-    let text = str::from_utf8(bytes).ok()?;
-    let n = text.parse::<u64>().ok()?;
-    let mut digits = Buffer::new();
-    if digits.format(n) == text {
-        Some(n)
-    } else {
-        None
+    match str::from_utf8(bytes) {
+        Ok(text) => read_decimal(text),
+        Err(_) => None,
     }
 }
 

@@ -222,10 +222,8 @@ fn spelled_item(alloc: Global, item: &Item) -> Result<Sequence<u8>, Fault>
         return Err(Fault::Damaged);
     };
     let mut bytes = vec![in alloc; 0; size]?;
-    match item.encode_into(&mut bytes) {
-        Ok(_) => Ok(Sequence::new(bytes)),
-        Err(_) => Err(Fault::Damaged),
-    }
+    item.encode_measured(&mut bytes);
+    Ok(Sequence::new(bytes))
 }
 
 /// Passes a part.

@@ -47,6 +47,8 @@ pub(crate) fn save_next<V: Versions, S: Sink>(
     ensures further { IfOk result (λ more. more ≡ true → IsTrue (V.honest store.old)
         → HasHandedOutMore snapshot.old snapshot.new) }
     ensures end { IfOk result (λ more. not more ≡ has_nothing_left snapshot.old) }
+    ensures clock { snapshot.new.clock ≡ snapshot.old.clock }
+    ensures sets { snapshot.new.sets ≡ snapshot.old.sets }
     ensures leaves { LeavesSnapshot (V.honest store.old) snapshot.old (V.lists store.old) snapshot.new
         (V.lists store.new) }
     ensures honesty { V.honest store.new ≡ V.honest store.old }

@@ -80,6 +80,13 @@ impl Snapshot {
         })
     }
 
+    /// The clock of the repository when the snapshot was taken, in seconds from 1970 on.
+    pub fn clock(&self) -> i64
+        ensures { result ≡ self.now.clock }
+    {
+        self.clock
+    }
+
     /// Hands out the next batch, or None if nothing is left. At most `most` items of each of two versions are read. Where
     /// a version is now handed out whole, the one before it is released; the last one is released by `release`. A batch
     /// of items may be empty. What grows is allocated from `alloc`. Any fault but `TooManyPages` may come; after it
@@ -97,6 +104,8 @@ impl Snapshot {
         ensures further { IfOk result (λ batch. IfSome batch (λ _. IsTrue (V.honest store.old)
             → HasHandedOutMore self.old self.new)) }
         ensures none { IfOk result (λ batch. is_none batch ≡ has_nothing_left self.old) }
+        ensures clock { self.new.clock ≡ self.old.clock }
+        ensures sets { self.new.sets ≡ self.old.sets }
         ensures leaves { LeavesSnapshot (V.honest store.old) self.old (V.lists store.old) self.new
             (V.lists store.new) }
         ensures err { OnErr result ((self.new ≡ self.old) × (V.lists store.new ≡ V.lists store.old)) }
@@ -180,6 +189,8 @@ impl Snapshot {
         requires first { Some version ≡ option_map (λ s. s.version) (slice_get self.old.versions 0) }
         ensures changes { IfOk result (λ batch. IsTrue (V.honest store.old)
             → HandsOutChange (V.lists store.old) self.old batch self.new) }
+        ensures clock { self.new.clock ≡ self.old.clock }
+        ensures sets { self.new.sets ≡ self.old.sets }
         ensures leaves { LeavesSnapshot (V.honest store.old) self.old (V.lists store.old) self.new
             (V.lists store.new) }
         ensures err { OnErr result ((self.new ≡ self.old) × (V.lists store.new ≡ V.lists store.old)) }

@@ -8,7 +8,7 @@ use Rattle.oai_settings.specs.Config.{RepositoryConfig}
 use Rattle.oai_host.specs.Bodies.{lines_in}
 use Rattle.oai_host.specs.Performed.{IsLinePerformed}
 use Rattle.oai_host.specs.Room.{room_for_line}
-use Rattle.oai_host.proofs.DepositLemmas.{all_done, kept_on, line_failed, one_done}
+use Rattle.oai_host.proofs.DepositLemmas.{all_done, kept_on, line_failed, many_done, many_in_all, one_done}
 use Rattle.oai_host.proofs.FaultLemmas.{counted_since, honest_since}
 use Rattle.oai_host.proofs.LineLemmas.{behind_on, behind_taken}
 use Rattle.oai_host.proofs.RedoLemmas.{failed_lines}
@@ -82,6 +82,21 @@ returns-in-Err-clause-performed g c =
 pub returns-in-Err-clause-lines : goal.returns-in-Err-clause-lines
 returns-in-Err-clause-lines g c =
     rw c.of_fault-answer.ensures (failed_lines c.args.body.now _ c.in-Err.fault c.loop-text.done (behind_taken c.args.body.now c.loop-text.rest.now c.loop-text.done c.loop-text.invariant.behind))
+
+pub returns-in-Err-clause-count : goal.returns-in-Err-clause-count
+returns-in-Err-clause-count g c =
+    let V = g.V.Versions in
+    let fits : FitsSigned w64 c.args.moment = c.ranges.moment in
+    many_done (V.honest c.args.store.now) c.args.repo.now c.loop-text.repo (V.lists c.args.store.now) (V.lists c.loop-text.store) c.args.moment (lines_in c.args.body.now) (lines_in c.loop-text.rest.now) _ c.loop-text.told.items c.loop-text.done
+    (simp to_z-of_z at c.loop-text.invariant.lines) (behind_taken c.args.body.now c.loop-text.rest.now c.loop-text.done c.loop-text.invariant.behind)
+
+pub returns-clause-count : goal.returns-clause-count
+returns-clause-count g c =
+    let V = g.V.Versions in
+    let fits : FitsSigned w64 c.args.moment = c.ranges.moment in
+    let none : lines_in c.loop-text.rest.now ≡ [] = rw c.in_default.is at c.next_line.ensures.line in
+    many_in_all (V.honest c.args.store.now) c.args.repo.now c.loop-text.repo (V.lists c.args.store.now) (V.lists c.loop-text.store) c.args.moment (lines_in c.args.body.now) (lines_in c.loop-text.rest.now) c.loop-text.told.items c.loop-text.done
+    (simp to_z-of_z at c.loop-text.invariant.lines) none
 
 pub returns-clause-lines : goal.returns-clause-lines
 returns-clause-lines g c = rw c.with_body.ensures refl

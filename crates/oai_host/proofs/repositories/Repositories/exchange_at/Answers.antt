@@ -5,6 +5,7 @@ use Rattle.std.proofs.lemmas.Int.{to_z-of_z}
 use Rattle.std.proofs.lemmas.Option.{get_or_from_slice_get}
 use Rattle.oai_http.specs.Exchanges.{call_of}
 use Rattle.oai_host.specs.Exchanged.{store_state}
+use Rattle.oai_host.proofs.GrownLemmas.{changed_at, performed_adds}
 use Rattle.oai_host.proofs.NamedRepoLemmas.{held_at, repos_set, stands_at, steps_set}
 use Rattle.oai_host.proofs.AgainLemmas.{set_left_by}
 use Rattle.oai_host.proofs.PlaceLemmas.{named_at, names_set}
@@ -81,3 +82,15 @@ returns-clause-left g c = λ name path honest.
     rw (← c.self.view_is, one, same)
     (set_left_by call c.perform_exchange.result.answer (store_state V before) (store_state V after) c.args.endpoint p.one c.perform_exchange.new.repo (V.lists before) (V.lists after) p.path
     named inside c.args.place there repos.named.distinct steps kept.config c.args.moment (option_copied c.perform_exchange.result.bytes) (left honest))
+
+pub returns-clause-changed : goal.returns-clause-changed
+returns-clause-changed g c =
+    let V = g.V.Versions in
+    let p = c.requires.place in
+    let inside = c.self.inside.repos.items in
+    let there = rw (← c.self.view_is) at p.there in
+    let one : c.index_mut.result.now ≡ p.one = c.index_mut.ensures.value ∙ get_or_from_slice_get inside c.args.place p.one c.index_mut.result.now there in
+    let kept = rw one at c.perform_exchange.ensures.performed.kept in
+    let performed = rw one at c.perform_exchange.ensures.performed.performed in
+    rw (← c.self.view_is, one)
+    (changed_at inside c.args.place p.one c.perform_exchange.new.repo (V.lists c.args.store.now) (V.lists c.perform_exchange.new.store) there (performed_adds _ _ _ _ _ _ _ _ performed) kept.others)

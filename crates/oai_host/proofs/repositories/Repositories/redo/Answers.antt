@@ -3,6 +3,7 @@ use Rattle.std.proofs.Common.{◌≡◌, ◌∙◌, FitsSigned, w64}
 use Rattle.std.proofs.lemmas.Int.{to_z-of_z}
 use Rattle.std.proofs.lemmas.Option.{get_or_from_slice_get}
 use Rattle.oai_host.proofs.AgainLemmas.{redone_set}
+use Rattle.oai_host.proofs.GrownLemmas.{changed_at, performed_adds}
 use Rattle.oai_host.proofs.NamedRepoLemmas.{held_at, repos_set, stands_at}
 use Rattle.oai_host.proofs.PlaceLemmas.{names_set, place_there}
 use Rattle.oai_host.proofs.repositories.Repositories.redo.Goals as goal
@@ -55,3 +56,15 @@ returns-clause-repos g c =
     let repos = rw (← c.self.view_is) at c.requires.repos in
     let kept = rw one at c.redo.ensures.2.kept in
     rw one (repos_set (V.honest c.args.store.now) (V.honest c.redo.new.store) inside c.args.place p.0 c.redo.new.repo (V.lists c.args.store.now) (V.lists c.redo.new.store) c.redo.ensures.2.performed.honesty.same p.1 repos kept)
+
+pub returns-clause-changed : goal.returns-clause-changed
+returns-clause-changed g c =
+    let V = g.V.Versions in
+    let inside = c.self.inside.repos.items in
+    let found = rw (← c.self.view_is) at c.requires.place in
+    let p = place_there inside c.args.performed.now.name.now c.args.place found in
+    let one : c.index_mut.result.now ≡ p.0 = c.index_mut.ensures.value ∙ get_or_from_slice_get inside c.args.place p.0 c.index_mut.result.now p.1 in
+    let kept = rw one at c.redo.ensures.2.kept in
+    let performed = rw one at c.redo.ensures.2.performed in
+    rw (← c.self.view_is, one)
+    (changed_at inside c.args.place p.0 c.redo.new.repo (V.lists c.args.store.now) (V.lists c.redo.new.store) p.1 (performed_adds _ _ _ _ _ _ _ _ performed) kept.others)

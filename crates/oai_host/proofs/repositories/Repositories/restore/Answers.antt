@@ -2,6 +2,8 @@
 use Rattle.std.proofs.Common.{◌≡◌, ◌∙◌}
 use Rattle.std.proofs.lemmas.Option.{get_or_from_slice_get}
 use Rattle.oai_replay.specs.Parts.{as_part}
+use Rattle.oai_host.specs.Saved.{part_in}
+use Rattle.oai_host.proofs.GrownLemmas.{changed_at, restored_adds}
 use Rattle.oai_host.proofs.NamedRepoLemmas.{held_at, repos_set, stands_at}
 use Rattle.oai_host.proofs.PlaceLemmas.{names_set, place_there}
 use Rattle.oai_host.proofs.RestoreLemmas.{restored_err, restored_ok}
@@ -62,3 +64,15 @@ returns-clause-repos g c =
     let repos = rw (← c.self.view_is) at c.requires.repos in
     let restored = rw one at c.restore.ensures in
     rw one (repos_set (V.honest c.args.store.now) (V.honest c.restore.new.store) inside c.args.place p.0 c.restore.new.repo (V.lists c.args.store.now) (V.lists c.restore.new.store) restored.honesty p.1 repos restored.kept)
+
+pub returns-clause-changed : goal.returns-clause-changed
+returns-clause-changed g c = λ honest.
+    let V = g.V.Versions in
+    let inside = c.self.inside.repos.items in
+    let found = rw (← c.self.view_is) at c.requires.place in
+    let p = place_there inside c.args.part.now.name.now c.args.place found in
+    let one : c.index_mut.result.now ≡ p.0 = c.index_mut.ensures.value ∙ get_or_from_slice_get inside c.args.place p.0 c.index_mut.result.now p.1 in
+    let restored = rw one at c.restore.ensures in
+    rw (← c.self.view_is, one)
+    (changed_at inside c.args.place p.0 c.restore.new.repo (V.lists c.args.store.now) (V.lists c.restore.new.store) p.1
+    (restored_adds (V.honest c.args.store.now) (part_in (as_part c.args.part.now)) c.restore.result p.0.repo (V.lists c.args.store.now) c.restore.new.repo (V.lists c.restore.new.store) honest restored.restored restored.err) restored.kept.others)
