@@ -4,11 +4,18 @@
 //! prints, and each line of an answer begins with the name of its script.
 #![tactic(auto)]
 
+mod answers;
+mod counted;
 mod hosts;
+mod parts;
 mod repositories;
+mod restored;
+mod runs;
 mod scripts;
 mod traces;
 
+use answers::write_lines;
+use counted::counts_over;
 use hosts::answers_over;
 use repositories::answers_of;
 use scripts::{Script, Way};
@@ -16,7 +23,9 @@ use std::alloc::{AllocError, Global};
 use std::fs;
 use std::io::{self, BufWriter, Write};
 use std::rt::Files;
+use tests_fixtures::unasked;
 use tests_samples::with_repeats;
+use traces::connect;
 
 fn main(rt: HostRuntime) -> io::Result<()> {
     for path in [
@@ -31,6 +40,13 @@ fn main(rt: HostRuntime) -> io::Result<()> {
         "elements.txt",
         "traces.txt",
         "archives.txt",
+        "many.txt",
+        "pages.txt",
+        "runs.txt",
+        "saved.txt",
+        "restored.txt",
+        "connections.txt",
+        "lines.txt",
     ] {
         perform_file(&rt, path)?;
     }
@@ -86,17 +102,8 @@ fn perform_script<W: Write>(alloc: Global, script: Script<'_>, out: &mut W) -> i
 fn perform(alloc: Global, script: Script<'_>, store: &str, out: &mut Vec<u8>) -> io::Result<()> {
     match script.way {
         Way::Host(way) => answers_over(alloc, way, script.lines, store, out),
+        Way::Tell => connect(alloc, unasked(alloc), script.lines, out),
+        Way::Counted => counts_over(alloc, script.lines, store, out),
         Way::Repository(way) => answers_of(alloc, way, script.lines, store, out),
     }
-}
-
-/// Writes each line of the answers behind the name.
-fn write_lines<W: Write>(name: &str, answers: &[u8], out: &mut W) -> io::Result<()> {
-    let answers = answers.strip_suffix(b"\n").unwrap_or(answers);
-    for line in answers.split(|byte| *byte == b'\n') {
-        write!(out, "{name}: ")?;
-        out.write_all(line)?;
-        out.write_all(b"\n")?;
-    }
-    Ok(())
 }

@@ -1,9 +1,13 @@
-//! Repositories without a host, each alone in its store, and what they answer: lines of a moment and of a deposit line, a query,
-//! `clock` or `advance`. What fails for the device is made again.
+//! Repositories without a host, each alone in its store, and what they answer: lines of a moment and of a deposit line,
+//! a query, `clock` or `advance`. What fails for the device is made again.
+use crate::restored::restore_line;
 use crate::scripts::RepositoryWay;
 use oai_catalogue::{PlainVersions, Versions};
 use oai_deposit::{Change, LineFault, read_line};
+use oai_device::MemoryDevice;
 use oai_item::{DeletedRecord, Fault, Forms};
+use oai_paged::PagedVersions;
+use oai_pool::Pool;
 use oai_repo::{Refusal, Reply};
 use oai_settings::RepoConfig;
 use std::alloc::Global;
@@ -11,9 +15,9 @@ use std::io::{self, Write};
 use tests_fixtures::{Stocked, Told, archive_a, archive_b, archive_c, settings_of};
 use tests_stores::{Want, cramped, failing, lying};
 
-/// Adds what the lines are answered by a new repository of that name, with room for two open lists, over lists, or over the store
-/// that stands behind a `/`, in which a number stands behind a `:`: that of the call which fails or finds no room, or of how many
-/// answers are lies.
+/// Adds what the lines are answered by a new repository of that name, with room for two open lists where its name says
+/// no other number, over lists, or over the store that stands behind a `/`, in which a number stands behind a `:`: that
+/// of the call which fails or finds no room, or of how many answers are lies.
 pub(crate) fn answers_of(
     alloc: Global,
     way: RepositoryWay,
@@ -38,12 +42,46 @@ pub(crate) fn answers_of(
         }
         "losing" => over(alloc, told, lying(lists, 0, number), way, lines, out),
         "losing-after-two" => over(alloc, told, lying(lists, 2, number), way, lines, out),
+        "pages" => over_pages(alloc, told, way, lines, out),
         _ => over(alloc, told, lists, way, lines, out),
+    }
+}
+
+/// The same over pages in memory, behind a cache of eight.
+fn over_pages(
+    alloc: Global,
+    told: Told<'_>,
+    way: RepositoryWay,
+    lines: &str,
+    out: &mut Vec<u8>,
+) -> io::Result<()> {
+    match Pool::new(alloc, MemoryDevice::new(alloc), 8) {
+        Ok(pool) => over(
+            alloc,
+            told,
+            PagedVersions::new(alloc, pool),
+            way,
+            lines,
+            out,
+        ),
+        Err(_) => out.write_all(b"no pool\n"),
     }
 }
 
 /// The settings of the repository.
 fn repository_named(name: &str) -> Told<'static> {
+    match name {
+        "a-of-one-list" => archive_a(),
+        "b-of-one-list" => archive_b(),
+        _ => Told {
+            lists: Some(2),
+            ..with_any_lists(name)
+        },
+    }
+}
+
+/// Its settings, whatever number of lists it may have open.
+fn with_any_lists(name: &str) -> Told<'static> {
     match name {
         "a" => archive_a(),
         "b-of-two" => Told {
@@ -85,15 +123,11 @@ fn over<V: Versions + Drop>(
 }
 
 fn stocked<V: Versions + Drop>(alloc: Global, told: Told<'_>, store: V) -> Option<Stocked<V>> {
-    let told = Told {
-        lists: Some(2),
-        ..told
-    };
     let config = RepoConfig::new(alloc, settings_of(alloc, told).ok()?).ok()?;
     Stocked::new(alloc, config, store).ok()
 }
 
-/// Performs each line: a moment, a space, and what is asked at it.
+/// Performs each line.
 fn perform_all<V: Versions + Drop>(
     alloc: Global,
     repo: &mut Stocked<V>,
@@ -102,17 +136,32 @@ fn perform_all<V: Versions + Drop>(
     out: &mut Vec<u8>,
 ) -> io::Result<()> {
     for line in lines.lines() {
-        let (moment, text) = line.split_once(' ').unwrap_or((line, ""));
-        let moment = moment.parse::<i64>().unwrap_or(0);
-        match text {
-            "advance" => repo.advance(moment),
-            "clock" => writeln!(out, "clock {}", repo.clock())?,
-            _ if text.starts_with('{') => change(alloc, repo, moment, text, out)?,
-            _ => ask(repo, way, moment, text, out)?,
+        match way {
+            RepositoryWay::Restore => restore_line(alloc, repo, line, out)?,
+            _ => perform_line(alloc, repo, way, line, out)?,
         }
-        if let RepositoryWay::Outcome = way {
-            writeln!(out, "clock {}", repo.clock())?;
-        }
+    }
+    Ok(())
+}
+
+/// Performs the line: a moment, a space, and what is asked at it.
+pub(crate) fn perform_line<V: Versions + Drop>(
+    alloc: Global,
+    repo: &mut Stocked<V>,
+    way: RepositoryWay,
+    line: &str,
+    out: &mut Vec<u8>,
+) -> io::Result<()> {
+    let (moment, text) = line.split_once(' ').unwrap_or((line, ""));
+    let moment = moment.parse::<i64>().unwrap_or(0);
+    match text {
+        "advance" => repo.advance(moment),
+        "clock" => writeln!(out, "clock {}", repo.clock())?,
+        _ if text.starts_with('{') => change(alloc, repo, moment, text, out)?,
+        _ => ask(repo, way, moment, text, out)?,
+    }
+    if let RepositoryWay::Outcome = way {
+        writeln!(out, "clock {}", repo.clock())?;
     }
     Ok(())
 }
@@ -175,7 +224,7 @@ fn write_reply(
     match asked {
         Ok(Reply::Page(page)) => match way {
             RepositoryWay::Outcome => out.write_all(b"page\n"),
-            RepositoryWay::Answer => out.write_all(page.as_slice()),
+            RepositoryWay::Answer | RepositoryWay::Restore => out.write_all(page.as_slice()),
         },
         Ok(Reply::Later(seconds)) => writeln!(out, "later {seconds}"),
         Err(fault) => writeln!(out, "{}", name_of(fault)),
@@ -183,7 +232,7 @@ fn write_reply(
 }
 
 /// What a fault is called.
-fn name_of(fault: Fault) -> &'static str {
+pub(crate) fn name_of(fault: Fault) -> &'static str {
     match fault {
         Fault::NoMemory => "out of memory",
         Fault::Device => "device failed",

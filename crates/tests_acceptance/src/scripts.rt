@@ -20,6 +20,10 @@ pub(crate) enum Way {
     Host(HostWay),
     /// On a repository without a host.
     Repository(RepositoryWay),
+    /// On a host, whose pages and calls are counted.
+    Counted,
+    /// On connections with a handler that repeats what it was asked.
+    Tell,
 }
 
 /// How lines are performed on a host.
@@ -31,6 +35,10 @@ pub(crate) enum HostWay {
     Exchange,
     /// The same, and one that fails is made once more.
     ExchangeAgain,
+    /// As exchanges, those up to each line `run` as one run.
+    Run,
+    /// As exchanges, and as parts that are saved and restored.
+    Save,
     /// As those that `trace` reads.
     Trace,
     /// As pieces of connections, each by its text.
@@ -44,6 +52,8 @@ pub(crate) enum RepositoryWay {
     Answer,
     /// What it comes to, and the clock behind it.
     Outcome,
+    /// Its whole answer, or what the repository has behind a part that is restored.
+    Restore,
 }
 
 impl<'a> Script<'a> {
@@ -65,9 +75,14 @@ fn way_named(name: &str) -> Way {
     match name {
         "ask" => Way::Host(HostWay::Ask),
         "exchange-again" => Way::Host(HostWay::ExchangeAgain),
+        "run" => Way::Host(HostWay::Run),
+        "save" => Way::Host(HostWay::Save),
+        "count" => Way::Counted,
+        "tell" => Way::Tell,
         "trace" => Way::Host(HostWay::Trace),
         "connect" => Way::Host(HostWay::Connect),
         "repository" => Way::Repository(RepositoryWay::Answer),
+        "restore" => Way::Repository(RepositoryWay::Restore),
         "outcome" => Way::Repository(RepositoryWay::Outcome),
         _ => Way::Host(HostWay::Exchange),
     }

@@ -3,8 +3,9 @@ ghost use Rattle.oai_repo.specs.Fields.{Owns};
 
 use oai_catalogue::Versions;
 use oai_deposit::Change;
-use oai_item::Fault;
-use oai_repo::{Refusal, Reply, Repo};
+use oai_item::{Fault, Item};
+use oai_names::Sequence;
+use oai_repo::{Refusal, Reply, Repo, SavedPart};
 use oai_settings::RepoConfig;
 use std::alloc::Global;
 
@@ -37,6 +38,25 @@ impl<V: Versions + Drop> Stocked<V> {
     /// Moves its clock to the moment.
     pub fn advance(&mut self, moment: i64) {
         self.repo.advance(&mut self.store, moment);
+    }
+
+    /// Restores the part.
+    pub fn restore(&mut self, part: &SavedPart<'_>) -> Result<(), Fault> {
+        self.repo.restore(&mut self.store, part)
+    }
+
+    /// Some of the items behind that one.
+    pub fn items_behind(
+        &mut self,
+        last: Option<&Item>,
+        most: usize,
+    ) -> Result<Sequence<Item>, Fault> {
+        self.repo.items_behind(&mut self.store, last, most)
+    }
+
+    /// The repository.
+    pub fn repo(&self) -> &Repo {
+        &self.repo
     }
 
     /// The store.

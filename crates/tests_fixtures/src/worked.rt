@@ -1,5 +1,4 @@
 //! Texts of the worked exchanges that several crates of tests use.
-use std::alloc::{AllocError, Global};
 
 /// The first repository's answer to Identify at the moment 1704067200, in the shorthand of transcripts.
 pub fn identify_document() -> &'static str {
@@ -9,18 +8,4 @@ pub fn identify_document() -> &'static str {
 /// Its answer to a bad verb at that moment, in the shorthand.
 pub fn bad_verb_document() -> &'static str {
     r#"DOC <responseDate>2024-01-01T00:00:00Z</responseDate><request>http://host.example/oai/a</request><error code="badVerb">The verb is missing, repeated or illegal.</error></OAI-PMH>"#
-}
-
-/// A line of `ask` that deposits `oai:a:1` with one title of so many letters, and its end. What is deposited has 67 bytes more than the title.
-/// The error is out of memory.
-pub fn deposit_of_letters(alloc: Global, letters: usize) -> Result<String, AllocError> {
-    let mut line = String::from_str(
-        alloc,
-        "1704067200 POST /deposit/a {\"deposit\":\"oai:a:1\",\"sets\":[],\"records\":{\"oai_dc\":[[\"title\",\"",
-    )?;
-    for _ in 0..letters {
-        line.push('t')?;
-    }
-    line.push_str("\"]]}}\n")?;
-    Ok(line)
 }

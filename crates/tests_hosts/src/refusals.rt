@@ -35,7 +35,7 @@ fn assert_answer(rt: &impl Abort, answer: &Answer, status: Status, body: &str) {
 }
 
 /// The host answers each with its status.
-fn assert_statuses<V: Versions + Drop>(rt: &impl Abort, host: &mut Host<V>) {
+fn assert_statuses<V: Versions + Drop>(rt: &impl Abort, mut host: Host<V>) {
     for (method, target, content_type, status) in bytes_asked() {
         let exchange = Exchange {
             method,
@@ -52,14 +52,14 @@ fn assert_statuses<V: Versions + Drop>(rt: &impl Abort, host: &mut Host<V>) {
 #[test]
 fn bytes_that_are_no_text(rt: HostRuntime) {
     let alloc = rt.alloc();
-    let mut host = host(&rt, alloc, PlainVersions::new(alloc));
-    assert_statuses(&rt, &mut host);
+    let host = host(&rt, alloc, PlainVersions::new(alloc));
+    assert_statuses(&rt, host);
 }
 
 // ---- the parts of answers
 
 /// What a query of `b` that is performed is answered, each part of it.
-fn assert_page<V: Versions + Drop>(rt: &impl Abort, alloc: Global, host: &mut Host<V>) {
+fn assert_page<V: Versions + Drop>(rt: &impl Abort, alloc: Global, mut host: Host<V>) {
     let exchange = Exchange {
         method: b"GET",
         target: Target::new(b"/oai/b?verb=ListSets"),
@@ -79,6 +79,6 @@ fn no_sets() -> &'static str {
 #[test]
 fn parts_of_an_answer(rt: HostRuntime) {
     let alloc = rt.alloc();
-    let mut host = host(&rt, alloc, PlainVersions::new(alloc));
-    assert_page(&rt, alloc, &mut host);
+    let host = host(&rt, alloc, PlainVersions::new(alloc));
+    assert_page(&rt, alloc, host);
 }

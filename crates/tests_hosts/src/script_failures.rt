@@ -1,5 +1,5 @@
-//! The script over stores and devices of which a call fails. An exchange that fails is made once more, and all else is answered as
-//! where nothing failed; nor does a failure leave a page that nobody needs.
+//! The script over stores and devices of which a call fails. An exchange that fails is made once more, and all else is
+//! answered as where nothing failed; nor does a failure leave a page that nobody needs.
 use crate::assertions::assert_same_at;
 use crate::sample_host::{host, paged};
 use oai_catalogue::{PlainVersions, Versions};
@@ -146,13 +146,14 @@ enum Trouble {
     StoreMemory,
 }
 
-/// The number of a store's call that is the k-th after the host was made, which made one for each of its three repositories.
+/// The number of a store's call that is the k-th after the host was made, which made one for each of its three
+/// repositories.
 fn behind_the_host(k: u64) -> u64 {
     k.wrapping_add(3)
 }
 
-/// How many exchanges of the script fail where the k-th call after the host was made does. Behind them no more pages are named than where
-/// none fails.
+/// How many exchanges of the script fail where the k-th call after the host was made does. Behind them no more pages
+/// are named than where none fails.
 fn failures_at(
     rt: &impl Abort,
     alloc: Global,
@@ -162,31 +163,33 @@ fn failures_at(
     k: u64,
 ) -> u64 {
     let (failures, used) = match trouble {
-        Trouble::Device => {
-            let device = FaultyDevice::new(MemoryDevice::new(alloc), k);
-            failures_on(rt, alloc, device, script, Fault::Device)
-        }
-        Trouble::DeviceMemory => {
-            let device = RefusingDevice::new(MemoryDevice::new(alloc), k);
-            failures_on(rt, alloc, device, script, Fault::NoMemory)
-        }
-        Trouble::Store => {
-            let store = failing(PlainVersions::new(alloc), behind_the_host(k));
-            (
-                failures_over(rt, alloc, store, script, Fault::Device),
-                pages,
-            )
-        }
-        Trouble::StoreMemory => {
-            let store = refusing(PlainVersions::new(alloc), behind_the_host(k));
-            (
-                failures_over(rt, alloc, store, script, Fault::NoMemory),
-                pages,
-            )
-        }
+        Trouble::Device => faulty(rt, alloc, script, k),
+        Trouble::DeviceMemory => refused(rt, alloc, script, k),
+        Trouble::Store => (failing_store(rt, alloc, script, k), pages),
+        Trouble::StoreMemory => (refusing_store(rt, alloc, script, k), pages),
     };
     assert_same_at(rt, used, pages, k);
     failures
+}
+
+fn faulty(rt: &impl Abort, alloc: Global, script: &str, k: u64) -> (u64, usize) {
+    let device = FaultyDevice::new(MemoryDevice::new(alloc), k);
+    failures_on(rt, alloc, device, script, Fault::Device)
+}
+
+fn refused(rt: &impl Abort, alloc: Global, script: &str, k: u64) -> (u64, usize) {
+    let device = RefusingDevice::new(MemoryDevice::new(alloc), k);
+    failures_on(rt, alloc, device, script, Fault::NoMemory)
+}
+
+fn failing_store(rt: &impl Abort, alloc: Global, script: &str, k: u64) -> u64 {
+    let store = failing(PlainVersions::new(alloc), behind_the_host(k));
+    failures_over(rt, alloc, store, script, Fault::Device)
+}
+
+fn refusing_store(rt: &impl Abort, alloc: Global, script: &str, k: u64) -> u64 {
+    let store = refusing(PlainVersions::new(alloc), behind_the_host(k));
+    failures_over(rt, alloc, store, script, Fault::NoMemory)
 }
 
 /// Each call fails in turn, and one exchange of the script with it, up to the first run in which none does.

@@ -1,10 +1,10 @@
-//! The script over a device that returns a wrong byte in one read and fails at one call. An exchange that fails for either is made again,
-//! and then answered as where nothing fails.
-use crate::assertions::assert_same_at;
+//! The script over a device that returns a wrong byte in one read and fails at one call. An exchange that fails for
+//! either is made again, and then answered as where nothing fails.
+use crate::assertions::assert_same;
 use crate::sample_host::{host, paged};
 use crate::script_failures::{answer_of, assert_written, failed, step_in};
 use oai_catalogue::Versions;
-use oai_device::{FaultyDevice, FlippingDevice, MemoryDevice};
+use oai_device::{FaultyDevice, FlippingDevice, MemoryDevice, PageDevice};
 use oai_host::Host;
 use oai_item::Fault;
 use oai_pool::PagePool;
@@ -73,7 +73,28 @@ fn assert_answered<V: Versions + Drop>(
     assert!(rt; answered);
 }
 
-/// What fails where the read of the one number is a lie and the call of the other fails. At the end as many pages are named as where none does.
+/// What fails of the script over the device. At the end as many pages are named as where none does.
+fn faults_on<D: PageDevice>(
+    rt: &impl Abort,
+    alloc: Global,
+    device: D,
+    script: &str,
+    pages: usize,
+) -> Faults {
+    let mut host = host(rt, alloc, paged(rt, alloc, device));
+    let mut faults = Faults {
+        damaged: 0,
+        device: 0,
+        others: 0,
+    };
+    for step in script.split("\n> ") {
+        assert_answered(rt, alloc, &mut host, step, &mut faults);
+    }
+    assert_same(rt, host.versions().pool().used(), pages);
+    faults
+}
+
+/// What fails where the read of the one number is a lie and the call of the other fails.
 fn faults_at(
     rt: &impl Abort,
     alloc: Global,
@@ -84,20 +105,11 @@ fn faults_at(
 ) -> Faults {
     let lying = FlippingDevice::new(MemoryDevice::new(alloc), lie);
     let device = FaultyDevice::new(lying, failure);
-    let mut host = host(rt, alloc, paged(rt, alloc, device));
-    let mut faults = Faults {
-        damaged: 0,
-        device: 0,
-        others: 0,
-    };
-    for step in script.split("\n> ") {
-        assert_answered(rt, alloc, &mut host, step, &mut faults);
-    }
-    assert_same_at(rt, host.versions().pool().used(), pages, failure);
-    faults
+    faults_on(rt, alloc, device, script, pages)
 }
 
-/// For each k the k-th read is a lie and the 2k-th call, or the one behind it, fails, up to the first run that meets neither; some meet both.
+/// For each k the k-th read is a lie and the 2k-th call, or the one behind it, fails, up to the first run that meets
+/// neither; some meet both.
 fn assert_each(rt: &impl Abort, alloc: Global, form: Form, odd: bool) {
     let script = script(alloc, form).expect(rt, "memory");
     let mut both: u64 = 0;

@@ -1,9 +1,9 @@
-//! The script over a device that returns a wrong byte in one read. The exchange of that read fails, and the other repositories
-//! answer as where there is none.
+//! The script over a device that returns a wrong byte in one read. The exchange of that read fails, and the other
+//! repositories answer as where there is none.
 use crate::assertions::assert_same_at;
 use crate::sample_host::{host, paged};
 use crate::script_failures::{answer_of, assert_written, failed, step_in};
-use oai_device::{FlippingDevice, MemoryDevice};
+use oai_device::{FlippingDevice, MemoryDevice, PageDevice};
 use oai_host::Host;
 use oai_item::Fault;
 use oai_paged::PagedVersions;
@@ -14,17 +14,8 @@ use std::process::Abort;
 use tests_devices::CountingDevice;
 use tests_fixtures::{Form, long, script, short};
 
-/// A host over a device that returns a wrong byte in one read, whose reads are counted.
-type LiedTo = Host<PagedVersions<CountingDevice<FlippingDevice<MemoryDevice>>>>;
-
-/// A new host, for whose device the first byte of the k-th read is inverted.
-fn host_lied_to(rt: &impl Abort, alloc: Global, k: u64) -> LiedTo {
-    let device = CountingDevice::new(FlippingDevice::new(MemoryDevice::new(alloc), k));
-    host(rt, alloc, paged(rt, alloc, device))
-}
-
-/// How many reads were made.
-fn reads_of(host: &LiedTo) -> u64 {
+/// How many reads of the device were made.
+fn reads_of<D: PageDevice>(host: &Host<PagedVersions<CountingDevice<D>>>) -> u64 {
     host.versions().pool().device().reads()
 }
 
@@ -37,12 +28,12 @@ fn letter_of(target: &str) -> u8 {
     }
 }
 
-/// Makes the exchange. Where the k-th read falls into it, it fails; else it is answered as it should, unless it is one of the repository
-/// that was lied to. Whether it failed.
-fn meets_the_lie(
+/// Makes the exchange. Where the k-th read falls into it, it fails; else it is answered as it should, unless it is one
+/// of the repository that was lied to. Whether it failed.
+fn meets_the_lie<D: PageDevice>(
     rt: &impl Abort,
     alloc: Global,
-    host: &mut LiedTo,
+    host: &mut Host<PagedVersions<CountingDevice<D>>>,
     step: &str,
     lied_to: u8,
     k: u64,
@@ -60,9 +51,15 @@ fn meets_the_lie(
     false
 }
 
-/// Makes the exchanges of the script where the k-th read is a lie; how many failed for it.
-fn lies_met(rt: &impl Abort, alloc: Global, script: &str, k: u64) -> u64 {
-    let mut host = host_lied_to(rt, alloc, k);
+/// Makes the exchanges of the script over the device, of which the k-th read is a lie; how many failed for it.
+fn lies_met<D: PageDevice>(
+    rt: &impl Abort,
+    alloc: Global,
+    device: CountingDevice<D>,
+    script: &str,
+    k: u64,
+) -> u64 {
+    let mut host = host(rt, alloc, paged(rt, alloc, device));
     let mut lied_to: u8 = 0;
     let mut lies: u64 = 0;
     for step in script.split("\n> ") {
@@ -75,11 +72,17 @@ fn lies_met(rt: &impl Abort, alloc: Global, script: &str, k: u64) -> u64 {
     lies
 }
 
+/// How many exchanges of the script fail where the first byte of the k-th read is inverted.
+fn lies_at(rt: &impl Abort, alloc: Global, script: &str, k: u64) -> u64 {
+    let device = CountingDevice::new(FlippingDevice::new(MemoryDevice::new(alloc), k));
+    lies_met(rt, alloc, device, script, k)
+}
+
 /// Each read is a lie in turn, and one exchange of the script fails for it, up to the first run in which none does.
 fn assert_each_lie(rt: &impl Abort, alloc: Global, form: Form) {
     let script = script(alloc, form).expect(rt, "memory");
     for k in 1..1_000u64 {
-        let lies = lies_met(rt, alloc, script.as_str(), k);
+        let lies = lies_at(rt, alloc, script.as_str(), k);
         if lies == 0 {
             assert!(rt; k > 1);
             return;

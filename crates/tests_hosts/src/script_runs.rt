@@ -1,27 +1,16 @@
-//! The script as one run: over stores of which no call fails, and over a device of which one does.
+//! The script as one run over a device of which a call is refused memory.
 use crate::assertions::assert_same;
-use crate::runs::{answers_to, assert_runs, calls_in};
+use crate::runs::{answers_to, calls_in};
 use crate::sample_host::paged;
 use crate::script_failures::{assert_written, failed, step_in};
-use oai_device::MemoryDevice;
+use oai_device::{MemoryDevice, PageDevice};
 use oai_host::Answer;
 use oai_item::Fault;
 use std::alloc::Global;
 use std::panic::Expect;
 use std::process::Abort;
 use tests_devices::RefusingDevice;
-use tests_fixtures::{Form, long, script, short};
-
-/// Where no call fails, the script in that form is answered as one run.
-fn assert_undisturbed(rt: &impl Abort, alloc: Global, form: Form) {
-    let script = script(alloc, form).expect(rt, "memory");
-    assert_runs(rt, alloc, script.as_str());
-}
-
-#[test]
-fn undisturbed_run(rt: HostRuntime) {
-    assert_undisturbed(&rt, rt.alloc(), short());
-}
+use tests_fixtures::{Form, script, short};
 
 /// The answer is that of the script, or the exchange was refused memory, which it says.
 fn is_refused(rt: &impl Abort, alloc: Global, step: &str, answer: &Answer) -> bool {
@@ -47,13 +36,18 @@ fn has_refused(rt: &impl Abort, alloc: Global, script: &str, answers: &[Answer])
     false
 }
 
-/// Whether an exchange of the run is refused memory where the k-th call of the device is.
-fn refused_at(rt: &impl Abort, alloc: Global, script: &str, k: u64) -> bool {
+/// Whether an exchange of the run over the device is refused memory.
+fn is_refused_on<D: PageDevice>(rt: &impl Abort, alloc: Global, device: D, script: &str) -> bool {
     let calls = calls_in(rt, alloc, script);
-    let device = RefusingDevice::new(MemoryDevice::new(alloc), k);
     let answers = answers_to(rt, alloc, paged(rt, alloc, device), &calls);
     assert_same(rt, answers.as_slice().len(), 20);
     has_refused(rt, alloc, script, answers.as_slice())
+}
+
+/// The same where the k-th call of the device is refused memory.
+fn refused_at(rt: &impl Abort, alloc: Global, script: &str, k: u64) -> bool {
+    let device = RefusingDevice::new(MemoryDevice::new(alloc), k);
+    is_refused_on(rt, alloc, device, script)
 }
 
 /// Each call of the device is refused memory in turn, up to the first run in which none is.
@@ -66,11 +60,6 @@ fn assert_each_refused(rt: &impl Abort, alloc: Global, form: Form) {
         }
     }
     panic!(rt; "memory is refused in each run")
-}
-
-#[test]
-fn undisturbed_run_with_a_long_item(rt: HostRuntime) {
-    assert_undisturbed(&rt, rt.alloc(), long());
 }
 
 #[test]

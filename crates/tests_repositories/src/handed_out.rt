@@ -83,20 +83,24 @@ fn assert_second_part<V: Versions + Drop>(rt: &impl Abort, repo: &mut Stocked<V>
     assert!(rt; !is_refused(rt, repo, third()));
 }
 
+/// An archive over the store lists five items in three parts; the token of the third is handed out with the second.
+fn assert_handed_out<V: Versions + Drop>(rt: &impl Abort, alloc: Global, store: V, failed: bool) {
+    let mut repo = archive(rt, alloc, store);
+    assert_outcomes(rt, alloc, &mut repo, &list_of_five());
+    assert_second_part(rt, &mut repo, failed);
+}
+
 /// The tenth call of the store is the one that reads the second part: the first makes the repository, each deposit takes one, and
 /// the first part three.
 #[test]
 fn failed_part_hands_no_token_out(rt: HostRuntime) {
     let alloc = rt.alloc();
-    let mut repo = archive(&rt, alloc, failing(PlainVersions::new(alloc), 10));
-    assert_outcomes(&rt, alloc, &mut repo, &list_of_five());
-    assert_second_part(&rt, &mut repo, true);
+    let store = failing(PlainVersions::new(alloc), 10);
+    assert_handed_out(&rt, alloc, store, true);
 }
 
 #[test]
 fn answered_part_hands_its_token_out(rt: HostRuntime) {
     let alloc = rt.alloc();
-    let mut repo = archive(&rt, alloc, PlainVersions::new(alloc));
-    assert_outcomes(&rt, alloc, &mut repo, &list_of_five());
-    assert_second_part(&rt, &mut repo, false);
+    assert_handed_out(&rt, alloc, PlainVersions::new(alloc), false);
 }

@@ -182,33 +182,37 @@ fn at_the_eighth_second() -> [Told<'static>; 3] {
 }
 
 /// The copy that two harvests made holds what is selected at the seventh second, and the third goes on with it.
-fn assert_second_harvest<V: Versions + Drop>(rt: &impl Abort, alloc: Global, host: &mut Host<V>) {
+fn assert_second_harvest<V: Versions + Drop>(rt: &impl Abort, alloc: Global, mut host: Host<V>) {
     let mut copy = Copy::new(alloc);
-    begin(rt, alloc, host, &mut copy);
-    go_on(rt, alloc, host, &mut copy);
-    assert_selected(rt, alloc, host, 7, &at_the_seventh_second());
-    end(rt, alloc, host, &mut copy);
+    begin(rt, alloc, &mut host, &mut copy);
+    go_on(rt, alloc, &mut host, &mut copy);
+    assert_selected(rt, alloc, &mut host, 7, &at_the_seventh_second());
+    end(rt, alloc, &mut host, &mut copy);
 }
 
 /// The copy that three harvests made holds what is selected at the eighth second.
-fn assert_third_harvest<V: Versions + Drop>(rt: &impl Abort, alloc: Global, host: &mut Host<V>) {
+fn assert_third_harvest<V: Versions + Drop>(rt: &impl Abort, alloc: Global, mut host: Host<V>) {
     let mut copy = Copy::new(alloc);
-    begin(rt, alloc, host, &mut copy);
-    go_on(rt, alloc, host, &mut copy);
-    end(rt, alloc, host, &mut copy);
-    assert_selected(rt, alloc, host, 8, &at_the_eighth_second());
+    begin(rt, alloc, &mut host, &mut copy);
+    go_on(rt, alloc, &mut host, &mut copy);
+    end(rt, alloc, &mut host, &mut copy);
+    assert_selected(rt, alloc, &mut host, 8, &at_the_eighth_second());
 }
 
 #[test]
 fn second_harvest_misses_nothing(rt: HostRuntime) {
-    assert_second_harvest(&rt, rt.alloc(), &mut host_on_lists(&rt, rt.alloc()));
-    assert_second_harvest(&rt, rt.alloc(), &mut host_on_pages(&rt, rt.alloc()));
+    let host = host_on_lists(&rt, rt.alloc());
+    assert_second_harvest(&rt, rt.alloc(), host);
+    let host = host_on_pages(&rt, rt.alloc());
+    assert_second_harvest(&rt, rt.alloc(), host);
 }
 
 #[test]
 fn third_harvest_misses_nothing(rt: HostRuntime) {
-    assert_third_harvest(&rt, rt.alloc(), &mut host_on_lists(&rt, rt.alloc()));
-    assert_third_harvest(&rt, rt.alloc(), &mut host_on_pages(&rt, rt.alloc()));
+    let host = host_on_lists(&rt, rt.alloc());
+    assert_third_harvest(&rt, rt.alloc(), host);
+    let host = host_on_pages(&rt, rt.alloc());
+    assert_third_harvest(&rt, rt.alloc(), host);
 }
 
 /// The document that the host answers to the second harvest where nothing came between.
@@ -218,10 +222,10 @@ fn no_records() -> &'static str {
 }
 
 /// The host answers so to the second harvest, and the copy stays as it is.
-fn assert_nothing_between<V: Versions + Drop>(rt: &impl Abort, alloc: Global, host: &mut Host<V>) {
+fn assert_nothing_between<V: Versions + Drop>(rt: &impl Abort, alloc: Global, mut host: Host<V>) {
     let mut copy = Copy::new(alloc);
-    begin(rt, alloc, host, &mut copy);
-    let answer = answered(rt, host, 7, FROM_5, "");
+    begin(rt, alloc, &mut host, &mut copy);
+    let answer = answered(rt, &mut host, 7, FROM_5, "");
     let document = from_utf8(answer.body.as_slice()).expect(rt, "from_utf8");
     assert_same(rt, document.ends_with(no_records()), true);
     catch_up(rt, alloc, &mut copy, document);
@@ -230,6 +234,8 @@ fn assert_nothing_between<V: Versions + Drop>(rt: &impl Abort, alloc: Global, ho
 
 #[test]
 fn nothing_between_two_harvests(rt: HostRuntime) {
-    assert_nothing_between(&rt, rt.alloc(), &mut host_on_lists(&rt, rt.alloc()));
-    assert_nothing_between(&rt, rt.alloc(), &mut host_on_pages(&rt, rt.alloc()));
+    let host = host_on_lists(&rt, rt.alloc());
+    assert_nothing_between(&rt, rt.alloc(), host);
+    let host = host_on_pages(&rt, rt.alloc());
+    assert_nothing_between(&rt, rt.alloc(), host);
 }

@@ -1,6 +1,6 @@
-//! Tests of one repository (`oai_repo`): restored, in a store that is not its alone or that returns false reads, with tokens of parts
-//! that failed, and what its lists cost; of a harvester's copy (`oai_copy`); of XML documents by their whole bytes (`oai_answers`), and
-//! of elements that are read (`oai_xml`); and of what no row of `tests_rows` can call: places among items in order, and the laws of
+//! Tests of one repository (`oai_repo`): in a store that is not its alone or that returns false reads, with tokens of
+//! parts that failed, and what its lists cost; of a harvester's copy (`oai_copy`); of XML documents by their whole
+//! bytes (`oai_answers`); and of what no row of `tests_rows` can call: places among items in order, and the laws of
 //! items and of configurations. It holds nothing else.
 #![tactic(auto)]
 
@@ -14,8 +14,6 @@ mod copy_samples;
 mod documents;
 #[cfg(test)]
 mod ended_lists;
-#[cfg(test)]
-mod first_deposit;
 #[cfg(test)]
 mod handed_out;
 #[cfg(test)]
@@ -37,8 +35,4 @@ mod records;
 #[cfg(test)]
 mod refusals;
 #[cfg(test)]
-mod restored;
-#[cfg(test)]
 mod samples;
-#[cfg(test)]
-mod xml;

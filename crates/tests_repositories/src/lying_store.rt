@@ -6,21 +6,10 @@ use crate::samples::{
 use oai_catalogue::{PlainVersions, Versions};
 use std::alloc::Global;
 use std::process::Abort;
-use tests_fixtures::Stocked;
-use tests_stores::{HookedVersions, LyingHook, lying};
+use tests_stores::lying;
 
 /// More lies than are asked for.
 const ALWAYS: u64 = 1_000;
-
-/// Archive A over a store that returns false reads after so many answers, so often.
-fn lying_archive(
-    rt: &impl Abort,
-    alloc: Global,
-    truths: u64,
-    lies: u64,
-) -> Stocked<HookedVersions<PlainVersions, LyingHook>> {
-    archive(rt, alloc, lying(PlainVersions::new(alloc), truths, lies))
-}
 
 /// A new item, one in its place at the same datestamp and at another, lists, a deletion, and what it
 /// leaves.
@@ -38,16 +27,17 @@ fn all_kinds() -> [Asked; 8] {
 }
 
 /// Each exchange comes to something.
-fn assert_each_returns<V: Versions + Drop>(rt: &impl Abort, alloc: Global, repo: &mut Stocked<V>) {
+fn assert_each_returns<V: Versions + Drop>(rt: &impl Abort, alloc: Global, store: V) {
+    let mut repo = archive(rt, alloc, store);
     for asked in all_kinds() {
-        outcome(rt, alloc, repo, asked);
+        outcome(rt, alloc, &mut repo, asked);
     }
 }
 
 /// The same over a store that returns false reads after so many answers.
 fn assert_returns(rt: &impl Abort, alloc: Global, truths: u64) {
-    let mut repo = lying_archive(rt, alloc, truths, ALWAYS);
-    assert_each_returns(rt, alloc, &mut repo);
+    let store = lying(PlainVersions::new(alloc), truths, ALWAYS);
+    assert_each_returns(rt, alloc, store);
 }
 
 /// Wherever the lies begin, each call returns, with an answer or with damage.

@@ -108,13 +108,13 @@ fn write_beside<V: Versions + Drop>(
 fn answers_alone<V: Versions + Drop>(
     rt: &impl Abort,
     alloc: Global,
-    repo: &mut Stocked<V>,
+    mut repo: Stocked<V>,
     which: Which,
 ) -> Vec<u8> {
     let mut output = Vec::new(alloc);
     for (of, asked) in exchanges() {
         if of == which {
-            write_alone(rt, alloc, repo, asked, &mut output);
+            write_alone(rt, alloc, &mut repo, asked, &mut output);
         }
     }
     output
@@ -122,13 +122,9 @@ fn answers_alone<V: Versions + Drop>(
 
 /// What that repository answers where it is alone.
 fn alone(rt: &impl Abort, alloc: Global, which: Which) -> Vec<u8> {
-    let mut repo = Stocked::new(
-        alloc,
-        config_of(rt, alloc, which),
-        PlainVersions::new(alloc),
-    )
-    .expect(rt, "Stocked::new");
-    answers_alone(rt, alloc, &mut repo, which)
+    let config = config_of(rt, alloc, which);
+    let repo = Stocked::new(alloc, config, PlainVersions::new(alloc)).expect(rt, "Stocked::new");
+    answers_alone(rt, alloc, repo, which)
 }
 
 /// The two repositories in one store.
@@ -159,20 +155,20 @@ fn write_of<V: Versions + Drop>(
 fn answers_beside<V: Versions + Drop>(
     rt: &impl Abort,
     alloc: Global,
-    shared: &mut Shared<V>,
+    mut shared: Shared<V>,
     which: Which,
 ) -> Vec<u8> {
     let mut output = Vec::new(alloc);
     for (of, asked) in exchanges() {
-        write_of(rt, alloc, shared, of, which, asked, &mut output);
+        write_of(rt, alloc, &mut shared, of, which, asked, &mut output);
     }
     output
 }
 
 /// What that repository answers beside the other one.
 fn beside(rt: &impl Abort, alloc: Global, which: Which) -> Vec<u8> {
-    let mut shared = neighbours(rt, alloc);
-    answers_beside(rt, alloc, &mut shared, which)
+    let shared = neighbours(rt, alloc);
+    answers_beside(rt, alloc, shared, which)
 }
 
 /// That repository answers beside the other one as it does alone.

@@ -4,7 +4,7 @@ ghost use Rattle.std.specs.Prelude.{◌<◌};
 use crate::outcomes::{archive, page_of};
 use crate::samples::BEGIN;
 use oai_deposit::read_line;
-use oai_device::MemoryDevice;
+use oai_device::{MemoryDevice, PageDevice};
 use oai_item::Forms;
 use oai_paged::PagedVersions;
 use oai_pool::Pool;
@@ -15,19 +15,23 @@ use tests_devices::CountingDevice;
 use tests_fixtures::Stocked;
 
 /// Archive A over pages on a device that counts.
-type Counted = Stocked<PagedVersions<CountingDevice<MemoryDevice>>>;
+type Counted<D> = Stocked<PagedVersions<CountingDevice<D>>>;
 
 /// A new one, whose pool keeps as many pages in memory.
-fn counted(rt: &impl Abort, alloc: Global, cache_pages: usize) -> Counted
+fn counted<D: PageDevice>(
+    rt: &impl Abort,
+    alloc: Global,
+    device: CountingDevice<D>,
+    cache_pages: usize,
+) -> Counted<D>
     requires { 0 < cache_pages }
 {
-    let device = CountingDevice::new(MemoryDevice::new(alloc));
     let pool = Pool::new(alloc, device, cache_pages).expect(rt, "Pool::new");
     archive(rt, alloc, PagedVersions::new(alloc, pool))
 }
 
 /// How many reads of its device were asked for so far.
-fn reads_of(repo: &Counted) -> u64 {
+fn reads_of<D: PageDevice>(repo: &Counted<D>) -> u64 {
     repo.store().pool().device().reads()
 }
 
@@ -41,13 +45,19 @@ fn title(rt: &impl Abort, alloc: Global) -> String {
 }
 
 /// Makes the change that the line asks for.
-fn make(rt: &impl Abort, alloc: Global, repo: &mut Counted, line: &str) {
+fn make<D: PageDevice>(rt: &impl Abort, alloc: Global, repo: &mut Counted<D>, line: &str) {
     let change = read_line(alloc, Forms::Fields, line.as_bytes()).expect(rt, "read_line");
     assert!(rt; repo.change(BEGIN, &change).is_ok());
 }
 
 /// Deposits the item of that number, in set x.
-fn deposit(rt: &impl Abort, alloc: Global, repo: &mut Counted, number: u32, title: &str) {
+fn deposit<D: PageDevice>(
+    rt: &impl Abort,
+    alloc: Global,
+    repo: &mut Counted<D>,
+    number: u32,
+    title: &str,
+) {
     let line = format!(in alloc;
         "{{\"deposit\":\"oai:a:{number}\",\"sets\":[\"x\"],\"records\":{{\"oai_dc\":[[\"title\",\"{title}\"]]}}}}"
     ).expect(rt, "memory");
@@ -55,7 +65,7 @@ fn deposit(rt: &impl Abort, alloc: Global, repo: &mut Counted, number: u32, titl
 }
 
 /// Deposits 600 items of 8,000 bytes, of which two stand on a page.
-fn fill(rt: &impl Abort, alloc: Global, repo: &mut Counted) {
+fn fill<D: PageDevice>(rt: &impl Abort, alloc: Global, repo: &mut Counted<D>) {
     make(rt, alloc, repo, r#"{"set":"x","name":"X"}"#);
     let title = title(rt, alloc);
     for number in 100..700 {
@@ -64,10 +74,10 @@ fn fill(rt: &impl Abort, alloc: Global, repo: &mut Counted) {
 }
 
 /// Writes the part that the token with the cursor gives, and returns how many reads it took.
-fn write_part(
+fn write_part<D: PageDevice>(
     rt: &impl Abort,
     alloc: Global,
-    repo: &mut Counted,
+    repo: &mut Counted<D>,
     cursor: u32,
     output: &mut Vec<u8>,
 ) -> u64 {
@@ -83,7 +93,12 @@ fn write_part(
 }
 
 /// Writes all parts of the list behind the first, each of few reads, and returns how many reads all took.
-fn write_parts(rt: &impl Abort, alloc: Global, repo: &mut Counted, output: &mut Vec<u8>) -> u64 {
+fn write_parts<D: PageDevice>(
+    rt: &impl Abort,
+    alloc: Global,
+    repo: &mut Counted<D>,
+    output: &mut Vec<u8>,
+) -> u64 {
     let mut all: u64 = 0;
     for part in 1..300 {
         let reads = write_part(rt, alloc, repo, 2 * part, output);
@@ -93,12 +108,9 @@ fn write_parts(rt: &impl Abort, alloc: Global, repo: &mut Counted, output: &mut 
     all
 }
 
-/// What the whole list is answered, over a pool that keeps as many pages in memory.
-fn followed(rt: &impl Abort, alloc: Global, cache_pages: usize) -> Vec<u8>
-    requires { 0 < cache_pages }
-{
+/// What the whole list is answered.
+fn followed<D: PageDevice>(rt: &impl Abort, alloc: Global, mut repo: Counted<D>) -> Vec<u8> {
     let mut output = Vec::new(alloc);
-    let mut repo = counted(rt, alloc, cache_pages);
     fill(rt, alloc, &mut repo);
     let first = page_of(
         rt,
@@ -114,13 +126,22 @@ fn followed(rt: &impl Abort, alloc: Global, cache_pages: usize) -> Vec<u8>
     output
 }
 
+/// The same over a pool that keeps as many pages in memory.
+fn followed_over(rt: &impl Abort, alloc: Global, cache_pages: usize) -> Vec<u8>
+    requires { 0 < cache_pages }
+{
+    let device = CountingDevice::new(MemoryDevice::new(alloc));
+    let repo = counted(rt, alloc, device, cache_pages);
+    followed(rt, alloc, repo)
+}
+
 /// Each part takes few reads, wherever it stands in its list; all take as many as there are pages, so they come from the
 /// pages; and what is answered does not depend on how many pages are kept in memory.
 #[test]
 fn reads_of_a_long_list(rt: HostRuntime) {
     let alloc = rt.alloc();
-    let one = followed(&rt, alloc, 1);
+    let one = followed_over(&rt, alloc, 1);
     assert!(&rt; one.len() > 60_000);
-    assert!(&rt; followed(&rt, alloc, 2).as_slice() == one.as_slice());
-    assert!(&rt; followed(&rt, alloc, 64).as_slice() == one.as_slice());
+    assert!(&rt; followed_over(&rt, alloc, 2).as_slice() == one.as_slice());
+    assert!(&rt; followed_over(&rt, alloc, 64).as_slice() == one.as_slice());
 }

@@ -17,6 +17,7 @@ mod rows;
 mod settings;
 mod spellings;
 mod times;
+mod xml;
 
 use answers::Answer;
 use rows::Row;
@@ -33,7 +34,7 @@ fn main(rt: HostRuntime) -> io::Result<()> {
 }
 
 /// The files of rows, without their ending.
-fn subjects() -> [&'static str; 12] {
+fn subjects() -> [&'static str; 13] {
     [
         "names",
         "times",
@@ -47,6 +48,7 @@ fn subjects() -> [&'static str; 12] {
         "configurations",
         "keys",
         "elements",
+        "xml",
     ]
 }
 
@@ -86,6 +88,7 @@ fn add_answer(alloc: Global, subject: &str, row: &Row<'_>, answer: &mut Answer) 
         "encodings" => encodings::answer(alloc, row, answer),
         "spellings" => spellings::answer(alloc, row, answer),
         "formats" => formats::answer(alloc, row, answer),
+        "xml" => xml::answer(alloc, row, answer),
         "settings" => settings::answer(alloc, row, answer),
         _ => configurations::answer(alloc, row, answer),
     }

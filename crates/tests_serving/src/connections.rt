@@ -1,52 +1,10 @@
-//! Connections beside each other, their ends and their numbers.
+//! The ends of connections, and their numbers.
 use crate::assertions::{assert_same, assert_shown};
-use crate::recording_handler::{Teller, assert_waits, front, two_opened};
+use crate::recording_handler::front;
 use oai_front::{ConnId, Front, NoSuchConnection, OpenFault, PieceFault};
-use std::alloc::Global;
 use std::panic::Expect;
 use std::process::Abort;
-
-/// The end of a message that begins with `GET / `, and what it is answered.
-fn last_piece() -> (&'static [u8], &'static [u8]) {
-    (
-        b"HTTP/1.1\r\nHost: h\r\n\r\n",
-        b"HTTP/1.1 404 Not Found\r\nContent-Length: 0\r\n\r\n",
-    )
-}
-
-/// The front of a message comes.
-fn begin(front: &mut Front<Teller>, conn: ConnId) -> Result<(), PieceFault> {
-    front.piece(conn, 0, b"GET / ")
-}
-
-/// Its end comes, and it is answered.
-fn assert_ended(rt: &impl Abort, alloc: Global, front: &mut Front<Teller>, conn: ConnId) {
-    let (piece, wanted) = last_piece();
-    front.piece(conn, 0, piece).expect(rt, "piece");
-    assert_waits(rt, alloc, front, conn, wanted);
-}
-
-/// Of two messages that have begun the second is ended and answered, and then the first.
-fn assert_apart(
-    rt: &impl Abort,
-    alloc: Global,
-    front: &mut Front<Teller>,
-    first: ConnId,
-    second: ConnId,
-) {
-    assert_ended(rt, alloc, front, second);
-    assert_waits(rt, alloc, front, first, b"");
-    assert_ended(rt, alloc, front, first);
-}
-
-#[test]
-fn pieces_of_two_connections_do_not_mix(rt: HostRuntime) {
-    let mut front = front(rt.alloc(), 2);
-    let (first, second) = two_opened(&mut front).expect(&rt, "two_opened");
-    begin(&mut front, first).expect(&rt, "begin");
-    begin(&mut front, second).expect(&rt, "begin");
-    assert_apart(&rt, rt.alloc(), &mut front, first, second);
-}
+use tests_fixtures::Teller;
 
 /// The connection ends, and is closing; what comes behind is not answered.
 fn assert_closes(rt: &impl Abort, front: &mut Front<Teller>, conn: ConnId) {

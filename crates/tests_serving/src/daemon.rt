@@ -1,4 +1,4 @@
-//! A server's start and what it says (`oai_daemon`, `oai_archive`), over folders, ports and clocks in memory.
+//! A server's start and what it says (`oai_daemon`, `oai_recovery`, `oai_archive`), over folders, ports and clocks in memory.
 
 mod clocks;
 mod dumps;

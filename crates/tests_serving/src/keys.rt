@@ -1,12 +1,12 @@
 //! A handler behind keys (`oai_keys`), over the handler that repeats what it was asked: what is denied does not reach it.
 use crate::assertions::assert_same_at;
-use crate::recording_handler::{Teller, unasked};
 use oai_http::{Answer, Exchange, Handler, Status, Target};
 use oai_keys::{Guarded, Ring};
 use oai_names::{Sequence, Text};
 use std::alloc::Global;
 use std::panic::Expect;
 use std::process::Abort;
+use tests_fixtures::{Teller, unasked};
 
 /// The digest of `abc` (FIPS 180-4).
 const DIGEST: [u8; 32] = [

@@ -1,16 +1,13 @@
-//! Tests of connections (`oai_front`), over a handler that repeats what it was asked, and over a host; of the loop of many
+//! Tests of connections (`oai_front`), over a handler that repeats what it was asked; of the loop of many
 //! connections (`oai_serving`), over sockets in memory; of archives that outlive their process (`oai_durable`), over pages and
-//! journals in memory; and of a server's start and of what it says (`oai_daemon`, `oai_archive`). It holds nothing else.
+//! journals in memory; and of a server's start and of what it says (`oai_daemon`, `oai_recovery`, `oai_archive`). It holds
+//! nothing else.
 #![tactic(auto)]
 
-#[cfg(test)]
-mod answers;
 #[cfg(test)]
 mod archives;
 #[cfg(test)]
 mod assertions;
-#[cfg(test)]
-mod bounds;
 #[cfg(test)]
 mod checkpoints;
 #[cfg(test)]
@@ -27,8 +24,6 @@ mod faults;
 mod handler;
 #[cfg(test)]
 mod hostile_heads;
-#[cfg(test)]
-mod hosts;
 #[cfg(test)]
 mod keys;
 #[cfg(test)]
@@ -49,5 +44,7 @@ mod rounds;
 mod served;
 #[cfg(test)]
 mod shelves;
+#[cfg(test)]
+mod unlogged;
 #[cfg(test)]
 mod written_lives;

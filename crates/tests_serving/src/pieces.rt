@@ -1,10 +1,11 @@
 //! Bytes that come in pieces.
 use crate::assertions::assert_same;
-use crate::recording_handler::{Teller, answered, assert_waits, front, hand_on, take_all};
+use crate::recording_handler::{assert_waits, front, hand_on, take_all};
 use oai_front::{ConnId, Front};
 use std::alloc::Global;
 use std::panic::Expect;
 use std::process::Abort;
+use tests_fixtures::Teller;
 
 /// Five messages: a GET, a POST, a deposit, a bad path, and one that closes the connection; and bytes
 /// behind it.
@@ -57,23 +58,4 @@ fn slowly_answered(
         take_all(rt, front, conn, true, &mut all);
     }
     all
-}
-
-/// A message of which the last byte comes as the fourth piece.
-fn slow_message() -> [&'static [u8]; 4] {
-    [
-        b"POST /oai/a HTTP/1.1\r\nHost: h\r\nContent-Length: 2\r\n\r\n",
-        b"x",
-        b"",
-        b"y",
-    ]
-}
-
-#[test]
-fn a_message_is_performed_at_the_moment_of_its_last_byte(rt: HostRuntime) {
-    let (answer, closing) = answered(&rt, rt.alloc(), &slow_message());
-    let wanted: &[u8] =
-        b"HTTP/1.1 200 OK\r\nContent-Type: text/xml\r\nContent-Length: 15\r\n\r\n1 3 POST [-] xy";
-    assert_same(&rt, answer.as_slice(), wanted);
-    assert_same(&rt, closing, false);
 }

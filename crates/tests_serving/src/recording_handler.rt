@@ -1,106 +1,10 @@
-//! A handler that repeats what it was asked, and what a front over it answers.
-ghost use Rattle.std.specs.Prelude.{⊤};
-
-use crate::assertions::{assert_same, assert_same_at};
-use oai_front::{ConnId, Front, OpenFault};
-use oai_http::{Answer, Exchange, Handler, Status};
-use oai_names::Sequence;
-use std::alloc::{AllocError, Global};
+//! What a front answers over a handler that repeats what it was asked.
+use crate::assertions::assert_same;
+use oai_front::{ConnId, Front};
+use std::alloc::Global;
 use std::panic::Expect;
 use std::process::Abort;
-use std::str::from_utf8;
-
-/// Counts what it was asked.
-#[derive(Drop)]
-pub(crate) struct Teller {
-    alloc: Global,
-    asked: u64,
-}
-
-impl Handler for Teller {
-    ghost step = { λ old moment asked answer new. ⊤ };
-
-    fn exchange(&mut self, moment: i64, exchange: &Exchange<'_>) -> Answer {
-        self.asked = self.asked.wrapping_add(1);
-        match planned(from_utf8(exchange.target.bytes()).unwrap_or("")) {
-            Some((status, seconds, done)) => told_only(self.alloc, status, seconds, done),
-            None => self.told(moment, exchange),
-        }
-    }
-}
-
-/// The status, the seconds and the number of lines that a target is answered; none where the answer repeats
-/// what was asked.
-fn planned(target: &str) -> Option<(Status, Option<i64>, Option<u64>)> {
-    match target {
-        "/oai/a" | "/deposit/a" => None,
-        "/oai/later" => Some((Status::ServiceUnavailable, Some(50), None)),
-        "/deposit/barred" => Some((Status::Unauthorized, None, None)),
-        "/deposit/later" => Some((Status::ServiceUnavailable, Some(60), Some(2))),
-        "/deposit/failed" => Some((Status::InternalServerError, None, Some(1))),
-        "/oai/failed" => Some((Status::InternalServerError, None, None)),
-        "/oai/put" | "/deposit/put" => Some((Status::MethodNotAllowed, None, None)),
-        "/oai/type" => Some((Status::UnsupportedMediaType, None, None)),
-        "*" => Some((Status::BadRequest, None, None)),
-        _ => Some((Status::NotFound, None, None)),
-    }
-}
-
-impl Teller {
-    /// How many exchanges came before, the moment, the method, the type, the authorization if there is one, and the body.
-    fn told(&self, moment: i64, exchange: &Exchange<'_>) -> Answer {
-        match in_words(self.alloc, self.asked, moment, exchange) {
-            Ok(words) => Answer {
-                status: Status::Ok,
-                seconds: None,
-                done: None,
-                body: Sequence::new(words),
-                fault: None,
-            },
-            Err(_) => told_only(self.alloc, Status::ServiceUnavailable, Some(60), None),
-        }
-    }
-}
-
-fn in_words(
-    alloc: Global,
-    asked: u64,
-    moment: i64,
-    exchange: &Exchange<'_>,
-) -> Result<Vec<u8>, AllocError> {
-    let number = format!(in alloc; "{asked} {moment} ")?;
-    let mut words = number.into_bytes();
-    let content_type = exchange.content_type.unwrap_or(b"-");
-    let key = exchange.authorization.unwrap_or(b"");
-    let pieces: [&[u8]; 6] = [
-        exchange.method,
-        b" [",
-        content_type,
-        b"] ",
-        key,
-        exchange.body,
-    ];
-    for piece in pieces {
-        words.extend_from_slice(piece)?;
-    }
-    Ok(words)
-}
-
-/// An answer without a body.
-fn told_only(alloc: Global, status: Status, seconds: Option<i64>, done: Option<u64>) -> Answer {
-    Answer {
-        status,
-        seconds,
-        done,
-        body: Sequence::new(Vec::new(alloc)),
-        fault: None,
-    }
-}
-
-/// A handler that was asked nothing yet.
-pub(crate) fn unasked(alloc: Global) -> Teller {
-    Teller { alloc, asked: 0 }
-}
+use tests_fixtures::{Teller, unasked};
 
 /// A front over such a handler.
 pub(crate) fn front(alloc: Global, limit: usize) -> Front<Teller> {
@@ -116,13 +20,6 @@ pub(crate) fn hand_on(
     piece: &[u8],
 ) {
     front.piece(conn, moment, piece).expect(rt, "piece");
-}
-
-/// Opens two connections.
-pub(crate) fn two_opened<H>(front: &mut Front<H>) -> Result<(ConnId, ConnId), OpenFault> {
-    let first = front.open()?;
-    let second = front.open()?;
-    Ok((first, second))
 }
 
 /// Takes what is to be written on the connection, one byte at a time where `slowly`.
@@ -178,18 +75,4 @@ pub(crate) fn answered(rt: &impl Abort, alloc: Global, pieces: &[&[u8]]) -> (Vec
     let mut all = Vec::new(alloc);
     take_all(rt, &mut front, conn, false, &mut all);
     (all, front.closing(conn) == Some(true))
-}
-
-/// The bytes are answered so, and the connection is closing then or not.
-pub(crate) fn assert_answered(
-    rt: &impl Abort,
-    alloc: Global,
-    bytes: &str,
-    wanted: &str,
-    closing: bool,
-) {
-    let (answer, closes) = answered(rt, alloc, &[bytes.as_bytes()]);
-    let answer = std::str::from_utf8(&answer).expect(rt, "std::str::from_utf8");
-    assert_same_at(rt, answer, wanted, bytes);
-    assert_same_at(rt, closes, closing, bytes);
 }

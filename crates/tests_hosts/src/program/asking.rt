@@ -1,11 +1,10 @@
 //! Lines that are performed on a new host, and what is written for them.
-use crate::assertions::assert_same_at;
-use oai_catalogue::PlainVersions;
+use oai_catalogue::Versions;
 use oai_cli::ask_lines;
 use oai_device::MemoryDevice;
-use oai_host::Config;
+use oai_host::{Config, Host};
 use oai_item::Forms;
-use oai_startup::{Stop, config_in, host_on, host_over};
+use oai_startup::{Stop, config_in, host_on};
 use std::alloc::Global;
 use std::io::{Read, Write};
 use std::panic::Expect;
@@ -17,8 +16,17 @@ pub(crate) fn config(rt: &impl Abort, alloc: Global) -> Config {
     config_in(alloc, Forms::Fields, worked_configuration().as_bytes()).expect(rt, "config_in")
 }
 
-/// Performs the lines that the reader gives on a new host over pages in memory, as the program does; why that
-/// stopped, if it did.
+/// Performs the lines that the reader gives on the host; why that stopped, if it did.
+fn performed_on<V: Versions + Drop, R: Read, W: Write>(
+    alloc: Global,
+    mut host: Host<V>,
+    reader: &mut R,
+    writer: &mut W,
+) -> Result<(), Stop> {
+    ask_lines(alloc, &mut host, reader, writer)
+}
+
+/// The same on a new host over pages in memory, as the program does.
 pub(crate) fn performed<R: Read, W: Write>(
     rt: &impl Abort,
     alloc: Global,
@@ -26,18 +34,8 @@ pub(crate) fn performed<R: Read, W: Write>(
     writer: &mut W,
 ) -> Result<(), Stop> {
     let device = MemoryDevice::new(alloc);
-    let mut host = host_on(alloc, config(rt, alloc), device).expect(rt, "host_on");
-    ask_lines(alloc, &mut host, reader, writer)
-}
-
-/// What is written for the lines by a new host over plain lists.
-fn written_over_lists(rt: &impl Abort, alloc: Global, input: &str) -> Vec<u8> {
-    let store = PlainVersions::new(alloc);
-    let mut host = host_over(alloc, config(rt, alloc), store).expect(rt, "host_over");
-    let mut reader = input.as_bytes();
-    let mut output = Vec::new(alloc);
-    ask_lines(alloc, &mut host, &mut reader, &mut output).expect(rt, "ask_lines");
-    output
+    let host = host_on(alloc, config(rt, alloc), device).expect(rt, "host_on");
+    performed_on(alloc, host, reader, writer)
 }
 
 /// What is written for the lines that the reader gives.
@@ -54,13 +52,4 @@ pub(crate) fn stop_of<R: Read>(rt: &impl Abort, alloc: Global, reader: &mut R) -
         Ok(()) => panic!(rt; "nothing stopped"),
         Err(stop) => stop,
     }
-}
-
-/// The lines are answered so, over pages and over plain lists.
-pub(crate) fn assert_asked(rt: &impl Abort, alloc: Global, input: &str, wanted: &str) {
-    let mut reader = input.as_bytes();
-    let output = written(rt, alloc, &mut reader);
-    assert_same_at(rt, output.as_slice(), wanted.as_bytes(), input);
-    let output = written_over_lists(rt, alloc, input);
-    assert_same_at(rt, output.as_slice(), wanted.as_bytes(), input);
 }

@@ -1,7 +1,7 @@
 //! How the input is cut into lines, whatever the pieces in which it comes, and what is written
 //! where it, the output or memory fails.
 use crate::assertions::{assert_same, assert_same_at, assert_shown};
-use crate::program::asking::{assert_asked, performed, stop_of, written};
+use crate::program::asking::{performed, stop_of, written};
 use oai_cli::write_answer;
 use oai_host::{Answer, ReadFault, Status};
 use oai_names::Sequence;
@@ -10,7 +10,7 @@ use std::alloc::Global;
 use std::io::{self, ErrorKind, Read, Write};
 use std::panic::Expect;
 use std::process::Abort;
-use tests_fixtures::{bad_verb_document, deposit_of_letters, push_wanted};
+use tests_fixtures::{bad_verb_document, push_wanted};
 
 /// A deposit, an empty line, a line that is no JSON, and a deposit that has no line end.
 fn script() -> &'static str {
@@ -67,11 +67,10 @@ fn assert_in_pieces(rt: &impl Abort, alloc: Global, text: &[u8], first: usize, l
     assert_same_at(rt, output.as_slice(), script_answer().as_bytes(), first);
 }
 
-/// In one read, in two that are cut at every place, and in many of each length.
+/// In two that are cut at every place, and in many of each length.
 #[test]
 fn pieces(rt: HostRuntime) {
     let alloc = rt.alloc();
-    assert_asked(&rt, alloc, script(), script_answer());
     let text = script().as_bytes();
     for length in 1..=text.len() {
         assert_in_pieces(&rt, alloc, text, length, text.len());
@@ -117,23 +116,6 @@ fn long_line_answer(rt: &impl Abort, alloc: Global) -> String {
     push_wanted(bad_verb_document(), &mut wanted).expect(rt, "push_wanted");
     wanted.push_str(script_answer()).expect(rt, "memory");
     wanted
-}
-
-/// A line that fills two reads and more.
-#[test]
-fn line_longer_than_the_buffer(rt: HostRuntime) {
-    let alloc = rt.alloc();
-    let text = long_line(&rt, alloc, 140_000);
-    let wanted = long_line_answer(&rt, alloc);
-    assert_asked(&rt, alloc, text.as_str(), wanted.as_str());
-}
-
-/// A deposit line of 2,097,152 bytes, as many as a body of a message may have, is read whole, and its item is too large.
-#[test]
-fn longest_deposit_line(rt: HostRuntime) {
-    let alloc = rt.alloc();
-    let text = deposit_of_letters(alloc, 2_097_085).expect(&rt, "deposit_of_letters");
-    assert_asked(&rt, alloc, text.as_str(), "200\nrefused 11 too-large\n");
 }
 
 /// A line that comes in 1,223 reads.

@@ -2,6 +2,7 @@
 //! cuts it, or writes over a page.
 use crate::assertions::{assert_same, assert_same_at, assert_shown};
 use crate::program::asking::config;
+use oai_catalogue::Versions;
 use oai_cli::ask_lines;
 use oai_device::{FileDevice, PAGE_BYTES};
 use oai_host::Host;
@@ -39,10 +40,10 @@ fn host_in(rt: &impl Abort, alloc: Global, file: File) -> FiledHost {
 }
 
 /// The lines of the input are answered so.
-fn assert_answers(
+fn assert_answers<V: Versions + Drop>(
     rt: &impl Abort,
     alloc: Global,
-    host: &mut FiledHost,
+    host: &mut Host<V>,
     input: &str,
     transcript: &str,
 ) {
@@ -121,18 +122,36 @@ DOC <responseDate>2024-01-01T00:00:00Z</responseDate><request verb="ListSets">ht
 DOC <responseDate>2024-01-01T00:00:00Z</responseDate><request verb="GetRecord" identifier="oai:b:1" metadataPrefix="oai_dc">http://host.example/oai/b</request><GetRecord><record><header><identifier>oai:b:1</identifier><datestamp>2024-01-01</datestamp></header><metadata>{dc}<dc:title>T</dc:title></oai_dc:dc></metadata></record></GetRecord></OAI-PMH>"#
 }
 
-/// A host keeps a page after the other in the file, from its beginning; another program cuts the file, and the host goes on.
+/// The host keeps a page after the other in the file, from its beginning.
+fn assert_kept<V: Versions + Drop, R: Files<File = File> + AllocGlobal + Abort>(
+    rt: &R,
+    path: &str,
+    host: &mut Host<V>,
+) {
+    let lines = deposits(rt, rt.alloc());
+    assert_answers(rt, rt.alloc(), host, lines.as_str(), deposited());
+    assert_length(rt, path, 49_152);
+}
+
+/// Another program cuts the file, and the host goes on.
+fn assert_cut<V: Versions + Drop, R: Files<File = File> + AllocGlobal + Abort>(
+    rt: &R,
+    path: &str,
+    mut host: Host<V>,
+) {
+    assert_kept(rt, path, &mut host);
+    cut(rt, path, 100);
+    let lines = asked_in(rt.alloc(), asked_of_a_cut_file()).expect(rt, "asked_in");
+    let (asked, wanted) = (lines.as_str(), asked_of_a_cut_file());
+    assert_answers(rt, rt.alloc(), &mut host, asked, wanted);
+}
+
+/// A host of a file that had other bytes, which is cut.
 #[test]
 fn file_of_pages(rt: HostRuntime) {
     let path = "file-of.pages";
-    let alloc = rt.alloc();
-    let mut host = host_in(&rt, alloc, emptied(&rt, path));
-    let lines = deposits(&rt, alloc);
-    assert_answers(&rt, alloc, &mut host, lines.as_str(), deposited());
-    assert_length(&rt, path, 49_152);
-    cut(&rt, path, 100);
-    let lines = asked_in(alloc, asked_of_a_cut_file()).expect(&rt, "asked_in");
-    assert_answers(&rt, alloc, &mut host, lines.as_str(), asked_of_a_cut_file());
+    let host = host_in(&rt, rt.alloc(), emptied(&rt, path));
+    assert_cut(&rt, path, host);
     fs::remove_file(&rt, path).expect(&rt, "fs::remove_file");
 }
 
@@ -185,10 +204,10 @@ DOC <responseDate>2024-01-01T00:00:00Z</responseDate><request verb="GetRecord" i
 }
 
 /// The line is answered as it should be, or with the status 500; whether it is the latter.
-fn fails_or_is_right(
+fn fails_or_is_right<V: Versions + Drop>(
     rt: &impl Abort,
     alloc: Global,
-    host: &mut FiledHost,
+    host: &mut Host<V>,
     line: &str,
     right: &str,
     failed: &str,
@@ -203,7 +222,7 @@ fn fails_or_is_right(
 }
 
 /// How many of the lines fail.
-fn failures_of(rt: &impl Abort, alloc: Global, host: &mut FiledHost) -> u32 {
+fn failures_of<V: Versions + Drop>(rt: &impl Abort, alloc: Global, host: &mut Host<V>) -> u32 {
     let mut failures: u32 = 0;
     for (line, right, failed) in asked_of_such_a_file() {
         if fails_or_is_right(rt, alloc, host, line, right, failed) {
@@ -213,20 +232,30 @@ fn failures_of(rt: &impl Abort, alloc: Global, host: &mut FiledHost) -> u32 {
     failures
 }
 
-/// How many of the lines fail where the page of that number is written over, with that seed.
-fn failures_with<R: Files<File = File> + AllocGlobal + Abort>(
+/// How many of the lines fail where the page of that number of the host's file is written over, with that seed.
+fn failures_with<V: Versions + Drop, R: Files<File = File> + AllocGlobal + Abort>(
+    rt: &R,
+    path: &str,
+    mut host: Host<V>,
+    number: u64,
+    seed: u32,
+) -> u32 {
+    let lines = deposits(rt, rt.alloc());
+    assert_answers(rt, rt.alloc(), &mut host, lines.as_str(), deposited());
+    let page = page_of(rt, rt.alloc(), seed);
+    write_over(rt, path, number, &page);
+    failures_of(rt, rt.alloc(), &mut host)
+}
+
+/// The same of a new host of that file.
+fn failures_at<R: Files<File = File> + AllocGlobal + Abort>(
     rt: &R,
     path: &str,
     number: u64,
     seed: u32,
 ) -> u32 {
-    let alloc = rt.alloc();
-    let mut host = host_in(rt, alloc, emptied(rt, path));
-    let lines = deposits(rt, alloc);
-    assert_answers(rt, alloc, &mut host, lines.as_str(), deposited());
-    let page = page_of(rt, alloc, seed);
-    write_over(rt, path, number, &page);
-    failures_of(rt, alloc, &mut host)
+    let host = host_in(rt, rt.alloc(), emptied(rt, path));
+    failures_with(rt, path, host, number, seed)
 }
 
 /// Each page is filled with zeros, and with bytes at random: what needs it fails, and nothing is answered that is wrong. The page in the cache is
@@ -237,7 +266,7 @@ fn pages_written_over(rt: HostRuntime) {
     for seed in [0, 57] {
         let mut failures: u32 = 0;
         for number in 0..3u64 {
-            failures = failures.wrapping_add(failures_with(&rt, path, number, seed));
+            failures = failures.wrapping_add(failures_at(&rt, path, number, seed));
         }
         assert!(rt; failures > 0, "{seed}");
     }

@@ -11,6 +11,7 @@ use oai_cli::{StreamFault, serve_stream};
 use oai_device::MemoryDevice;
 use oai_front::{ConnId, Front};
 use oai_host::Host;
+use oai_http::Handler;
 use oai_paged::PagedVersions;
 use oai_startup::host_on;
 use std::alloc::Global;
@@ -152,7 +153,12 @@ fn new_front(rt: &impl Abort, alloc: Global) -> PagedFront {
 }
 
 /// A connection on which a set is added is answered so, and another one can be opened behind it.
-fn assert_set(rt: &impl Abort, alloc: Global, front: &mut PagedFront, wanted: &str) {
+fn assert_set<H: Handler + Drop>(
+    rt: &impl Abort,
+    alloc: Global,
+    front: &mut Front<H>,
+    wanted: &str,
+) {
     let mut stream = wire_of(alloc, set_message().as_bytes(), 1_000);
     let served = serve_stream(alloc, front, &mut stream, &StandingClock);
     assert_same(rt, served, Ok(()));
@@ -189,10 +195,10 @@ fn assert_wire(rt: &impl Abort, wire: &Wire<'_>, wanted: &str, bytes: usize, pie
 
 /// The three messages come in pieces of so many bytes, and are not read any more once the connection
 /// closes.
-fn assert_read_in_pieces(
+fn assert_read_in_pieces<H: Handler + Drop>(
     rt: &impl Abort,
     alloc: Global,
-    front: &mut PagedFront,
+    front: &mut Front<H>,
     text: &str,
     wanted: &str,
     piece: usize,
@@ -207,10 +213,16 @@ fn assert_read_in_pieces(
 }
 
 /// They are answered so, and the next connection is served.
-fn assert_pieces(rt: &impl Abort, alloc: Global, text: &str, wanted: &str, piece: usize)
+fn assert_pieces<H: Handler + Drop>(
+    rt: &impl Abort,
+    alloc: Global,
+    mut front: Front<H>,
+    text: &str,
+    wanted: &str,
+    piece: usize,
+)
     requires { 1 ≤ piece }
 {
-    let mut front = new_front(rt, alloc);
     assert_read_in_pieces(rt, alloc, &mut front, text, wanted, piece);
     assert_set(rt, alloc, &mut front, set_again_answer());
 }
@@ -222,28 +234,37 @@ fn streams_in_pieces(rt: HostRuntime) {
     let text = three_messages(&rt, alloc);
     let wanted = two_answers(&rt, alloc);
     for piece in 1..=text.len() {
-        assert_pieces(&rt, alloc, text.as_str(), wanted.as_str(), piece);
+        let front = new_front(&rt, alloc);
+        assert_pieces(&rt, alloc, front, text.as_str(), wanted.as_str(), piece);
     }
+}
+
+/// A message but for its last byte is served, and nothing is written.
+fn assert_unwritten<H: Handler + Drop>(rt: &impl Abort, alloc: Global, front: &mut Front<H>) {
+    let message = set_message().as_bytes();
+    let mut stream = wire_of(alloc, but_the_last(message), 1_000);
+    let served = serve_stream(alloc, front, &mut stream, &StandingClock);
+    assert_same(rt, served, Ok(()));
+    assert_same(rt, stream.written.len(), 0);
+}
+
+fn assert_end_in_a_body<H: Handler + Drop>(rt: &impl Abort, alloc: Global, mut front: Front<H>) {
+    assert_unwritten(rt, alloc, &mut front);
+    assert_set(rt, alloc, &mut front, set_answer());
 }
 
 /// A stream ends in the middle of a message: nothing is performed of it.
 #[test]
 fn stream_ends_in_a_body(rt: HostRuntime) {
-    let alloc = rt.alloc();
-    let mut front = new_front(&rt, alloc);
-    let message = set_message().as_bytes();
-    let mut stream = wire_of(alloc, but_the_last(message), 1_000);
-    let served = serve_stream(alloc, &mut front, &mut stream, &StandingClock);
-    assert_same(&rt, served, Ok(()));
-    assert!(rt; stream.written.is_empty());
-    assert_set(&rt, alloc, &mut front, set_answer());
+    let front = new_front(&rt, rt.alloc());
+    assert_end_in_a_body(&rt, rt.alloc(), front);
 }
 
 /// The message comes a byte a read, and the read behind so many fails; that is written for it.
-fn assert_read_fails(
+fn assert_read_fails<H: Handler + Drop>(
     rt: &impl Abort,
     alloc: Global,
-    front: &mut PagedFront,
+    front: &mut Front<H>,
     reads: usize,
     wanted: &str,
 ) {
@@ -255,13 +276,17 @@ fn assert_read_fails(
 }
 
 /// What was performed where that read fails stays, and the next connection is served.
-fn assert_served_behind_reads(rt: &impl Abort, alloc: Global, reads: usize) {
+fn assert_served_behind_reads<H: Handler + Drop>(
+    rt: &impl Abort,
+    alloc: Global,
+    mut front: Front<H>,
+    reads: usize,
+) {
     let (wanted, next) = if reads == set_message().len() {
         (set_answer(), set_again_answer())
     } else {
         ("", set_answer())
     };
-    let mut front = new_front(rt, alloc);
     assert_read_fails(rt, alloc, &mut front, reads, wanted);
     assert_set(rt, alloc, &mut front, next);
 }
@@ -270,15 +295,16 @@ fn assert_served_behind_reads(rt: &impl Abort, alloc: Global, reads: usize) {
 #[test]
 fn reads_of_a_stream_fail(rt: HostRuntime) {
     for reads in 0..=set_message().len() {
-        assert_served_behind_reads(&rt, rt.alloc(), reads);
+        let front = new_front(&rt, rt.alloc());
+        assert_served_behind_reads(&rt, rt.alloc(), front, reads);
     }
 }
 
 /// The messages come, and the write behind so many fails; what is written is a front of that.
-fn assert_write_fails(
+fn assert_write_fails<H: Handler + Drop>(
     rt: &impl Abort,
     alloc: Global,
-    front: &mut PagedFront,
+    front: &mut Front<H>,
     text: &str,
     wanted: &str,
     writes: usize,
@@ -294,10 +320,14 @@ fn assert_write_fails(
 }
 
 /// What was performed where that write fails stays, and the next connection is served.
-fn assert_served_behind_writes(rt: &impl Abort, alloc: Global, writes: usize) {
+fn assert_served_behind_writes<H: Handler + Drop>(
+    rt: &impl Abort,
+    alloc: Global,
+    mut front: Front<H>,
+    writes: usize,
+) {
     let text = three_messages(rt, alloc);
     let wanted = two_answers(rt, alloc);
-    let mut front = new_front(rt, alloc);
     assert_write_fails(
         rt,
         alloc,
@@ -312,8 +342,10 @@ fn assert_served_behind_writes(rt: &impl Abort, alloc: Global, writes: usize) {
 /// Each write fails in turn.
 #[test]
 fn writes_of_a_stream_fail(rt: HostRuntime) {
-    assert_served_behind_writes(&rt, rt.alloc(), 0);
-    assert_served_behind_writes(&rt, rt.alloc(), 1);
+    let front = new_front(&rt, rt.alloc());
+    assert_served_behind_writes(&rt, rt.alloc(), front, 0);
+    let front = new_front(&rt, rt.alloc());
+    assert_served_behind_writes(&rt, rt.alloc(), front, 1);
 }
 
 /// A wire of which so many calls succeed, reads and writes, and the next one fails.
@@ -353,10 +385,10 @@ impl Write for BrokenWire<'_> {
 }
 
 /// The messages come in pieces of 30 bytes, and what is written for them is a front of that; what comes of it where a call fails.
-fn served_with_calls(
+fn served_with_calls<H: Handler + Drop>(
     rt: &impl Abort,
     alloc: Global,
-    front: &mut PagedFront,
+    front: &mut Front<H>,
     text: &str,
     wanted: &str,
     calls: usize,
@@ -374,10 +406,14 @@ fn served_with_calls(
 }
 
 /// What was performed where that call fails stays, and the next connection is served; whether a call failed.
-fn fails_behind(rt: &impl Abort, alloc: Global, calls: usize) -> bool {
+fn fails_behind<H: Handler + Drop>(
+    rt: &impl Abort,
+    alloc: Global,
+    mut front: Front<H>,
+    calls: usize,
+) -> bool {
     let text = three_messages(rt, alloc);
     let wanted = two_answers(rt, alloc);
-    let mut front = new_front(rt, alloc);
     let (served, read) = served_with_calls(
         rt,
         alloc,
@@ -400,7 +436,8 @@ fn fails_behind(rt: &impl Abort, alloc: Global, calls: usize) -> bool {
 #[test]
 fn calls_of_a_stream_fail(rt: HostRuntime) {
     for calls in 0..100usize {
-        if !fails_behind(&rt, rt.alloc(), calls) {
+        let front = new_front(&rt, rt.alloc());
+        if !fails_behind(&rt, rt.alloc(), front, calls) {
             assert!(rt; calls > 0);
             return;
         }
@@ -408,48 +445,56 @@ fn calls_of_a_stream_fail(rt: HostRuntime) {
     panic!(rt; "a call fails each time")
 }
 
-#[test]
-fn clock_of_a_stream_fails(rt: HostRuntime) {
-    let alloc = rt.alloc();
-    let mut front = new_front(&rt, alloc);
+/// A message comes whose moment cannot be read, and nothing is written.
+fn assert_no_moment<H: Handler + Drop>(rt: &impl Abort, alloc: Global, front: &mut Front<H>) {
     let mut stream = wire_of(alloc, set_message().as_bytes(), 1_000);
-    let served = serve_stream(alloc, &mut front, &mut stream, &StoppedClock);
-    assert_same(&rt, served, Err(StreamFault::ClockFault));
-    assert!(rt; stream.written.is_empty());
-    assert_set(&rt, alloc, &mut front, set_answer());
+    let served = serve_stream(alloc, front, &mut stream, &StoppedClock);
+    assert_same(rt, served, Err(StreamFault::ClockFault));
+    assert_same(rt, stream.written.len(), 0);
 }
 
-/// A message is performed at the moment of the clock behind the read that completes it: the second
-/// read ends twenty seconds behind the first moment.
+fn assert_stopped_clock<H: Handler + Drop>(rt: &impl Abort, alloc: Global, mut front: Front<H>) {
+    assert_no_moment(rt, alloc, &mut front);
+    assert_set(rt, alloc, &mut front, set_answer());
+}
+
 #[test]
-fn moments_of_a_stream(rt: HostRuntime) {
-    let alloc = rt.alloc();
+fn clock_of_a_stream_fails(rt: HostRuntime) {
+    let front = new_front(&rt, rt.alloc());
+    assert_stopped_clock(&rt, rt.alloc(), front);
+}
+
+/// The second read ends twenty seconds behind the first moment.
+fn assert_moments<H: Handler + Drop>(rt: &impl Abort, alloc: Global, mut front: Front<H>) {
     let clock = MovedClock(Cell::new(1_704_067_210));
-    let mut front = new_front(&rt, alloc);
     let mut stream = SlowWire {
         wire: wire_of(alloc, set_message().as_bytes(), 60),
         clock: &clock,
     };
     let served = serve_stream(alloc, &mut front, &mut stream, &clock);
-    assert_same(&rt, served, Ok(()));
-    assert_same(
-        &rt,
-        stream.wire.written.as_slice(),
-        later_set_answer().as_bytes(),
-    );
+    assert_same(rt, served, Ok(()));
+    let written = stream.wire.written.as_slice();
+    assert_same(rt, written, later_set_answer().as_bytes());
+}
+
+/// A message is performed at the moment of the clock behind the read that completes it.
+#[test]
+fn moments_of_a_stream(rt: HostRuntime) {
+    let front = new_front(&rt, rt.alloc());
+    assert_moments(&rt, rt.alloc(), front);
 }
 
 /// No connection is opened for a stream.
-fn assert_not_opened(rt: &impl Abort, alloc: Global, front: &mut PagedFront) {
+fn assert_not_opened<H: Handler + Drop>(rt: &impl Abort, alloc: Global, front: &mut Front<H>) {
     let mut stream = wire_of(alloc, set_message().as_bytes(), 1_000);
     let served = serve_stream(alloc, front, &mut stream, &StandingClock);
     assert!(rt; matches!(served, Err(StreamFault::NotOpened(_))));
 }
 
 /// A connection is opened; none is opened beside it, and it stays.
-fn assert_one_opened(rt: &impl Abort, alloc: Global, front: &mut PagedFront) {
+fn assert_one_opened<H: Handler + Drop>(rt: &impl Abort, alloc: Global, mut front: Front<H>) {
     let conn = front.open().expect(rt, "open");
-    assert_not_opened(rt, alloc, front);
+    assert_not_opened(rt, alloc, &mut front);
     assert_same(rt, front.closing(conn), Some(false));
     assert_same(rt, front.closing(ConnId { number: 2 }), None);
 }
@@ -457,8 +502,8 @@ fn assert_one_opened(rt: &impl Abort, alloc: Global, front: &mut PagedFront) {
 /// Where as many connections are open as may be, none is opened.
 #[test]
 fn no_room_for_a_stream(rt: HostRuntime) {
-    let mut front = new_front(&rt, rt.alloc());
-    assert_one_opened(&rt, rt.alloc(), &mut front);
+    let front = new_front(&rt, rt.alloc());
+    assert_one_opened(&rt, rt.alloc(), front);
 }
 
 /// A deposit of a record whose title is so many of the letter, a request of it, and one of what is not there.
@@ -499,8 +544,13 @@ fn long_answers(rt: &impl Abort, alloc: Global, shown: &str, letters: usize) -> 
 }
 
 /// What comes on the stream is answered so, and that is all that is written.
-fn assert_served(rt: &impl Abort, alloc: Global, text: &str, wanted: &str) {
-    let mut front = new_front(rt, alloc);
+fn assert_served<H: Handler + Drop>(
+    rt: &impl Abort,
+    alloc: Global,
+    mut front: Front<H>,
+    text: &str,
+    wanted: &str,
+) {
     let mut stream = wire_of(alloc, text.as_bytes(), 65_536);
     let served = serve_stream(alloc, &mut front, &mut stream, &StandingClock);
     assert_same(rt, served, Ok(()));
@@ -515,7 +565,8 @@ fn long_outputs(rt: HostRuntime) {
     for (letter, shown, letters) in [("t", "t", 1), ("t", "t", 4_096), ("&", "&amp;", 15_945)] {
         let text = long_record(&rt, alloc, letter, letters);
         let wanted = long_answers(&rt, alloc, shown, letters);
-        assert_served(&rt, alloc, text.as_str(), wanted.as_str());
+        let front = new_front(&rt, alloc);
+        assert_served(&rt, alloc, front, text.as_str(), wanted.as_str());
     }
 }
 
@@ -534,17 +585,17 @@ fn many_short_outputs(rt: HostRuntime) {
     let alloc = rt.alloc();
     let text = times(&rt, alloc, "GET / HTTP/1.1\r\nHost: h\r\n\r\n", 100);
     let wanted = times(&rt, alloc, not_found(), 100);
-    assert_served(&rt, alloc, text.as_str(), wanted.as_str());
+    let front = new_front(&rt, alloc);
+    assert_served(&rt, alloc, front, text.as_str(), wanted.as_str());
 }
 
 /// What comes of the text where so many writes are made and the next one fails.
-fn served_with_writes(
-    rt: &impl Abort,
+fn served_with_writes<H: Handler + Drop>(
     alloc: Global,
+    mut front: Front<H>,
     text: &str,
     writes: usize,
 ) -> Result<(), StreamFault> {
-    let mut front = new_front(rt, alloc);
     let mut stream = wire_of(alloc, text.as_bytes(), 65_536);
     stream.writes = writes;
     serve_stream(alloc, &mut front, &mut stream, &StandingClock)
@@ -555,13 +606,11 @@ fn served_with_writes(
 fn short_outputs_are_gathered(rt: HostRuntime) {
     let alloc = rt.alloc();
     let text = long_record(&rt, alloc, "t", 4_096);
-    let fault = Err(StreamFault::WriteFault);
-    assert_same(&rt, served_with_writes(&rt, alloc, text.as_str(), 2), fault);
-    assert_same(
-        &rt,
-        served_with_writes(&rt, alloc, text.as_str(), 3),
-        Ok(()),
-    );
+    for (writes, wanted) in [(2, Err(StreamFault::WriteFault)), (3, Ok(()))] {
+        let front = new_front(&rt, alloc);
+        let served = served_with_writes(alloc, front, text.as_str(), writes);
+        assert_same(&rt, served, wanted);
+    }
 }
 
 /// Gives the head of a message of 1,048,576 bytes, and then one byte a read, for ever.
@@ -592,18 +641,26 @@ impl Write for EndlessWire<'_> {
     }
 }
 
-#[test]
-fn endless_streams(rt: HostRuntime) {
-    let alloc = rt.alloc();
-    let mut front = new_front(&rt, alloc);
+/// A stream that gives a byte a read for ever is given up at the read of number 1,000,000.
+fn assert_endless<H: Handler + Drop>(rt: &impl Abort, alloc: Global, front: &mut Front<H>) {
     let mut stream = EndlessWire {
         head: b"POST /deposit/a HTTP/1.1\r\nHost: h\r\nContent-Length: 1048576\r\n\r\n",
         reads: 0,
     };
-    let served = serve_stream(alloc, &mut front, &mut stream, &StandingClock);
-    assert_same(&rt, served, Err(StreamFault::Endless));
-    assert_same(&rt, stream.reads, 1_000_000);
-    assert_set(&rt, alloc, &mut front, set_answer());
+    let served = serve_stream(alloc, front, &mut stream, &StandingClock);
+    assert_same(rt, served, Err(StreamFault::Endless));
+    assert_same(rt, stream.reads, 1_000_000);
+}
+
+fn assert_given_up<H: Handler + Drop>(rt: &impl Abort, alloc: Global, mut front: Front<H>) {
+    assert_endless(rt, alloc, &mut front);
+    assert_set(rt, alloc, &mut front, set_answer());
+}
+
+#[test]
+fn endless_streams(rt: HostRuntime) {
+    let front = new_front(&rt, rt.alloc());
+    assert_given_up(&rt, rt.alloc(), front);
 }
 
 /// What is reported of each fault of a stream.
@@ -632,9 +689,14 @@ fn ask(rt: &impl Abort, client: &mut TcpStream) {
 }
 
 /// Serves the next connection to its end.
-fn serve_next(rt: &impl Abort, alloc: Global, listener: &TcpListener, front: &mut PagedFront) {
+fn serve_next<H: Handler + Drop>(
+    rt: &impl Abort,
+    alloc: Global,
+    listener: &TcpListener,
+    mut front: Front<H>,
+) {
     let (mut stream, _) = listener.accept().expect(rt, "accept");
-    serve_stream(alloc, front, &mut stream, &StandingClock).expect(rt, "serve_stream");
+    serve_stream(alloc, &mut front, &mut stream, &StandingClock).expect(rt, "serve_stream");
 }
 
 /// What the client is answered by a new host that listens.
@@ -645,7 +707,8 @@ fn answers_to(
     listener: &TcpListener,
 ) -> Vec<u8> {
     ask(rt, client);
-    serve_next(rt, alloc, listener, &mut new_front(rt, alloc));
+    let front = new_front(rt, alloc);
+    serve_next(rt, alloc, listener, front);
     let mut answers = Vec::new(alloc);
     client.read_to_end(&mut answers).expect(rt, "read_to_end");
     answers

@@ -1,18 +1,18 @@
-//! Connections whose pieces stand in lines.
+//! Connections whose pieces stand in lines, where the input or the output fails.
 use crate::assertions::{assert_same, assert_same_at};
 use crate::program::asking::config;
 use crate::program::failing_streams::{FailingReader, FailingWriter};
 use crate::program::inputs::{CountingWriter, EmptyLines};
-use oai_catalogue::PlainVersions;
 use oai_cli::{MAX_CONNECTIONS, trace_lines};
 use oai_device::MemoryDevice;
 use oai_front::Front;
-use oai_startup::{Stop, host_on, host_over};
+use oai_http::Handler;
+use oai_startup::{Stop, host_on};
 use std::alloc::Global;
 use std::io::{Read, Write};
 use std::panic::Expect;
 use std::process::Abort;
-use tests_fixtures::{identify_document, push_wanted};
+use tests_fixtures::push_wanted;
 
 /// Traces the lines that the reader gives on a new host over pages in memory, as the program does; why that
 /// stopped, if it did.
@@ -24,35 +24,18 @@ fn traced<R: Read, W: Write>(
 ) -> Result<(), Stop> {
     let device = MemoryDevice::new(alloc);
     let host = host_on(alloc, config(rt, alloc), device).expect(rt, "host_on");
-    let mut front = Front::new(alloc, host, MAX_CONNECTIONS);
-    trace_lines(alloc, &mut front, reader, writer)
+    traced_by(alloc, host, reader, writer)
 }
 
-/// The same on a new host over plain lists.
-fn traced_over_lists(
-    rt: &impl Abort,
+/// The same on that handler.
+fn traced_by<H: Handler + Drop, R: Read, W: Write>(
     alloc: Global,
-    lines: &str,
-    writer: &mut Vec<u8>,
+    handler: H,
+    reader: &mut R,
+    writer: &mut W,
 ) -> Result<(), Stop> {
-    let store = PlainVersions::new(alloc);
-    let host = host_over(alloc, config(rt, alloc), store).expect(rt, "host_over");
-    let mut front = Front::new(alloc, host, MAX_CONNECTIONS);
-    let mut reader = lines.as_bytes();
-    trace_lines(alloc, &mut front, &mut reader, writer)
-}
-
-/// For the lines that is written, and then it stops so, over pages and over plain lists.
-fn assert_traced(rt: &impl Abort, alloc: Global, lines: &str, wanted: &str, end: Result<(), Stop>) {
-    let mut output = Vec::new(alloc);
-    let mut reader = lines.as_bytes();
-    let done = traced(rt, alloc, &mut reader, &mut output);
-    assert_same_at(rt, output.as_slice(), wanted.as_bytes(), lines);
-    assert_same_at(rt, done, end, lines);
-    let mut output = Vec::new(alloc);
-    let done = traced_over_lists(rt, alloc, lines, &mut output);
-    assert_same_at(rt, output.as_slice(), wanted.as_bytes(), lines);
-    assert_same_at(rt, done, end, lines);
+    let mut front = Front::new(alloc, handler, MAX_CONNECTIONS);
+    trace_lines(alloc, &mut front, reader, writer)
 }
 
 /// Adds a line: the piece comes on the connection of the label at the moment 1704067200.
@@ -60,13 +43,6 @@ fn push_piece(rt: &impl Abort, alloc: Global, label: u64, piece: &[u8], lines: &
     let digits = hex::encode(alloc, piece).expect(rt, "hex::encode");
     let line = format!(in alloc; "1704067200 {label} {digits}\n").expect(rt, "memory");
     lines.push_str(line.as_str()).expect(rt, "memory");
-}
-
-/// Adds a line of the output: the connection of the label sends the text.
-fn push_output(rt: &impl Abort, alloc: Global, label: u64, text: &str, wanted: &mut String) {
-    let digits = hex::encode(alloc, text.as_bytes()).expect(rt, "hex::encode");
-    let line = format!(in alloc; "{label} {digits}\n").expect(rt, "memory");
-    wanted.push_str(line.as_str()).expect(rt, "memory");
 }
 
 /// A message that adds a set.
@@ -89,24 +65,6 @@ pub(crate) fn set_again_answer() -> &'static str {
     "HTTP/1.1 200 OK\r\nContent-Type: text/plain; charset=utf-8\r\nContent-Length: 22\r\n\r\nrefused 17 set-exists\n"
 }
 
-/// A message that is cut at each place, and into single bytes.
-#[test]
-fn message_in_pieces(rt: HostRuntime) {
-    let alloc = rt.alloc();
-    let message = set_message().as_bytes();
-    let mut wanted = String::new(alloc);
-    push_output(&rt, alloc, 7, set_answer(), &mut wanted);
-    let mut single = String::new(alloc);
-    for at in 0..message.len() {
-        let mut lines = String::new(alloc);
-        push_piece(&rt, alloc, 7, &message[..at], &mut lines);
-        push_piece(&rt, alloc, 7, &message[at..], &mut lines);
-        assert_traced(&rt, alloc, lines.as_str(), wanted.as_str(), Ok(()));
-        push_piece(&rt, alloc, 7, &message[at..at + 1], &mut single);
-    }
-    assert_traced(&rt, alloc, single.as_str(), wanted.as_str(), Ok(()));
-}
-
 /// The answer to a request of what is not there.
 pub(crate) fn not_found() -> &'static str {
     "HTTP/1.1 404 Not Found\r\nContent-Length: 0\r\n\r\n"
@@ -120,32 +78,6 @@ pub(crate) fn but_the_last(bytes: &[u8]) -> &[u8] {
     }
 }
 
-/// A connection that ends behind the front of a message sends nothing, and its repository is as it was.
-fn assert_end_behind(rt: &impl Abort, alloc: Global, front: &[u8]) {
-    let mut lines = String::new(alloc);
-    push_piece(rt, alloc, 1, front, &mut lines);
-    lines.push_str("1704067200 1 end\n").expect(rt, "memory");
-    push_piece(rt, alloc, 2, set_message().as_bytes(), &mut lines);
-    let mut wanted = String::from_str(alloc, "1 close\n").expect(rt, "memory");
-    push_output(rt, alloc, 2, set_answer(), &mut wanted);
-    assert_traced(rt, alloc, lines.as_str(), wanted.as_str(), Ok(()));
-}
-
-/// The end comes behind each byte of a message but the last.
-#[test]
-fn ends_in_a_message(rt: HostRuntime) {
-    let message = set_message().as_bytes();
-    for at in 0..message.len() {
-        let (front, _) = message.split_at(at);
-        assert_end_behind(&rt, rt.alloc(), front);
-    }
-}
-
-/// The second repository, as Identify describes it.
-fn second() -> &'static str {
-    "DOC <responseDate>2024-01-01T00:00:00Z</responseDate><request verb=\"Identify\">http://host.example/oai/b</request><Identify><repositoryName>Archive B</repositoryName><baseURL>http://host.example/oai/b</baseURL><protocolVersion>2.0</protocolVersion><adminEmail>b@host.example</adminEmail><earliestDatestamp>2024-01-01</earliestDatestamp><deletedRecord>no</deletedRecord><granularity>YYYY-MM-DD</granularity></Identify></OAI-PMH>"
-}
-
 /// The answer whose body is the document.
 pub(crate) fn answer_with(rt: &impl Abort, alloc: Global, document: &str) -> String {
     let mut body = String::new(alloc);
@@ -156,41 +88,6 @@ pub(crate) fn answer_with(rt: &impl Abort, alloc: Global, document: &str) -> Str
         body
     )
     .expect(rt, "memory")
-}
-
-/// Adds a line of the output: the connection of the label sends the answer with that document.
-fn push_document(rt: &impl Abort, alloc: Global, label: u64, document: &str, wanted: &mut String) {
-    let text = answer_with(rt, alloc, document);
-    push_output(rt, alloc, label, text.as_str(), wanted);
-}
-
-/// Two connections whose requests come byte by byte in turns: each output is its own answer.
-#[test]
-fn bytes_in_turns(rt: HostRuntime) {
-    let alloc = rt.alloc();
-    let first = b"GET /oai/a?verb=Identify HTTP/1.1\r\nHost: h\r\n\r\n".as_slice();
-    let other = b"GET /oai/b?verb=Identify HTTP/1.1\r\nHost: h\r\n\r\n".as_slice();
-    let mut lines = String::new(alloc);
-    for at in 0..first.len() {
-        push_piece(
-            &rt,
-            alloc,
-            1,
-            first.get(at..at + 1).unwrap_or(&[]),
-            &mut lines,
-        );
-        push_piece(
-            &rt,
-            alloc,
-            2,
-            other.get(at..at + 1).unwrap_or(&[]),
-            &mut lines,
-        );
-    }
-    let mut wanted = String::new(alloc);
-    push_document(&rt, alloc, 1, identify_document(), &mut wanted);
-    push_document(&rt, alloc, 2, second(), &mut wanted);
-    assert_traced(&rt, alloc, lines.as_str(), wanted.as_str(), Ok(()));
 }
 
 /// What was sent before a read that fails stays written.

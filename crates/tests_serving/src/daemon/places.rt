@@ -4,10 +4,11 @@ ghost use Rattle.oai_journal.specs.Recovered.{disk_of};
 ghost use Rattle.std.specs.Prelude.{IsTrue};
 
 use oai_archive::ServerStop;
-use oai_daemon::{Ended, Notice, Place, serve};
+use oai_daemon::{Ended, serve};
 use oai_device::MemoryDevice;
 use oai_journal::{FileJournal, Journal, Kind, LogRecord, MAX_BODY, Recovery};
 use oai_names::Sequence;
+use oai_recovery::{Notice, Place};
 use oai_serving::{Readiness, Sockets, Stream};
 use oai_startup::Stop;
 use sqlite_disk::{Disk, Memory};

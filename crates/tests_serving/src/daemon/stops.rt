@@ -1,7 +1,7 @@
 //! What a server says where it stops, and with which status.
 use oai_archive::{Aspect, Difference, ServerStop};
-use oai_daemon::Notice;
 use oai_item::Fault;
+use oai_recovery::Notice;
 use oai_startup::Stop;
 use std::alloc::Global;
 use std::fmt::Display;

@@ -1,0 +1,33 @@
+//! What is performed and leaves no log record.
+use crate::archives::{answer_of, begun, worked};
+use oai_http::{Answer, Settled};
+use oai_journal::Recovery;
+use sqlite_disk::Memory;
+use std::panic::Expect;
+use std::process::Abort;
+
+/// It is 200, with no line.
+fn assert_no_line(rt: &impl Abort, answer: &Answer) {
+    assert!(rt; answer.fault.is_none());
+    assert!(rt; answer.status.number() == 200);
+    assert!(rt; answer.body.as_slice().is_empty());
+}
+
+/// The journal has no record behind its first one.
+fn assert_no_record(rt: &impl Abort, mut recovery: Recovery<Memory>) {
+    recovery.begin().expect(rt, "begin");
+    let more = recovery.advance().expect(rt, "advance");
+    assert!(rt; !more);
+}
+
+/// A deposit of blank lines alone.
+#[test]
+fn blank_lines_leave_no_record(rt: HostRuntime) {
+    let alloc = rt.alloc();
+    let mut archive = begun(&rt, alloc, worked(1));
+    let line = "1704067207 POST /deposit/a | - |  ¶\t¶\r¶¶ ";
+    let answer = answer_of(&rt, alloc, &mut archive, line);
+    assert_no_line(&rt, &answer);
+    archive.settle().expect(&rt, "settle");
+    assert_no_record(&rt, archive.into_journal().crash(alloc));
+}
