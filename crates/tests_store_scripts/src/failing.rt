@@ -4,7 +4,7 @@ use crate::counts::Counted;
 use crate::lines::each_line;
 use crate::stores::paged_store;
 use oai_catalogue::Versions;
-use oai_device::{FaultyDevice, MemoryDevice};
+use oai_device::{FaultyDevice, MemoryDevice, PageDevice};
 use std::alloc::Global;
 use std::io::{self, Write};
 
@@ -44,6 +44,16 @@ fn compare_at(
 /// Performs the lines over a device whose k-th call fails, and adds what is answered otherwise.
 fn failures_at(alloc: Global, k: u64, lines: &str, out: &mut Vec<u8>) -> io::Result<u64> {
     let device = FaultyDevice::new(MemoryDevice::new(alloc), k);
+    failures_on(alloc, device, lines, out)
+}
+
+/// The same over that device.
+fn failures_on<D: PageDevice>(
+    alloc: Global,
+    device: D,
+    lines: &str,
+    out: &mut Vec<u8>,
+) -> io::Result<u64> {
     match paged_store(alloc, device, 1) {
         Some(store) => failures_of(alloc, store, lines, out),
         None => Ok(2),
