@@ -1,17 +1,21 @@
 -- An item that is looked for on a page, entry by entry.
-use Rattle.std.proofs.Common.{◌≡◌, ◌∙◌, ◌+◌, ◌-◌, ◌^◌, ◌<◌, ℕ, ℤ, true, false, List, [], ◌∷◌, ◌++◌, Option, None, Some, Result, Ok, Err, IfOk, length, take, drop, refl, sym, ap, arith, append_assoc, length-append}
-use Rattle.std.specs.Prelude.{replicate}
-use Rattle.std.proofs.lemmas.Bool.{cond-true, cond-false}
+use Rattle.std.proofs.Common.{◌≡◌, ◌∙◌, ◌+◌, ◌-◌, ◌^◌, ◌<◌, ℕ, ℤ, true, false, List, [], ◌∷◌, ◌++◌, Option, None, Some, Result, Ok, Err, IfOk, length, take, drop, refl, subst, sym, ap, arith, append_assoc, length-append}
+use Rattle.std.proofs.Common.{int_eq}
+use Rattle.std.specs.Prelude.{Bool, replicate}
+use Rattle.std.proofs.lemmas.Bool.{and_right, cond-true, cond-false, false≢true}
 use Rattle.std.proofs.lemmas.List.{drop-drop, drop_at, take_at}
 use Rattle.std.proofs.lemmas.Option.{same_Some}
 use Rattle.oai_item.specs.Decoding.{item_in}
 use Rattle.oai_item.specs.Encoding.{Spells, encoded, encoded_count, encoded_text}
 use Rattle.oai_item.specs.Item.{ItemState}
-use Rattle.oai_item.specs.Items.{is_at, item_at}
+use Rattle.oai_item.specs.Items.{is_at, is_named, item_at}
+use Rattle.oai_item.specs.declared.decodings.DecodeFault.{DecodeFault}
+use Rattle.oai_item.specs.declared.decodings.DecodeFault.TheVariants.{Damaged, NoMemory}
+use Rattle.oai_places.specs.Picking.{IsPicked}
 use Rattle.oai_item.proofs.Decoded.{item_in-spelled}
 use Rattle.oai_item.proofs.Lengths.{length-encoded_text}
 use Rattle.oai_pool.specs.Kinds.{has_items, spells_item, spells_items}
-use Rattle.oai_places.specs.Finding.{IsLeftToFind, IsSought, IsSoughtBehind}
+use Rattle.oai_places.specs.Finding.{IsFinding, IsLeftToFind, IsSought, IsSoughtBehind}
 use Rattle.oai_places.specs.Pages.{AreStorable, IsPage, begins_at, entries_of, entry_of, first_number, size_of}
 use Rattle.oai_places.proofs.PageLemmas.{behind_number, entries_of-cons, number_back}
 use Rattle.oai_places.proofs.ReadLemmas.{page_read}
@@ -72,6 +76,19 @@ entry_behind bytes item behind s e =
 pub found_is : {E : Type 0} (found other : Option ItemState) (result : Result (Option ItemState) E) → IfOk result (λ f. f ≡ found) → found ≡ other → IfOk result (λ f. f ≡ other)
 found_is found other (Ok f) h e = h ∙ e
 found_is found other (Err cause) h e = h
+
+-- the bytes that are the item's spell it
+pub spelled_here : (bytes : List ℕ) (item : ItemState) → bytes ≡ encoded item → Spells (encoded item) item → Spells bytes item
+spelled_here bytes item e s = subst (λ (bs : List ℕ). Spells bs item) (sym e) s
+
+-- an item at a key has its identifier
+pub named_not : (stamp : ℤ) (identifier : List ℕ) (item : ItemState) → is_at stamp identifier item ≡ true → is_named identifier item ≡ false → ⊥
+named_not stamp identifier item at other = false≢true (sym (and_right (int_eq item.stamp stamp) (is_named identifier item) other) ∙ at)
+
+-- an item that could not be picked could not be found
+pub finding_fails : (stamp : ℤ) (identifier : List ℕ) (items : List ItemState) (p : ItemState → Bool) (item : ItemState) (fault : DecodeFault) → IsPicked p item (Err fault) → IsFinding stamp identifier items (Err fault)
+finding_fails stamp identifier items p item Damaged h = h
+finding_fails stamp identifier items p item NoMemory h = h
 
 -- ---- what is left
 
@@ -185,3 +202,10 @@ begins_first stamp identifier page items read is_page told =
     let first = first_spelled page items is_page in
     let is : read ≡ first.item = entry_is (drop 4 page) first.item read first.behind first.spelled first.parts told in
     ap (is_at stamp identifier) is ∙ sym (first.first stamp identifier)
+
+-- the first item of a page is found by its key
+pub first_is_found : (stamp : ℤ) (identifier : List ℕ) (items : List ItemState) → begins_at stamp identifier items ≡ true → None ≡ item_at stamp identifier items → ⊥
+unfolding item_at
+first_is_found stamp identifier [] begins none = false≢true begins
+first_is_found stamp identifier (item ∷ items) begins none =
+    let no : None ≡ Some item = none ∙ cond-true (is_at stamp identifier item) (Some item) (item_at stamp identifier items) begins in cc

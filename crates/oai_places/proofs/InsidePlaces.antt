@@ -1,6 +1,6 @@
 -- Places of which all items are wanted: they are counted and passed over by their number.
 use Rattle.std.proofs.Common.{◌≡◌, ◌∙◌, ◌==◌, false, ◌∷◌, ◌-◌, ◌<◌, ◌≤◌, ℕ, ℤ, Bool, List, [], Option, None, Some, ◌⊎◌, ⊎_elim, length, get_or, refl, sym, ap, subst, arith, true, inl, inr}
-use Rattle.std.specs.Prelude.{filter, option_map}
+use Rattle.std.specs.Prelude.{HoldsAt, IfSome, filter, option_map}
 use Rattle.std.proofs.lemmas.Bool.{and_from, cases_Bool, cases_lt, cond-false, cond-true}
 use Rattle.std.proofs.lemmas.List.{get_or_read}
 use Rattle.std.specs.List.{AllByRecursion, list_all}
@@ -12,8 +12,10 @@ use Rattle.oai_item.specs.Selection.{Filter, is_in_given, passes, selected}
 use Rattle.oai_places.specs.Directory.{IsDirectory}
 use Rattle.oai_places.specs.Pages.{fit_one}
 use Rattle.oai_places.specs.Parts.{IsInside, IsKnown, IsPartTaken}
-use Rattle.oai_places.specs.Places.{AreSetCounts, IsSoundPlace, Pages, PlaceState, is_wanted, items_at, items_on, known_in}
+use Rattle.oai_places.specs.Picking.{IsPickable}
+use Rattle.oai_places.specs.Places.{AreSetCounts, IsSoundPlace, Pages, PlaceState, is_wanted, items_at, items_on, known_in, span_at}
 use Rattle.oai_sums.specs.Sums.{SetTotal, count_in_set, counted_in}
+use Rattle.oai_sums.specs.declared.spans.Span.{Span}
 use Rattle.oai_places.specs.Searches.{BelongsAt}
 use Rattle.oai_places.specs.declared.sizes.TheConstants.{MAX_ENTRY_BYTES}
 use Rattle.oai_places.proofs.DirectoryLemmas.{item_at-cut, no_place, placed-cut}
@@ -149,3 +151,9 @@ none_found pages places stamp identifier none = sym (ap (λ ps. item_at stamp id
 pub some_places : (places : List PlaceState) → (length places == 0) ≡ false → 0 < length places
 some_places [] h = cc
 some_places (p ∷ places) h = omega arith
+
+-- the span that is found is one of the place
+pub pickable_if : (places : List PlaceState) (at : ℕ) (place : PlaceState) (asked : Option (List ℕ)) (known found : Option Span) → at < length places → place ≡ get_or places at place → span_at place asked ≡ known
+    → IfSome found (λ span. (set : Option (List ℕ)) → span_at place set ≡ known → IsPickable place set span) → IfSome found (λ span. HoldsAt (λ q. IsPickable q asked span) places at)
+pickable_if places at place asked known None within is said found = tt
+pickable_if places at place asked known (Some span) within is said found = λ d. subst (λ (q : PlaceState). IsPickable q asked span) (get_or_read places at place within is d) (found asked said)

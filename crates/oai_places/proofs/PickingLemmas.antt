@@ -189,6 +189,13 @@ pub picked_fails : (p : ItemState → Bool) (spelling : List ℕ) (item : ItemSt
 picked_fails p spelling item Damaged h s = let unread : None ≡ Some item = sym h ∙ item_in-spelled spelling item s in cc
 picked_fails p spelling item NoMemory h s = tt
 
+-- what was found is the item, which passes; or it does not
+pub found_one : (p : ItemState → Bool) (item one : ItemState) (found : Option ItemState) → IsFoundWanted p item found → found ≡ Some one → (one ≡ item) × (p item ≡ true)
+found_one p item one found h e = subst (λ (f : Option ItemState). IsFoundWanted p item f) e h
+
+pub found_none : (p : ItemState → Bool) (item : ItemState) (found : Option ItemState) → IsFoundWanted p item found → found ≡ None → p item ≡ false
+found_none p item found h e = subst (λ (f : Option ItemState). IsFoundWanted p item f) e h
+
 pub picking_fails : (p : ItemState → Bool) (most : ℕ) (old new : List ItemState) (skip : ℕ) (item : ItemState) (items : List ItemState) (fault : DecodeFault) → IsPicked p item (Err fault)
     → IsPicking p most old new skip items (Err fault)
 picking_fails p most old new skip item items Damaged h = h

@@ -1,7 +1,7 @@
 -- Entries with one in place of others, and without one.
 use Rattle.std.proofs.Common.{◌≡◌, ◌∙◌, ◌+◌, ◌-◌, ◌^◌, ◌<◌, ◌≤◌, ℕ, ℤ, List, [], ◌∷◌, ◌++◌, Result, Ok, Err, Option, Some, IsSome, length, take, drop, get_or, refl, sym, ap, subst, arith, add-one, append_assoc, length-append}
 use Rattle.std.specs.Prelude.{All, IfOk, map}
-use Rattle.std.proofs.lemmas.List.{append-nil, drop_at, get_or_default, length-take-le, map-append, take-append-drop, take_at, take_more}
+use Rattle.std.proofs.lemmas.List.{drop_at, get_or_default, length-take-le, map-append, take-append-drop, take_at, take_more}
 use Rattle.oai_item.specs.Encoding.{Spells, encoded, encoded_count, encoded_text}
 use Rattle.oai_item.specs.Item.{ItemState}
 use Rattle.oai_item.specs.Items.{with_item}
@@ -123,9 +123,12 @@ joined_size front middle back whole e = omega (arith, ap length e, length-append
 
 -- ---- an entry
 
-pub entry_joined : (item : ItemState) (number spelling : List ℕ) → number ≡ encoded_count (length spelling) → spelling ≡ encoded item → number ++ (spelling ++ []) ≡ entry_of item
+pub entry_encoded : (item : ItemState) (len : ℕ) → len ≡ length (encoded item) → encoded_count len ++ encoded item ≡ entry_of item
 unfolding entry_of encoded_text
-entry_joined item number spelling n s = (λ k. n k ++ append-nil spelling k) ∙ ap (λ text. encoded_count (length text) ++ text) s
+entry_encoded item len is = ap (λ n. encoded_count n ++ encoded item) is
+
+pub all_written : (n : ℕ) (new old : List ℕ) → length new ≡ n → take n (new ++ drop (length new) old) ≡ new
+all_written n new old is = ap (λ m. take m (new ++ drop (length new) old)) (sym is) ∙ take_at new (drop (length new) old) (length new) refl
 
 -- ---- what is put, and what is removed
 

@@ -110,7 +110,7 @@ impl LeafList<'_> {
         ensures few { IfOk result (λ n. n < 2 ^ 32) }
         ensures pages { ReadsPages P.PagePool result pages.old pages.new }
     {
-        if let Some(count) = known_at(self.places, at, wanted) {
+        if let Some(count) = known_at(self.places, at, wanted).count {
             return Ok(count);
         }
         let entries = read_place(alloc, pages, self.places, at)?;

@@ -8,6 +8,7 @@ ghost use Rattle.oai_item.specs.declared.sizes.TheConstants.{MAX_ITEM_BYTES};
 ghost use Rattle.oai_pool.specs.Kinds.{leading_number, spells_item, spells_items};
 ghost use Rattle.oai_places.specs.Entries.{HasEntries, HasEntry, IsEntryReading};
 ghost use Rattle.oai_places.specs.Pages.{AreStorable, entries_of, entry_of, filled, first_number};
+ghost use Rattle.oai_places.specs.declared.sizes.TheConstants.{NUMBER_BYTES};
 
 use crate::held_bytes::HeldBytes;
 use crate::sizes::NUMBER_BYTES;
@@ -207,18 +208,6 @@ pub(crate) fn joined(
 ) -> Result<HeldBytes, AllocError>
     ensures { IfOk result (λ copy. copy ≡ front.now ++ (middle.now ++ back.now)) }
 {
-    Ok(HeldBytes::own(joined_bytes(alloc, front, middle, back)?))
-}
-
-/// A copy of the bytes, one part after the other.
-fn joined_bytes(
-    alloc: Global,
-    front: &[u8],
-    middle: &[u8],
-    back: &[u8],
-) -> Result<Vec<u8>, AllocError>
-    ensures { IfOk result (λ copy. copy.items ≡ front.now ++ (middle.now ++ back.now)) }
-{
     let len = front
         .len()
         .wrapping_add(middle.len())
@@ -227,7 +216,7 @@ fn joined_bytes(
     copy.extend_from_slice(front)?;
     copy.extend_from_slice(middle)?;
     copy.extend_from_slice(back)?;
-    Ok(copy)
+    Ok(HeldBytes::own(copy))
 }
 
 /// The entry of the item.
@@ -236,26 +225,27 @@ pub(crate) fn entry_of(alloc: Global, item: &Item) -> Result<Vec<u8>, AllocError
     ensures entry { IfOk result (λ bytes. bytes.items ≡ entry_of item.now) }
     ensures spells { OnOk result (Spells (encoded item.now) item.now) }
 {
-    let spelling = spelling_of(alloc, item)?;
-    let number = (spelling.len() as u32).to_be_bytes();
-    let entry = joined_bytes(alloc, &number, spelling.as_slice(), &[])?;
-    Ok(entry)
-}
-
-/// The encoded item.
-fn spelling_of(alloc: Global, item: &Item) -> Result<Vec<u8>, AllocError>
-    requires { length (encoded item.now) ≤ MAX_ITEM_BYTES }
-    ensures spelling { IfOk result (λ bytes. bytes.items ≡ encoded item.now) }
-    ensures spells { OnOk result (Spells (encoded item.now) item.now) }
-{
     match item.encoded_len() {
         Ok(len) => {
-            let mut bytes = vec![in alloc; 0; len]?;
-            item.encode_measured(&mut bytes);
-            Ok(bytes)
+            let mut entry = vec![in alloc; 0; NUMBER_BYTES + len]?;
+            write_entry(&mut entry, len, item);
+            Ok(entry)
         }
         Err(_) => unreachable!(),
     }
+}
+
+/// Writes the entry of the item: the length of the encoded item, and behind it the encoded item itself.
+fn write_entry(out: &mut [u8], len: usize, item: &Item)
+    requires few { length (encoded item.now) ≤ MAX_ITEM_BYTES }
+    requires len { len ≡ length (encoded item.now) }
+    requires room { length out.old ≡ NUMBER_BYTES + len }
+    ensures entry { out.new ≡ entry_of item.now }
+    ensures spells { Spells (encoded item.now) item.now }
+{
+    let (number, spelling) = out.split_at_mut(NUMBER_BYTES);
+    number.copy_from_slice(&(len as u32).to_be_bytes());
+    item.encode_measured(spelling);
 }
 
 /// Appends the ends, of entries that began at the one offset and now begin at the other.

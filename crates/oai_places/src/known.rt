@@ -1,12 +1,15 @@
 //! Statistics of the items of a directory, without reading them.
-ghost use Rattle.std.specs.Prelude.{◌<◌, length, IfSome, IsTrue};
+ghost use Rattle.std.specs.Prelude.{◌<◌, length, HoldsAt, IfSome, IsTrue};
 ghost use Rattle.oai_places.specs.Parts.{EndsBy, IsInside, IsKnown, IsOutside};
+ghost use Rattle.oai_places.specs.Picking.{IsPickable};
 ghost use Rattle.oai_places.specs.Searches.{StartsAt};
 
+use crate::picking::sparse_span;
 use crate::places::SharedPlace;
 use crate::searches::leaf_of;
 use crate::wanted::Wanted;
 use oai_item::ItemKey;
+use oai_sums::Span;
 use oai_time::LAST_SECOND;
 use std::cmp::Ordering;
 
@@ -26,25 +29,50 @@ pub(crate) fn start_of(places: &[SharedPlace], wanted: Wanted<'_>) -> usize
     }
 }
 
-/// How many items of the leaf are wanted, if it is known without reading its pages.
-pub(crate) fn known_at(places: &[SharedPlace], at: usize, wanted: Wanted<'_>) -> Option<usize>
+/// What is known of the wanted items of a leaf without reading its pages.
+#[derive(Clone, Copy)]
+pub(crate) struct KnownItems {
+    /// How many there are, if it is known.
+    pub(crate) count: Option<usize>,
+    /// The span of the leaf's items that are in the requested set, if it has one page, and at most half of its items
+    /// are in the set.
+    pub(crate) span: Option<Span>,
+}
+
+/// What is known of the wanted items of the leaf without reading its pages.
+pub(crate) fn known_at(places: &[SharedPlace], at: usize, wanted: Wanted<'_>) -> KnownItems
     requires { at < length places.now }
-    ensures { IfSome result (λ n. IsKnown places.now at wanted.entry.filter.now wanted.entry.key.stamp wanted.entry.key.identifier.now n) }
+    ensures count { IfSome result.count (λ n. IsKnown places.now at wanted.entry.filter.now wanted.entry.key.stamp wanted.entry.key.identifier.now n) }
+    ensures span { IfSome result.span (λ span. HoldsAt (λ place. IsPickable place wanted.entry.filter.now.set span) places.now at) }
 {
     if is_outside(places, at, wanted) {
-        return Some(0);
+        return KnownItems {
+            count: Some(0),
+            span: None,
+        };
     }
+    let place = &places[at];
     let filter = wanted.filter;
-    let Some(count) = places[at].items_in(&filter.set) else {
-        return None;
+    let Some(items) = place.items_of(&filter.set) else {
+        return KnownItems {
+            count: None,
+            span: None,
+        };
     };
-    if count == 0 {
-        return Some(0);
+    let span = sparse_span(place, items);
+    if items.count == 0 {
+        return KnownItems {
+            count: Some(0),
+            span,
+        };
     }
     if is_inside(places, at, wanted) {
-        return Some(count);
+        return KnownItems {
+            count: Some(items.count),
+            span,
+        };
     }
-    None
+    KnownItems { count: None, span }
 }
 
 /// Whether it is known without reading its page that all items of the leaf are wanted that are in the set, if one is

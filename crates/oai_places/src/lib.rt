@@ -20,6 +20,7 @@ mod reading;
 mod searches;
 mod sizes;
 mod sums;
+mod untested;
 mod wanted;
 
 pub use entries::{Cuts, Entries};

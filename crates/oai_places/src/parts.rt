@@ -12,7 +12,7 @@ ghost use Rattle.oai_places.specs.Sums.{AreGroups};
 use crate::entries::Entries;
 use crate::known::{known_at, start_of};
 use crate::leaves::LeafList;
-use crate::picking::{pick_at, sparse_span};
+use crate::picking::pick_at;
 use crate::reading::read_place;
 use crate::wanted::{Portion, Wanted, is_item_wanted};
 use oai_catalogue::Filter;
@@ -167,7 +167,8 @@ impl LeafList<'_> {
         ensures pages { ReadsPages P.PagePool result pages.old pages.new }
     {
         let places = self.places;
-        if let Some(count) = known_at(places, at, portion.wanted) {
+        let known = known_at(places, at, portion.wanted);
+        if let Some(count) = known.count {
             if portion.skip >= count {
                 return Ok(portion.skip - count);
             }
@@ -176,7 +177,7 @@ impl LeafList<'_> {
             }
         }
         let place = &places[at];
-        if let Some(span) = sparse_span(place, portion.wanted) {
+        if let Some(span) = known.span {
             return pick_at(alloc, pages, place, span, portion, part);
         }
         self.take_read(alloc, pages, at, portion, part)

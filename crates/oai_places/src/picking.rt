@@ -1,7 +1,7 @@
 //! Picks items from a page most of which are in other sets: reads the bytes within which those of the set are, and
 //! skips by its length what is in other sets among them, without validating it.
 
-ghost use Rattle.std.specs.Prelude.{◌≡◌, ◌++◌, ◌+◌, ◌-◌, ◌<◌, ◌≤◌, ◌∷◌, ◌^◌, ℕ, Bool, List, [], Some, false, true, length, IfOk, IfSome, IsTrue};
+ghost use Rattle.std.specs.Prelude.{◌≡◌, ◌++◌, ◌+◌, ◌-◌, ◌<◌, ◌≤◌, ◌∷◌, ◌^◌, ℕ, Bool, List, [], Option, Some, false, true, length, IfOk, IfSome, IsTrue};
 ghost use Rattle.oai_device.specs.Device.{range_of};
 ghost use Rattle.oai_device.specs.declared.devices.TheConstants.{PAGE_BYTES};
 ghost use Rattle.oai_item.specs.Encoding.{Spells, encoded_list, encoded_text};
@@ -12,7 +12,7 @@ ghost use Rattle.oai_places.specs.Calls.{ReadsPages};
 ghost use Rattle.oai_places.specs.Pages.{AreStorable, entries_of};
 ghost use Rattle.oai_places.specs.Parts.{IsPartTaken};
 ghost use Rattle.oai_places.specs.Picking.{AreSetsFound, IsFoundWanted, IsPickable, IsPicked, IsPicking};
-ghost use Rattle.oai_places.specs.Places.{IsSoundPlace, is_wanted, items_at};
+ghost use Rattle.oai_places.specs.Places.{IsSoundPlace, is_wanted, items_at, span_at};
 ghost use Rattle.oai_places.specs.declared.sizes.TheConstants.{NUMBER_BYTES};
 ghost use Rattle.oai_pool.specs.Counts.{count_of};
 ghost use Rattle.oai_pool.specs.Names.{times};
@@ -22,17 +22,14 @@ use crate::faults::{decoding_fault_of, fault_of};
 use crate::finding::{first_entry, first_text};
 use crate::places::SharedPlace;
 use crate::reading::forget_damaged;
-use crate::sizes::NUMBER_BYTES;
+use crate::sizes::{NUMBER_BYTES, STAMP_BYTES};
 use crate::wanted::{Portion, Wanted, is_item_wanted};
 use oai_catalogue::Filter;
 use oai_device::PAGE_BYTES;
 use oai_item::{DecodeFault, Fault, Item, Spelling};
 use oai_pool::{PageNo, PagePool};
-use oai_sums::Span;
+use oai_sums::{SetItems, Span};
 use std::alloc::{AllocError, Global};
-
-/// The bytes before the identifier of an encoded item: whether it is live, and its datestamp.
-const STAMP_BYTES: usize = 9;
 
 /// The bytes are entries. Appends the wanted ones of their items to the part, except the first ones that are to be
 /// skipped, until it has `portion.most` items; returns how many remain to be skipped. The errors: `Damaged` only if the
@@ -174,19 +171,19 @@ fn may_have(bytes: &[u8], set: &str) -> bool
     false
 }
 
-/// The span of the items of the leaf that are in the requested set, if it has one page, and at most half of its items
-/// are in the set.
-pub(crate) fn sparse_span(place: &SharedPlace, wanted: Wanted<'_>) -> Option<Span>
-    ensures { IfSome result (λ span. IsPickable place.now wanted.entry.filter.now.set span) }
+/// The span of these items of the leaf, which are those in a set, if it has one page, and at most half of its items are
+/// in the set.
+pub(crate) fn sparse_span(place: &SharedPlace, items: SetItems) -> Option<Span>
+    ensures { IfSome result (λ span. (set : Option (List ℕ)) → span_at place.now set ≡ items.span
+        → IsPickable place.now set span) }
 {
-    let filter = wanted.filter;
     if place.is_long() {
         return None;
     }
-    if place.items_in(&filter.set)? > place.len() / 2 {
+    if items.count > place.len() / 2 {
         return None;
     }
-    let span = place.span_in(&filter.set)?;
+    let span = items.span?;
     if span.from > span.to || usize::from(span.to) > PAGE_BYTES - NUMBER_BYTES {
         return None;
     }

@@ -1,4 +1,5 @@
-ghost use Rattle.std.specs.Prelude.{◌≡◌, nat_lt, ℕ, length, option_copied, IfOk};
+ghost use Rattle.std.specs.Prelude.{◌≡◌, nat_lt, ℕ, length, option_copied, option_map, IfOk};
+ghost use Rattle.std.specs.Option.{option_flatten};
 ghost use Rattle.oai_names.specs.Names.{is_among};
 ghost use Rattle.oai_places.specs.Places.{first_cmp, known_in, span_at};
 
@@ -6,7 +7,7 @@ use crate::page_numbers::PageNumbers;
 use oai_item::ItemKey;
 use oai_names::{Identifier, Prefix, Sequence, SetSpec};
 use oai_pool::PageNo;
-use oai_sums::{PackedCounts, Span};
+use oai_sums::{PackedCounts, SetItems};
 use std::alloc::{AllocError, Global};
 use std::cmp::Ordering;
 use std::marker::Model;
@@ -158,26 +159,21 @@ impl SharedPlace {
         is_among(self.place.items.prefixes.as_slice(), prefix)
     }
 
-    /// How many items are in the set, if one is given, or else how many there are; None if it is not known.
-    pub(crate) fn items_in(&self, set: &Option<SetSpec>) -> Option<usize>
-        ensures { result ≡ known_in self.now set.now }
+    /// The items in the set, if one is given, or else all: how many there are, and within which span of the entries
+    /// those of the set are; None if it is not known.
+    pub(crate) fn items_of(&self, set: &Option<SetSpec>) -> Option<SetItems>
+        ensures count { option_map (λ items. items.count) result ≡ known_in self.now set.now }
+        ensures span { option_flatten (option_map (λ items. items.span) result) ≡ span_at self.now set.now }
     {
         match set {
             Some(set) => match &self.place.items.sets {
-                Some(counts) => Some(counts.count(set.as_str())),
+                Some(counts) => Some(counts.items_of(set.as_str())),
                 None => None,
             },
-            None => Some(self.place.items.len),
-        }
-    }
-
-    /// Within which span of the entries those are that are in the set, if one is given, and it is known.
-    pub(crate) fn span_in(&self, set: &Option<SetSpec>) -> Option<Span>
-        ensures { result ≡ span_at self.now set.now }
-    {
-        match (set, &self.place.items.sets) {
-            (Some(set), Some(counts)) => counts.span(set.as_str()),
-            _ => None,
+            None => Some(SetItems {
+                count: self.place.items.len,
+                span: None,
+            }),
         }
     }
 

@@ -24,6 +24,7 @@ use crate::names::forget_all;
 use crate::places::SharedPlace;
 use crate::searches::leaf_of;
 use crate::sizes::FRONT_BYTES;
+use crate::untested::{find_untested, may_begin};
 use oai_device::PAGE_BYTES;
 use oai_item::{DecodeFault, Fault, Item, ItemKey};
 use oai_pool::{PageKind, PageNo, PagePool};
@@ -301,8 +302,8 @@ fn find_in<P: PagePool>(
         → item ≡ item_at key.entry.stamp key.entry.identifier.now (items_at (P.pages pages.old) place.now)) }
     ensures pages { ReadsPages P.PagePool result pages.old pages.new }
 {
-    match pages.read(place.pages()[0], PageKind::Items) {
-        Ok(page) => match find_tested(alloc, &page[..], place, key) {
+    match pages.read_any(place.pages()[0]) {
+        Ok((page, kind)) => match find_on(alloc, &page[..], kind, place, key) {
             Ok(found) => Ok(found),
             Err(fault) => Err(decoding_fault_of(fault)),
         },
@@ -310,9 +311,56 @@ fn find_in<P: PagePool>(
     }
 }
 
-/// The item with that key of those of the page, each entry of which is known to encode an item, or None. `Damaged` only
-/// where the bytes are not the page of as many items as those of the place, of which the first is the one that the place
-/// names; `NoMemory`.
+/// The item with that key of those of the page, which is known to be of that kind, or None. `Damaged` only where the
+/// bytes are not the page of as many items as those of the place, of which the first is the one that the place names;
+/// `NoMemory`.
+fn find_on(
+    alloc: Global,
+    page: &[u8],
+    kind: PageKind,
+    place: &SharedPlace,
+    key: ItemKey<'_>,
+) -> Result<Option<Item>, DecodeFault>
+    requires long { 4 ≤ length page.now }
+    requires tested { kinds.is_of kind page.now ≡ true }
+    ensures { (items : List ItemState) → IsPage page.now items → length items ≡ place.now.len
+        → begins_at place.now.stamp place.now.identifier items ≡ true → IsFinding key.entry.stamp key.entry.identifier.now items result }
+{
+    if !has_items(page, place.len()) {
+        return Err(DecodeFault::Damaged);
+    }
+    match kind {
+        PageKind::Items => find_tested(alloc, page, place, key),
+        PageKind::Bytes => find_untested_of(alloc, page, place, key),
+    }
+}
+
+/// The same of a page whose entries were not validated. Where nothing is found, the first item has to be.
+fn find_untested_of(
+    alloc: Global,
+    page: &[u8],
+    place: &SharedPlace,
+    key: ItemKey<'_>,
+) -> Result<Option<Item>, DecodeFault>
+    requires { 4 ≤ length page.now }
+    ensures { (items : List ItemState) → IsPage page.now items
+        → begins_at place.now.stamp place.now.identifier items ≡ true → IsFinding key.entry.stamp key.entry.identifier.now items result }
+{
+    if !may_begin(page, place.key().identifier) {
+        return Err(DecodeFault::Damaged);
+    }
+    match find_untested(alloc, page, key) {
+        Ok(None) => {}
+        found => return found,
+    }
+    match find_untested(alloc, page, place.key()) {
+        Ok(Some(_)) => Ok(None),
+        Ok(None) => Err(DecodeFault::Damaged),
+        Err(fault) => Err(fault),
+    }
+}
+
+/// The same of a page each entry of which is known to encode an item.
 fn find_tested(
     alloc: Global,
     page: &[u8],
@@ -321,12 +369,9 @@ fn find_tested(
 ) -> Result<Option<Item>, DecodeFault>
     requires long { 4 ≤ length page.now }
     requires tested { kinds.has_items page.now ≡ true }
-    ensures { (items : List ItemState) → IsPage page.now items → length items ≡ place.now.len
+    ensures { (items : List ItemState) → IsPage page.now items
         → begins_at place.now.stamp place.now.identifier items ≡ true → IsFinding key.entry.stamp key.entry.identifier.now items result }
 {
-    if !has_items(page, place.len()) {
-        return Err(DecodeFault::Damaged);
-    }
     if !begins_on_page(page, place.key()) {
         return Err(DecodeFault::Damaged);
     }

@@ -17,6 +17,9 @@ pub const MAX_OVERFLOW_PAGES: usize = 64;
 /// The length of a number on a page in bytes.
 pub const NUMBER_BYTES: usize = 4;
 
+/// The bytes before the identifier of an encoded item: whether it is live, and its datestamp.
+pub(crate) const STAMP_BYTES: usize = 9;
+
 /// How many bytes of a page are used if its item has overflow pages: two numbers, and the first bytes of the encoded
 /// item.
 pub const FRONT_BYTES: usize = 608;

@@ -61,6 +61,32 @@ impl PageCache {
         }
     }
 
+    /// The page with that number, if it is cached and its `Rc` can be cloned once more, and the kind of which it is known
+    /// to be.
+    pub fn find_any(&mut self, no: u32) -> Option<(Rc<Page>, PageKind)>
+        ensures found { IfSome result (λ known. held self.old no ≡ Some known.0.value) }
+        ensures tested { IfSome result (λ known. is_of known.1 known.0.value ≡ true) }
+        ensures kept { (n : ℕ) → held self.new n ≡ held self.old n }
+        ensures size { self.new.pages.cap ≡ self.old.pages.cap }
+    {
+        let found = self.look_up_any(no);
+        self.count(found.is_some());
+        found
+    }
+
+    /// As [`PageCache::find_any`], which counts.
+    fn look_up_any(&mut self, no: u32) -> Option<(Rc<Page>, PageKind)>
+        ensures found { IfSome result (λ known. held self.old no ≡ Some known.0.value) }
+        ensures tested { IfSome result (λ known. is_of known.1 known.0.value ≡ true) }
+        ensures kept { (n : ℕ) → held self.new n ≡ held self.old n }
+        ensures size { self.new.pages.cap ≡ self.old.pages.cap }
+    {
+        match self.pages.get(&no) {
+            Some(kept) => kept.known(),
+            None => None,
+        }
+    }
+
     /// Counts a page that was found, or was not.
     fn count(&mut self, is_found: bool)
         ensures { self.new.pages ≡ self.old.pages }

@@ -34,6 +34,17 @@ impl KeptPage {
         }
     }
 
+    /// A clone of the page's `Rc`, with the kind of which it is known to be.
+    pub(crate) fn known(&self) -> Option<(Rc<Page>, PageKind)>
+        ensures page { IfSome result (λ known. known.0.value ≡ self.now.page.value) }
+        ensures tested { IfSome result (λ known. is_of known.1 known.0.value ≡ true) }
+    {
+        match self.page.clone() {
+            Ok(page) => Some((page, self.kind)),
+            Err(_) => None,
+        }
+    }
+
     /// The page alone.
     pub(crate) fn into_page(self) -> Rc<Page>
         ensures { result.value ≡ self.page.value }

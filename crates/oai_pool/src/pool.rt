@@ -79,6 +79,15 @@ impl<D: PageDevice> PagePool for Pool<D> {
         Ok(page)
     }
 
+    fn read_any(&mut self, no: PageNo) -> Result<(Rc<Page>, PageKind), PoolFault> {
+        if let Some(known) = self.cache.find_any(no) {
+            return Ok(known);
+        }
+        let loaded = load(self.alloc, &mut self.device, no, self.spare.take())?;
+        self.keep(no, &loaded, PageKind::Bytes);
+        Ok((loaded, PageKind::Bytes))
+    }
+
     fn read_range(&mut self, no: PageNo, from: usize, into: &mut [u8]) -> Result<(), PoolFault> {
         if let Some(page) = self.cache.find(no, PageKind::Bytes) {
             into.copy_from_slice(&page[from..from + into.len()]);

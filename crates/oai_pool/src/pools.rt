@@ -124,6 +124,17 @@ pub trait PagePool {
         ensures same { pages self.new ≡ pages self.old }
         ensures pool { SpendsNumbers room failures cache_size honest 0 result self.old self.new };
 
+    /// The page with a referenced number, and the kind of which it is known to be: over an honest device that page. It is
+    /// not validated; what is known of a cached page stays so. The errors: Device or NoMemory.
+    fn read_any(&mut self, no: PageNo) -> Result<(Rc<Page>, PageKind), PoolFault>
+        requires { 0 < count_of (counts self.old) no }
+        ensures tested { IfOk result (λ known. is_of known.1 known.0.value ≡ true) }
+        ensures value { IfOk result
+            (λ known. IsTrue (honest self.old) → pages self.old no ≡ Some known.0.value) }
+        ensures counts { counts self.new ≡ counts self.old }
+        ensures same { pages self.new ≡ pages self.old }
+        ensures pool { SpendsNumbers room failures cache_size honest 0 result self.old self.new };
+
     /// Reads `into.len()` bytes of the page with a referenced number, from byte `from` on, counted from 0: over an
     /// honest device those of the page that was added. They are not validated, and the page is not cached. The errors:
     /// Device or NoMemory; `into` then holds any bytes.

@@ -1,4 +1,4 @@
-use Rattle.std.proofs.Common.{◌-◌, ◌<◌, ℕ, Ok, Err, ap, arith, get_or, length}
+use Rattle.std.proofs.Common.{◌<◌, ℕ, Ok, Err, ap, arith, get_or, length}
 use Rattle.std.proofs.lemmas.Bool.{false_from_ne_true}
 use Rattle.oai_item.specs.declared.decodings.DecodeFault.TheVariants.{Damaged}
 use Rattle.oai_pool.specs.Names.{times}
