@@ -1,3 +1,4 @@
+mod Blocks
 pub mod Covering
 pub mod Parents
 pub mod Ancestors

@@ -7,6 +7,7 @@ ghost use Rattle.oai_names.specs.Escapes as spec;
 ghost use Rattle.oai_names.specs.Names.{is_one_of};
 ghost use Rattle.oai_names.specs.declared.escapes.Place.TheVariants.{Attribute, Element};
 
+use crate::texts::BLOCK;
 use memchr::{memchr, memchr3};
 use std::alloc::AllocError;
 
@@ -59,10 +60,28 @@ pub fn escape_law()
         → spec.escaped_attribute value ≡ spec.escaped_attribute other → value ≡ other }
 {}
 
-/// Whether each byte stands for itself in an element, as in most texts: such a text is appended in one piece. The loop
-/// ends only at the last byte, and a separate function returns what it finds, so that the loop can be vectorized.
+/// Whether each byte stands for itself in an element, as in most texts: such a text is appended in one piece. It is
+/// tested in blocks, the last of which may overlap the one before it, so that no bytes are left to be tested one by one.
 #[inline(never)]
 fn is_bare(bytes: &[u8]) -> bool
+    ensures { result ≡ list_all is_bare_byte bytes.now }
+{
+    if bytes.len() < BLOCK {
+        return are_bare(bytes);
+    }
+    let last = bytes.len() - BLOCK;
+    let mut bare = true;
+    let mut at = 0;
+    while at < last {
+        bare = bare & are_bare(&bytes[at..at + BLOCK]);
+        at += BLOCK;
+    }
+    bare & are_bare(&bytes[last..])
+}
+
+/// Whether each of a few bytes stands for itself in an element. The loop ends only at the last byte, so that it can be
+/// vectorized.
+fn are_bare(bytes: &[u8]) -> bool
     ensures { result ≡ list_all is_bare_byte bytes.now }
 {
     let mut bare = true;

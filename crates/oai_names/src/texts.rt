@@ -7,6 +7,9 @@ ghost use Rattle.oai_names.specs.ByteTests.{is_plain_byte};
 use std::alloc::{AllocError, Global};
 use std::marker::Model;
 
+/// How many bytes of a text are tested at once.
+pub(crate) const BLOCK: usize = 64;
+
 /// Whether each character of the text may stand in an XML document: all but U+0000 to U+001F without tab, LF and CR,
 /// and but U+FFFE and U+FFFF (XML 1.0, section 2.2).
 pub fn is_xml_text(text: &str) -> bool
@@ -24,10 +27,27 @@ fn are_xml_chars(text: &str) -> bool
 }
 
 /// Whether each byte is an ASCII character from the space on, or tab, LF or CR, as in most texts. Such a text needs no
-/// decoding: all of these are characters of XML. The loop ends only at the last byte, and stands in a function of its
-/// own, so that it can be vectorized.
+/// decoding: all of these are characters of XML. It is tested in blocks, the last of which may overlap the one before it,
+/// so that no bytes are left to be tested one by one.
 #[inline(never)]
 fn are_plain(bytes: &[u8]) -> bool
+    ensures { result ≡ list_all is_plain_byte bytes.now }
+{
+    if bytes.len() < BLOCK {
+        return are_few_plain(bytes);
+    }
+    let last = bytes.len() - BLOCK;
+    let mut plain = true;
+    let mut at = 0;
+    while at < last {
+        plain = plain & are_few_plain(&bytes[at..at + BLOCK]);
+        at += BLOCK;
+    }
+    plain & are_few_plain(&bytes[last..])
+}
+
+/// Whether each of a few bytes is such a character. The loop ends only at the last byte, so that it can be vectorized.
+fn are_few_plain(bytes: &[u8]) -> bool
     ensures { result ≡ list_all is_plain_byte bytes.now }
 {
     let mut plain = true;
