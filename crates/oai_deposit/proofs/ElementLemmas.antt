@@ -1,22 +1,26 @@
 -- The elements of a deposit, read one after the other.
-use Rattle.std.proofs.Common.{◌≡◌, ◌∙◌, ◌&&◌, ◌≤◌, ◌<◌, ◌+◌, ◌-◌, ℕ, suc, true, List, [], ◌∷◌, ◌++◌, map, length, get_or, take, drop, drop-cons, add-one, Bor, Option, Some, Result, Ok, Err, refl, sym, ap, subst, append_assoc, append-nil, length-append, arith}
+use Rattle.std.proofs.Common.{◌≡◌, ◌∙◌, ◌&&◌, ◌≤◌, ◌<◌, ◌+◌, ◌-◌, ℕ, Bool, suc, true, false, List, [], ◌∷◌, ◌++◌, map, length, get_or, take, drop, drop-cons, add-one, Bor, Option, Some, Result, Ok, Err, refl, sym, ap, subst, append_assoc, append-nil, length-append, arith}
 use Rattle.std.specs.List.{list_all}
 use Rattle.std.proofs.lemmas.Bool.{and_from, and_parts}
 use Rattle.std.proofs.lemmas.List.{drop_all, map-append}
+use Rattle.std.proofs.lemmas.List.Folds.{list_all-append}
+use Rattle.oai_names.specs.Characters.{is_xml_text}
+use Rattle.oai_xml.proofs.CanonicalLemmas.{canonical_tree}
 use Rattle.oai_xml.specs.Documents.{canonical}
 use Rattle.oai_xml.specs.Roots.{RootName, root_of}
 use Rattle.oai_xml.specs.Trees.{Tree}
 use Rattle.oai_xml.specs.Whole.{SpellsTree}
 use Rattle.oai_item.specs.Elements.{element_field, is_about}
-use Rattle.oai_item.specs.Givens.{AreNoted, GivenRecord, IsNoted, IsNotedContent, all_given, field_texts, noted_about, noted_content, noted_given, noted_record}
+use Rattle.oai_item.specs.Givens.{AreNoted, GivenRecord, IsNoted, IsNotedContent, all_given, field_texts, kept, kept_fields, noted_about, noted_content, noted_given, noted_record}
 use Rattle.oai_item.specs.Item.{Metadata, are_rising, is_before}
 use Rattle.oai_item.specs.declared.fields.Field.{Field}
 use Rattle.oai_item.specs.declared.givens.Given.{Given}
+use Rattle.oai_item.specs.declared.givens.Given.TheVariants.{Listed, Whole}
 use Rattle.oai_item.specs.declared.notes.Note.{Note}
 use Rattle.oai_item.specs.declared.refusals.LineRefusal.{LineRefusal}
 use Rattle.oai_item.proofs.ElementLemmas.{canonical_again, canonical_element, root_found}
-use Rattle.oai_deposit.specs.Calls.{Anywhere}
-use Rattle.oai_deposit.specs.Lines.{LineAbout, LineRecord, about_read, before_about, before_others, element_read, elements_read, given_element, read_as_element, record_read, texts_about, with_about, with_abouts}
+use Rattle.oai_deposit.specs.Calls.{Anywhere, has_xml_fields, have_xml_fields}
+use Rattle.oai_deposit.specs.Lines.{LineAbout, LineRecord, about_read, as_given, before_about, before_others, element_read, elements_read, given_element, have_xml_texts, read_as_element, record_read, texts_about, with_about, with_abouts}
 use Rattle.oai_deposit.specs.Readings.{GivesBy, ReturnsReading}
 use Rattle.oai_deposit.specs.declared.faults.LineFault.{LineFault}
 use Rattle.oai_deposit.specs.declared.faults.LineFault.TheVariants.{NoMemory, Refused}
@@ -269,3 +273,77 @@ pub fault_with : (abouts : List LineAbout) (r : LineRecord) (texts : List (List 
     → GivesBy {A = List Field × Note} (λ kept. noted_record (r.0, kept.0) kept.1) Anywhere (Err fault) (record_read (with_about abouts r))
 fault_with abouts r texts (Refused refusal) same is = kept_with abouts r texts (Err refusal) same is
 fault_with abouts r texts NoMemory same is = tt
+
+-- ---- the texts of fields, tested before the elements are read
+
+abbrev is_xml_field : Field → Bool
+is_xml_field field = is_xml_text field.text
+
+-- an element is of XML's characters
+element_xml : (text element : List ℕ) → element_read text ≡ Ok element → is_xml_text element ≡ true
+element_xml text element is = let t = canonical_tree text element (as_canonical (canonical text) element is) in t.2.characters
+
+some_given : (given found : Given) → ◌≡◌ {A = Result Given LineRefusal} (Ok given) (Ok found) → given ≡ found
+some_given given found is = cc
+
+given_xml : (given found : Given) → given_element given ≡ Ok found → list_all is_xml_field (kept_fields found) ≡ has_xml_fields given
+given_xml (Listed fields) found is = ap (λ (g : Given). list_all is_xml_field (kept_fields g)) (sym (some_given (Listed fields) found is))
+given_xml (Whole text) found is = by_read (element_read text) refl is
+  where
+    by_read : (r : Result (List ℕ) LineRefusal) → element_read text ≡ r → as_given r ≡ Ok found → list_all is_xml_field (kept_fields found) ≡ true
+    by_read (Ok element) read same =
+        ap (λ (g : Given). list_all is_xml_field (kept_fields g)) (sym (some_given (Whole element) found same))
+        ∙ and_from (is_xml_text element) true (element_xml text element read) refl
+    by_read (Err refusal) read same = absurd cc
+
+about_xml : (texts elements : List (List ℕ)) → about_read texts ≡ Ok elements → list_all is_xml_field (map element_field elements) ≡ true
+unfolding about_read
+about_xml [] [] is = refl
+about_xml [] (e ∷ elements) is = absurd cc
+about_xml (text ∷ texts) elements is = by_parts (about_xml texts) (element_read text) (about_read texts) refl refl is
+  where
+    by_parts : ((es : List (List ℕ)) → about_read texts ≡ Ok es → list_all is_xml_field (map element_field es) ≡ true)
+        → (one : Result (List ℕ) LineRefusal) (others : Result (List (List ℕ)) LineRefusal) → element_read text ≡ one → about_read texts ≡ others → before_others one others ≡ Ok elements
+        → list_all is_xml_field (map element_field elements) ≡ true
+    by_parts of_others (Ok e) (Ok es) first later same =
+        let all : e ∷ es ≡ elements = cc in
+        subst (λ (ws : List (List ℕ)). list_all is_xml_field (map element_field ws) ≡ true) all
+        (and_from (is_xml_text e) (list_all is_xml_field (map element_field es)) (element_xml text e first) (of_others es later))
+    by_parts of_others (Ok e) (Err refusal) first later same = absurd cc
+    by_parts of_others (Err refusal) others first later same = absurd cc
+
+and_so : (b : Bool) → (b && true) ≡ b
+and_so true = refl
+and_so false = refl
+
+record_xml : (prefix : List ℕ) (given : Given) (texts : List (List ℕ)) (r : GivenRecord) → record_read (prefix, given, texts) ≡ Ok r → list_all is_xml_field (kept r).1 ≡ has_xml_fields given
+record_xml prefix given texts r is = by_parts (given_element given) (about_read texts) refl refl is
+  where
+    by_parts : (one : Result Given LineRefusal) (others : Result (List (List ℕ)) LineRefusal) → given_element given ≡ one → about_read texts ≡ others → before_about prefix one others ≡ Ok r
+        → list_all is_xml_field (kept r).1 ≡ has_xml_fields given
+    by_parts (Ok found) (Ok about) first later same =
+        let whole : GivenRecord = (prefix, found, about) in
+        let its : whole ≡ r = cc in
+        ap (λ (w : GivenRecord). list_all is_xml_field (kept w).1) (sym its)
+        ∙ list_all-append is_xml_field (kept_fields found) (map element_field about)
+        ∙ ap (λ b. list_all is_xml_field (kept_fields found) && b) (about_xml texts about later)
+        ∙ and_so (list_all is_xml_field (kept_fields found)) ∙ given_xml given found first
+    by_parts (Ok found) (Err refusal) first later same = absurd cc
+    by_parts (Err refusal) others first later same = absurd cc
+
+pub fields_xml : (abouts : List LineAbout) (texts : List LineRecord) (read : List GivenRecord) → elements_read (with_abouts texts abouts) ≡ Ok read → have_xml_texts (map kept read) ≡ have_xml_fields texts
+unfolding elements_read have_xml_texts
+fields_xml abouts [] [] is = refl
+fields_xml abouts [] (r ∷ read) is = absurd cc
+fields_xml abouts (w ∷ texts) read is = by_parts (fields_xml abouts texts) (record_read (with_about abouts w)) (elements_read (with_abouts texts abouts)) refl refl is
+  where
+    by_parts : ((rs : List GivenRecord) → elements_read (with_abouts texts abouts) ≡ Ok rs → have_xml_texts (map kept rs) ≡ have_xml_fields texts)
+        → (one : Result GivenRecord LineRefusal) (others : Result (List GivenRecord) LineRefusal) → record_read (with_about abouts w) ≡ one → elements_read (with_abouts texts abouts) ≡ others
+        → before_others one others ≡ Ok read → have_xml_texts (map kept read) ≡ (has_xml_fields w.1 && have_xml_fields texts)
+    by_parts of_others (Ok r) (Ok rs) first later same =
+        let all : r ∷ rs ≡ read = cc in
+        ap (λ (gs : List GivenRecord). have_xml_texts (map kept gs)) (sym all)
+        ∙ ap (λ b. b && have_xml_texts (map kept rs)) (record_xml w.0 w.1 (texts_about abouts w.0) r first)
+        ∙ ap (λ b. has_xml_fields w.1 && b) (of_others rs later)
+    by_parts of_others (Ok r) (Err refusal) first later same = absurd cc
+    by_parts of_others (Err refusal) others first later same = absurd cc

@@ -35,6 +35,13 @@ impl RecordTexts {
     }
 
     /// The records, in the order of their prefixes.
+    pub(crate) fn as_slice(&self) -> &[(Text, Given)]
+        ensures { result.now ≡ self.now }
+    {
+        self.records.as_slice()
+    }
+
+    /// The records, in the order of their prefixes.
     pub(crate) fn into_vec(self) -> Vec<(Text, Given)>
         ensures records { result.items ≡ self }
         ensures rising { are_rising self ≡ true }

@@ -1,12 +1,13 @@
 //! The records of a deposit, of which the elements are read; the texts of their fields.
 
-ghost use Rattle.std.specs.Prelude.{◌≡◌, true, ℕ, List, IfOk, map};
+ghost use Rattle.std.specs.Prelude.{◌≡◌, true, ℕ, List, Ok, IfOk, map};
 ghost use Rattle.std.specs.List.{list_all};
 ghost use Rattle.oai_names.specs.Characters.{is_xml_text};
 ghost use Rattle.oai_item.specs.Elements.{element_field, is_about};
-ghost use Rattle.oai_item.specs.Givens.{IsNoted, IsNotedContent, field_texts, noted_given, noted_record};
-ghost use Rattle.oai_deposit.specs.Calls.{Anywhere};
+ghost use Rattle.oai_item.specs.Givens.{GivenRecord, IsNoted, IsNotedContent, field_texts, kept, noted_given, noted_record};
+ghost use Rattle.oai_deposit.specs.Calls.{Anywhere, has_xml_fields, have_xml_fields};
 ghost use Rattle.oai_deposit.specs.Lines as lines;
+ghost use Rattle.oai_deposit.specs.Lines.{LineAbout};
 ghost use Rattle.oai_deposit.specs.Readings.{GivesBy, ReturnsReading};
 
 use crate::about_texts::AboutTexts;
@@ -114,14 +115,31 @@ fn element_of(alloc: Global, text: &str) -> Result<ElementText, LineFault>
     }
 }
 
-/// Whether each text of each field may stand in an XML document.
-#[tactic(auto, unfolding(crate::specs::Lines::have_xml_texts))]
-pub(crate) fn have_xml_texts(records: &[(Text, Sequence<Field>)]) -> bool
-    ensures { result ≡ lines.have_xml_texts records.now }
+/// Whether each text of each field of a record that is a list may stand in an XML document. That of an element may: it is
+/// read of XML's characters.
+pub(crate) fn have_xml_texts(texts: &RecordTexts) -> bool
+    ensures { (abouts : List LineAbout) (read : List GivenRecord)
+        → lines.elements_read (lines.with_abouts texts.now abouts) ≡ Ok read
+        → lines.have_xml_texts (map kept read) ≡ result }
 {
-    records
-        .iter()
-        .all(|record| are_xml_texts(record.1.as_slice()))
+    have_xml_fields(texts.as_slice())
+}
+
+/// Whether each text of each field of these may stand in an XML document.
+fn have_xml_fields(records: &[(Text, Given)]) -> bool
+    ensures { result ≡ have_xml_fields records.now }
+{
+    records.iter().all(|record| has_xml_fields(&record.1))
+}
+
+/// Whether the text of each field may stand in an XML document, if fields are given.
+fn has_xml_fields(given: &Given) -> bool
+    ensures { result ≡ has_xml_fields given.now }
+{
+    match given {
+        Given::Listed(fields) => are_xml_texts(fields.as_slice()),
+        Given::Whole(_) => true,
+    }
 }
 
 /// Whether the text of each field may stand in an XML document.

@@ -211,10 +211,11 @@ fn parts_from(
         records,
         abouts,
     } = texts;
+    let are_xml = have_xml_texts(&records);
     let records = read_elements(alloc, records, &abouts)?;
     let identifier = identifier_of(alloc, identifier)?;
     let sets = set_specs_of(alloc, sets.as_slice())?;
-    if !have_xml_texts(records.as_slice()) {
+    if !are_xml {
         return Err(LineFault::Refused(LineRefusal::BadText));
     }
     Ok((identifier, sets, records))

@@ -1,6 +1,6 @@
 -- An item that a put finds is the one that it makes, but for its datestamp; so a put behind the same put finds it, and a put leaves what the
 -- deposit of the same leaves, but for that.
-use Rattle.std.proofs.Common.{◌≡◌, ◌∙◌, ℕ, ℤ, Bool, true, false, ◌&&◌, cond, List, [], ◌∷◌, length, map, Option, None, Some, is_some, refl, sym, ap}
+use Rattle.std.proofs.Common.{◌≡◌, ◌∙◌, ℕ, ℤ, Bool, true, false, ◌&&◌, cond, List, [], ◌∷◌, length, map, Option, None, Some, Result, Ok, Err, IfOk, IfSome, OnOk, is_some, refl, sym, subst, ap}
 use Rattle.std.specs.Prelude.{nat_lt, option_map}
 use Rattle.std.specs.Cmp.Lexicographic.{pointwise}
 use Rattle.std.specs.List.{list_all}
@@ -11,11 +11,12 @@ use Rattle.std.proofs.lemmas.Slice.Eq.{bytes_eq-Decides}
 use Rattle.oai_names.proofs.Lists.{all-weaker}
 use Rattle.oai_item.specs.Encoding.{encoded}
 use Rattle.oai_item.specs.Givens.{GivenRecord, kept as as_kept}
-use Rattle.oai_item.specs.Item.{ItemState, Metadata, has_record, live_item, record_named}
+use Rattle.oai_item.specs.Item.{IsStamp, ItemState, Metadata, has_record, live_item, record_named}
 use Rattle.oai_item.specs.Items.{item_named}
 use Rattle.oai_item.specs.Membership.{reduced}
 use Rattle.oai_item.specs.declared.fields.Field.{Field}
 use Rattle.oai_item.specs.declared.refusals.ChangeRefusal.{ChangeRefusal}
+use Rattle.oai_item.specs.declared.refusals.Refusal.{Refusal}
 use Rattle.oai_item.specs.declared.refusals.ChangeRefusal.TheVariants.{DropsFormat, TooLarge, TooManyItems}
 use Rattle.oai_item.specs.declared.sizes.TheConstants.{MAX_ITEM_BYTES}
 use Rattle.oai_item.proofs.Lengths.{length-encoded}
@@ -23,9 +24,10 @@ use Rattle.oai_item.proofs.Named.{found_name, item_named-new}
 use Rattle.oai_deposit.specs.declared.changes.Change.{Change}
 use Rattle.oai_deposit.specs.declared.changes.Change.TheVariants as change
 use Rattle.oai_settings.specs.Config.{RepositoryConfig}
-use Rattle.oai_holdings.specs.Accepted.{noted_stamp}
+use Rattle.oai_holdings.specs.Accepted.{IsStampOfPut, noted_stamp}
+use Rattle.oai_holdings.specs.Calls.{unstamped}
 use Rattle.oai_holdings.specs.Changes.{changed, deposit_cause, deposit_refusal, drops_format, is_held_so, is_one_too_many, is_same_field, is_same_record, item_refusal, refusal_of, told_stamp, undated, with_new, with_put}
-use Rattle.oai_holdings.specs.Entries.{IndexEntries}
+use Rattle.oai_holdings.specs.Entries.{IndexEntries, SetsStamp, stamp_in}
 use Rattle.oai_holdings.specs.Holdings.{Holdings}
 use Rattle.oai_holdings.specs.Index.{IndexAgrees}
 use Rattle.oai_holdings.specs.Kept.{is_too_large}
@@ -227,3 +229,27 @@ noted_told stamp (change.Put identifier sets records) entries items agrees = ap 
 noted_told stamp (change.Delete identifier) entries items agrees = refl
 noted_told stamp (change.Purge before) entries items agrees = refl
 noted_told stamp (change.AddSet spec name) entries items agrees = refl
+
+-- of an entry that was known, and of one that is set
+pub told_known : (stamp : ℤ) (identifier : List ℕ) (entries : IndexEntries) (known : Option ℤ) → known ≡ stamp_in identifier entries → IfSome known IsStamp → IsStamp stamp
+    → IsStampOfPut stamp identifier entries (unwrap_or known stamp)
+told_known stamp identifier entries known is dated stamped = (ap (λ (o : Option ℤ). unwrap_or o stamp) is, of_known known dated)
+  where
+    of_known : (o : Option ℤ) → IfSome o IsStamp → IsStamp (unwrap_or o stamp)
+    of_known None dated = stamped
+    of_known (Some own) dated = dated
+
+pub told_new : (stamp : ℤ) (identifier : List ℕ) (old new : IndexEntries) → SetsStamp identifier (Some stamp) old new → IsStamp stamp → IsStampOfPut stamp identifier new stamp
+told_new stamp identifier old new set stamped =
+    let own : bytes_eq identifier identifier ≡ true = (bytes_eq-Decides identifier identifier).1 refl in
+    (sym (ap (λ (o : Option ℤ). unwrap_or o stamp) (set identifier ∙ cond-true (bytes_eq identifier identifier) (Some stamp) (stamp_in identifier old) own)), stamped)
+
+-- where a change is made, so is what it is answered with
+pub answered_so : {P : Type 0} {Q : ℤ → Type 0} (made : Result (Unit {0}) Refusal) (answer : Result ℤ Refusal) (stamp : ℤ) → unstamped answer ≡ made → IfOk answer (λ told. told ≡ stamp)
+    → (P → (told : ℤ) → told ≡ stamp → Q told) → OnOk made P → IfOk answer Q
+answered_so {P} made (Ok told) stamp is same so ok = so (subst (λ r. OnOk r P) (sym is) ok) told same
+answered_so made (Err refusal) stamp is same so ok = tt
+
+pub answered_put : {P : Type 0} {R Q : ℤ → Type 0} (answer : Result ℤ Refusal) → ((told : ℤ) → P → R told → Q told) → OnOk (unstamped answer) P → IfOk answer R → IfOk answer Q
+answered_put (Ok told) so ok its = so told ok its
+answered_put (Err refusal) so ok its = tt

@@ -1,8 +1,9 @@
 -- The entries of the index and the sets after an accepted change, whatever the store returns: this repository's own.
-use Rattle.std.specs.Prelude.{◌≡◌, ◌⊎◌, ℤ, List, [], ◌∷◌, ◌++◌, Option, None, Some, IsSome}
+use Rattle.std.specs.Prelude.{◌≡◌, ◌⊎◌, ℕ, ℤ, List, [], ◌∷◌, ◌++◌, Option, None, Some, IsSome}
 use Rattle.std.specs.Option.{unwrap_or}
 use Rattle.oai_deposit.specs.declared.changes.Change.{Change}
 use Rattle.oai_deposit.specs.declared.changes.Change.TheVariants as change
+use Rattle.oai_item.specs.Item.{IsStamp}
 use Rattle.oai_item.specs.declared.deleted_record.DeletedRecord.{DeletedRecord}
 use Rattle.oai_item.specs.declared.deleted_record.DeletedRecord.TheVariants.{No, Transient, Persistent}
 use Rattle.oai_holdings.specs.Entries.{ForgetsSome, SetsStamp, IndexEntries, stamp_in}
@@ -44,3 +45,12 @@ noted_stamp stamp (change.Put identifier sets records) entries = unwrap_or (stam
 noted_stamp stamp (change.Delete identifier) entries = stamp
 noted_stamp stamp (change.Purge before) entries = stamp
 noted_stamp stamp (change.AddSet spec name) entries = stamp
+
+-- it is answered so; the datestamp lies in the years 0000 to 9999
+pub record IsAnsweredWith (stamp : ℤ) (change : Change) (entries : IndexEntries) (told : ℤ) : Type 0 where
+  pub is : told ≡ noted_stamp stamp change entries
+  pub writable : IsStamp told
+
+-- the datestamp that answers a put of the identifier, by the entries after it
+abbrev pub IsStampOfPut : ℤ → List ℕ → IndexEntries → ℤ → Type 0
+IsStampOfPut stamp identifier entries told = (told ≡ unwrap_or (stamp_in identifier entries) stamp) × IsStamp told

@@ -39,3 +39,8 @@ abbrev pub OnRefused : {A : Type 0} → Result A Refusal → Type 0 → Type 0
 OnRefused (Ok _) P = Unit {0}
 OnRefused (Err (refusal.Refused cause)) P = P
 OnRefused (Err (refusal.Fault fault)) P = Unit {0}
+
+-- whether a change was made, or why it was not: its answer without the datestamp
+abbrev pub unstamped : {A : Type 0} → Result A Refusal → Result (Unit {0}) Refusal
+unstamped (Ok _) = Ok tt
+unstamped (Err refusal) = Err refusal

@@ -72,6 +72,11 @@ pub record HoldsItem {V : Type 0} (g : Ghosts V) (index : ItemIndex) (item : Ite
   pub small : IsTrue (g.honest store) → not (is_too_large item) ≡ true
   pub there : IsTrue (g.honest store) → item_named item.identifier (stored_items index (g.lists store)) ≡ Some item
 
+-- the item is held, under an entry with that datestamp
+pub record HoldsKnown {V : Type 0} (g : Ghosts V) (index : ItemIndex) (item : ItemState) (known : Option ℤ) (store : V) : Type 0 where
+  pub held : HoldsItem g index item store
+  pub entry : known ≡ stamp_in item.identifier index.entries
+
 -- the items were made into others, over an honest store, and the index agrees with those
 pub record IsMadeOn {V : Type 0} (g : Ghosts V) (make : List ItemState → List ItemState) (old : ItemIndex) (before : V) (new : ItemIndex) (after : V) : Type 0 where
   pub list : IsTrue (g.honest before) → stored_items new (g.lists after) ≡ make (stored_items old (g.lists before))

@@ -1,10 +1,10 @@
 //! Changes of a repository: deposits, deletions, purges and new sets.
-ghost use Rattle.std.specs.Prelude.{◌≡◌, ◌≤◌, ◌++◌, [], ◌∷◌, None, length, IfErr, OnErr, OnOk};
+ghost use Rattle.std.specs.Prelude.{◌≡◌, ◌≤◌, ◌++◌, [], ◌∷◌, None, length, IfErr, IfOk, OnErr, OnOk};
 ghost use Rattle.oai_item.specs.Item.{IsStamp};
 ghost use Rattle.oai_item.specs.declared.faults.Fault.TheVariants as fault;
 ghost use Rattle.oai_catalogue.specs.Store.{Spends};
-ghost use Rattle.oai_holdings.specs.Accepted.{KeepsChange, noted_stamp};
-ghost use Rattle.oai_holdings.specs.Calls.{fault_in, room_to_change};
+ghost use Rattle.oai_holdings.specs.Accepted.{IsAnsweredWith, KeepsChange};
+ghost use Rattle.oai_holdings.specs.Calls.{fault_in, unstamped, room_to_change};
 ghost use Rattle.oai_holdings.specs.Changes.{set_refusal};
 ghost use Rattle.oai_holdings.specs.Indexing.{HoldsItems, IsAfterChange, IsMadeIn, Moves};
 
@@ -38,26 +38,28 @@ pub struct ChangeContext<'a> {
     pub stamp: i64,
 }
 
-/// Makes the change, or refuses it by the first cause. A change that is not made leaves everything unchanged.
+/// Makes the change, or refuses it by the first cause; returns the datestamp that answers it: of a put, that of its item.
+/// A change that is not made leaves everything unchanged.
 pub fn make_change<V: Versions>(
     context: &ChangeContext<'_>,
     store: &mut V,
     index: &mut ItemIndex,
     sets: &mut SetTree,
     change: &Change,
-) -> Result<(), Refusal>
+) -> Result<i64, Refusal>
     requires stamped { IsStamp context.now.stamp }
     requires held { HoldsItems V.Versions context.now.config.now index.old sets.old store.old }
     ensures made { IsMadeIn (V.honest store.old) context.now.config.now context.now.stamp change.now
-        result index.old sets.old (V.lists store.old) index.new sets.new (V.lists store.new) }
-    ensures kept { OnOk result (KeepsChange context.now.config.now.deleted context.now.stamp
-        change.now index.old.entries index.new.entries sets.old sets.new) }
-    ensures few { OnOk result (length index.old.entries ≤ context.now.config.now.items
+        (unstamped result) index.old sets.old (V.lists store.old) index.new sets.new (V.lists store.new) }
+    ensures kept { IfOk result (λ told. KeepsChange context.now.config.now.deleted context.now.stamp
+        change.now index.old.entries index.new.entries sets.old sets.new
+        × IsAnsweredWith context.now.stamp change.now index.new.entries told) }
+    ensures few { OnOk (unstamped result) (length index.old.entries ≤ context.now.config.now.items
         → length index.new.entries ≤ context.now.config.now.items) }
-    ensures err_sets { OnErr result (sets.new ≡ sets.old) }
-    ensures moves { Moves V.Versions result index.old store.old index.new store.new }
+    ensures err_sets { OnErr (unstamped result) (sets.new ≡ sets.old) }
+    ensures moves { Moves V.Versions (unstamped result) index.old store.old index.new store.new }
     ensures store { Spends V.room V.failures V.honest (room_to_change (length index.old.entries) change.now)
-        (fault_in result) store.old store.new }
+        (fault_in (unstamped result)) store.old store.new }
 {
     match change {
         Change::Deposit {
@@ -70,7 +72,10 @@ pub fn make_change<V: Versions>(
                 sets: specs.as_slice(),
                 records,
             };
-            put_deposit(context, sets, store, index, &deposit)
+            dated(
+                context.stamp,
+                put_deposit(context, sets, store, index, &deposit),
+            )
         }
         Change::Put {
             identifier,
@@ -84,27 +89,24 @@ pub fn make_change<V: Versions>(
             };
             put_if_new(context, sets, store, index, &deposit)
         }
-        Change::Delete { identifier } => delete(context, store, index, identifier),
-        Change::Purge { before } => purge(context, store, index, before.as_str()),
-        Change::AddSet { spec, name } => add_set(sets, spec, name.as_str()),
+        Change::Delete { identifier } => {
+            dated(context.stamp, delete(context, store, index, identifier))
+        }
+        Change::Purge { before } => {
+            dated(context.stamp, purge(context, store, index, before.as_str()))
+        }
+        Change::AddSet { spec, name } => dated(context.stamp, add_set(sets, spec, name.as_str())),
     }
 }
 
-/// The datestamp that answers the change after it is made, if `stamp` is the change's: of a put, that of its item.
-pub fn told_stamp(index: &ItemIndex, stamp: i64, change: &Change) -> i64
-    requires { IsStamp stamp }
-    ensures told { result ≡ noted_stamp stamp change.now index.now.entries }
-    ensures in_range { IsStamp result }
+/// The answer of a change with that datestamp.
+fn dated(stamp: i64, made: Result<(), Refusal>) -> Result<i64, Refusal>
+    ensures outcome { unstamped result ≡ made }
+    ensures told { IfOk result (λ told. (told ≡ stamp)) }
 {
-    match change {
-        Change::Put { identifier, .. } => match index.stamp_of(identifier.as_str()) {
-            Some(own) => own,
-            None => stamp,
-        },
-        Change::Deposit { .. } => stamp,
-        Change::Delete { .. } => stamp,
-        Change::Purge { .. } => stamp,
-        Change::AddSet { .. } => stamp,
+    match made {
+        Ok(()) => Ok(stamp),
+        Err(refusal) => Err(refusal),
     }
 }
 

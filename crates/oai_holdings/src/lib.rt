@@ -9,7 +9,7 @@ mod laws;
 mod restores;
 mod saves;
 
-pub use changes::{ChangeContext, make_change, told_stamp};
+pub use changes::{ChangeContext, make_change};
 pub use differences::{MissingItems, OwnedKey, read_missing};
 pub use gone::restore_gone;
 pub use item_index::ItemIndex;

@@ -27,7 +27,6 @@ use oai_catalogue::Versions;
 use oai_deposit::Change;
 use oai_holdings::{
     ChangeContext, ItemIndex, make_change, read_behind, restore_gone, restore_item, restore_set,
-    told_stamp,
 };
 use oai_item::{Fault, Item, Refusal};
 use oai_lists::{Lists, OpenList};
@@ -230,8 +229,7 @@ impl Repo {
         };
         let made = make_change(&context, store, &mut self.index, &mut self.sets, change);
         match made {
-            Ok(()) => {
-                let told = told_stamp(&self.index, stamp, change);
+            Ok(told) => {
                 self.move_to(store, clock);
                 Ok(told)
             }

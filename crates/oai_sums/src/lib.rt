@@ -9,4 +9,4 @@ mod spans;
 pub use packed_counts::PackedCounts;
 pub use set_counts::{MAX_COUNTED_SETS, SetCounts};
 pub use set_names::SetNames;
-pub use spans::Span;
+pub use spans::{SetItems, Span};

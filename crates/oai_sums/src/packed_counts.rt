@@ -2,7 +2,7 @@ ghost use Rattle.std.specs.Prelude.{◌≡◌, ◌<◌, ◌≤◌, ◌++◌, ◌
 ghost use Rattle.oai_sums.specs.Sums.{IsCounted, counted_in, is_unsaid, lacks, span_in, totals_from};
 
 use crate::set_names::SharedSetSpec;
-use crate::spans::Span;
+use crate::spans::{SetItems, Span};
 use std::marker::Model;
 
 /// A set with several items: its position among the sets, and how many.
@@ -81,25 +81,26 @@ impl PackedCounts {
     pub fn count(&self, set: &str) -> usize
         ensures { result ≡ counted_in set.now self.now }
     {
-        for at in 0..self.len() {
-            if set == self.set(at).as_str() {
-                return self.count_at(at) as usize;
-            }
-        }
-        0
+        self.items_of(set).count
     }
 
-    /// Within which span of bytes the entries of the set's items are, as `SetCounts::add` was given it; None if it has
-    /// none. After `SetCounts::add_all` nothing is promised.
-    pub fn span(&self, set: &str) -> Option<Span>
-        ensures { result ≡ span_in set.now self.now }
+    /// How many items are in the set, and where. After `SetCounts::add_all` nothing is promised of where.
+    pub fn items_of(&self, set: &str) -> SetItems
+        ensures count { result.count ≡ counted_in set.now self.now }
+        ensures span { result.span ≡ span_in set.now self.now }
     {
         for at in 0..self.len() {
             if set == self.set(at).as_str() {
-                return Some(self.span_at(at));
+                return SetItems {
+                    count: self.count_at(at) as usize,
+                    span: Some(self.span_at(at)),
+                };
             }
         }
-        None
+        SetItems {
+            count: 0,
+            span: None,
+        }
     }
 
     /// How many sets have items.

@@ -9,7 +9,7 @@ ghost use Rattle.oai_holdings.specs.Calls.{fault_in};
 ghost use Rattle.oai_holdings.specs.Changes.{after_deletion, dead_refusal, missing_refusal, with_new};
 ghost use Rattle.oai_holdings.specs.Entries.{Restamps, SetsStamp, count_with, stamp_in};
 ghost use Rattle.oai_holdings.specs.Index.{stored_items};
-ghost use Rattle.oai_holdings.specs.Indexing.{HoldsItem, IsDoneOn, IsMadeOn, Moves, StandsOn};
+ghost use Rattle.oai_holdings.specs.Indexing.{HoldsKnown, IsDoneOn, IsMadeOn, Moves, StandsOn};
 ghost use Rattle.oai_holdings.specs.Kept.{is_too_large};
 
 use crate::changes::ChangeContext;
@@ -61,8 +61,7 @@ fn delete_item<V: Versions>(
 ) -> Result<(), Refusal>
     requires stamped { IsStamp context.now.stamp }
     requires stands { StandsOn V.Versions index.old store.old }
-    requires held { HoldsItem V.Versions index.old item.now store.old }
-    requires known { known ≡ stamp_in item.now.identifier index.old.entries }
+    requires held { HoldsKnown V.Versions index.old item.now known store.old }
     ensures done { let items = stored_items index.old (V.lists store.old) in
         IsDoneOn V.Versions None (dead_refusal (Some item.now))
         (after_deletion context.now.config.now.deleted context.now.stamp item.now.identifier items)
@@ -90,8 +89,7 @@ fn take_out<V: Versions>(
 ) -> Result<(), Fault>
     requires stamped { IsStamp context.now.stamp }
     requires stands { StandsOn V.Versions index.old store.old }
-    requires held { HoldsItem V.Versions index.old item.now store.old }
-    requires known { known ≡ stamp_in item.now.identifier index.old.entries }
+    requires held { HoldsKnown V.Versions index.old item.now known store.old }
     ensures made { OnOk result (IsMadeOn V.Versions
         (after_deletion context.now.config.now.deleted context.now.stamp item.now.identifier) index.old store.old index.new store.new) }
     ensures stamped { OnOk result (SetsStamp item.now.identifier (stamp_after_deletion context.now.config.now.deleted context.now.stamp)
@@ -117,8 +115,7 @@ fn replace_with_tombstone<V: Versions>(
 ) -> Result<(), Fault>
     requires stamped { IsStamp context.now.stamp }
     requires stands { StandsOn V.Versions index.old store.old }
-    requires held { HoldsItem V.Versions index.old item.now store.old }
-    requires known { known ≡ stamp_in item.now.identifier index.old.entries }
+    requires held { HoldsKnown V.Versions index.old item.now known store.old }
     ensures made { OnOk result (IsMadeOn V.Versions
         (with_new (tombstone_of context.now.stamp item.now)) index.old store.old index.new store.new) }
     ensures stamped { OnOk result (SetsStamp item.now.identifier (Some context.now.stamp) index.old.entries

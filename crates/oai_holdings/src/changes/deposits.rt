@@ -14,7 +14,8 @@ ghost use Rattle.oai_item.specs.Givens.{IsNotedContent, field_texts, kept as as_
 ghost use Rattle.oai_item.specs.Elements.{is_about};
 ghost use Rattle.oai_item.specs.Known.{are_listed_in, has_format, has_listed_fields, is_given_in, is_of_format, may_have_about};
 ghost use Rattle.oai_item.specs.Membership.{reduced};
-ghost use Rattle.oai_holdings.specs.Calls.{fault_in};
+ghost use Rattle.oai_holdings.specs.Accepted.{IsStampOfPut};
+ghost use Rattle.oai_holdings.specs.Calls.{fault_in, unstamped};
 ghost use Rattle.oai_holdings.specs.Changes as spec;
 ghost use Rattle.oai_holdings.specs.Entries.{SetsStamp, count_with, stamp_in};
 ghost use Rattle.oai_holdings.specs.Index.{stored_items};
@@ -75,14 +76,14 @@ pub(crate) fn put_deposit<V: Versions>(
 }
 
 /// Adds the item of the deposit, unless the item with its identifier is live, in the same sets and with the same records;
-/// or refuses it by the first cause.
+/// or refuses it by the first cause. Returns the datestamp that the item then has.
 pub(crate) fn put_if_new<V: Versions>(
     context: &ChangeContext<'_>,
     sets: &SetTree,
     store: &mut V,
     index: &mut ItemIndex,
     deposit: &Deposit<'_>,
-) -> Result<(), Refusal>
+) -> Result<i64, Refusal>
     requires stamped { IsStamp context.now.stamp }
     requires stands { StandsOn V.Versions index.old store.old }
     ensures done { let items = stored_items index.old (V.lists store.old) in
@@ -92,14 +93,15 @@ pub(crate) fn put_if_new<V: Versions>(
         deposit.now.sets.now deposit.now.records.now)
         (spec.item_refusal context.now.config.now (item_named item.identifier items)
         (length items) item)
-        (spec.with_put item items) result index.old store.old index.new store.new }
-    ensures stamped { OnOk result ((index.new.entries ≡ index.old.entries)
+        (spec.with_put item items) (unstamped result) index.old store.old index.new store.new }
+    ensures stamped { OnOk (unstamped result) ((index.new.entries ≡ index.old.entries)
         ⊎ SetsStamp deposit.now.identifier.now (Some context.now.stamp) index.old.entries
         index.new.entries) }
-    ensures few { OnOk result (length index.old.entries ≤ context.now.config.now.items
+    ensures told { IfOk result (IsStampOfPut context.now.stamp deposit.now.identifier.now index.new.entries) }
+    ensures few { OnOk (unstamped result) (length index.old.entries ≤ context.now.config.now.items
         → length index.new.entries ≤ context.now.config.now.items) }
-    ensures moves { Moves V.Versions result index.old store.old index.new store.new }
-    ensures store { Spends V.room V.failures V.honest 1 (fault_in result) store.old store.new }
+    ensures moves { Moves V.Versions (unstamped result) index.old store.old index.new store.new }
+    ensures store { Spends V.room V.failures V.honest 1 (fault_in (unstamped result)) store.old store.new }
 {
     match deposited(context, sets, deposit)? {
         Ok(item) => put_item_if_new(context, store, index, &item),
@@ -161,24 +163,25 @@ fn put_item<V: Versions>(
 }
 
 /// Adds the item, unless the one with its identifier is live, in the same sets and with the same records; or refuses it by
-/// the first cause.
+/// the first cause. Returns the datestamp that it then has.
 fn put_item_if_new<V: Versions>(
     context: &ChangeContext<'_>,
     store: &mut V,
     index: &mut ItemIndex,
     item: &Item,
-) -> Result<(), Refusal>
+) -> Result<i64, Refusal>
     requires stands { StandsOn V.Versions index.old store.old }
     ensures done { let items = stored_items index.old (V.lists store.old) in
         IsDoneOn V.Versions None (spec.item_refusal context.now.config.now
         (item_named item.now.identifier items) (length items) item.now)
-        (spec.with_put item.now items) result index.old store.old index.new store.new }
-    ensures stamped { OnOk result ((index.new.entries ≡ index.old.entries)
+        (spec.with_put item.now items) (unstamped result) index.old store.old index.new store.new }
+    ensures stamped { OnOk (unstamped result) ((index.new.entries ≡ index.old.entries)
         ⊎ SetsStamp item.now.identifier (Some item.now.stamp) index.old.entries index.new.entries) }
-    ensures few { OnOk result (length index.old.entries ≤ context.now.config.now.items
+    ensures told { IfOk result (IsStampOfPut item.now.stamp item.now.identifier index.new.entries) }
+    ensures few { OnOk (unstamped result) (length index.old.entries ≤ context.now.config.now.items
         → length index.new.entries ≤ context.now.config.now.items) }
-    ensures moves { Moves V.Versions result index.old store.old index.new store.new }
-    ensures store { Spends V.room V.failures V.honest 1 (fault_in result) store.old store.new }
+    ensures moves { Moves V.Versions (unstamped result) index.old store.old index.new store.new }
+    ensures store { Spends V.room V.failures V.honest 1 (fault_in (unstamped result)) store.old store.new }
 {
     let identifier = item.identifier().as_str();
     let known = index.stamp_of(identifier);
@@ -188,9 +191,10 @@ fn put_item_if_new<V: Versions>(
         None => {}
     }
     if is_held_so(item, found.as_ref()) {
-        return Ok(());
+        return Ok(known.unwrap_or(item.stamp()));
     }
-    Ok(index.put_known(context.alloc, store, item, known)?)
+    index.put_known(context.alloc, store, item, known)?;
+    Ok(item.stamp())
 }
 
 /// Why the item may not be added to the others: the first cause; `known` is the datestamp of its identifier's entry,

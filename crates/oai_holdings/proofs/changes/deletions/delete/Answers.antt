@@ -1,5 +1,5 @@
 -- The item that is found is the one of its identifier, and it can be stored.
-use Rattle.std.proofs.Common.{◌≡◌, ◌∙◌, Bool, not, Some, is_some, IsTrue, ap, sym, subst}
+use Rattle.std.proofs.Common.{◌≡◌, ◌∙◌, Bool, not, Some, is_some, IsTrue, rules, ap, sym, subst}
 use Rattle.oai_item.specs.Item.{ItemState}
 use Rattle.oai_item.specs.Items.{item_named}
 use Rattle.oai_item.proofs.Named.{of_found}
@@ -15,9 +15,12 @@ delete_item-requires-clause-held g c =
     let here : IsTrue (g.V.Versions.honest c.args.store.now) → item_named c.args.identifier.now items ≡ Some c.in-Some.item = λ honest. sym (rw c.as_str-text.ensures.text at (c.in_ok-item.ensures.found honest)) ∙ c.in-Some.is in
     let named = rw (c.in-Some.is, c.as_str-text.ensures.text) at c.in_ok-item.ensures.named in
     record {
-      entered = rw named (rw c.as_str-text.ensures.text at (c.in_ok-item.ensures.there (ap is_some c.in-Some.is)));
-      small = λ honest. of_found (λ (item : ItemState). not (is_too_large item)) c.args.identifier.now items c.in-Some.item (here (was honest)) (c.requires.small (was honest));
-      there = λ honest. rw c.find_known.ensures.reads.same (named_own c.args.identifier.now items c.in-Some.item (here (was honest)));
+      held = record {
+        entered = rw named (rw c.as_str-text.ensures.text at (c.in_ok-item.ensures.there (ap is_some c.in-Some.is)));
+        small = λ honest. of_found (λ (item : ItemState). not (is_too_large item)) c.args.identifier.now items c.in-Some.item (here (was honest)) (c.requires.small (was honest));
+        there = λ honest. rw c.find_known.ensures.reads.same (named_own c.args.identifier.now items c.in-Some.item (here (was honest)));
+      };
+      entry = search rules;
     }
 
 pub returns-clause-entries : goal.returns-clause-entries

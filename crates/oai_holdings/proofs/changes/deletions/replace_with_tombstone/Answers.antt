@@ -8,4 +8,4 @@ use Rattle.oai_holdings.proofs.changes.deletions.replace_with_tombstone.Goals as
 pub put_left-requires-clause-small : goal.put_left-requires-clause-small
 put_left-requires-clause-small g c = λ honest.
     let fits : FitsSigned w64 c.args.context.now.stamp = stamp_fits c.args.context.now.stamp c.requires.stamped in
-    small-tombstone c.args.context.now.stamp c.args.item.now c.in_ok-left.left (simp to_z-of_z at c.in_ok-left.ensures) (c.requires.held.small honest)
+    small-tombstone c.args.context.now.stamp c.args.item.now c.in_ok-left.left (simp to_z-of_z at c.in_ok-left.ensures) (c.requires.held.held.small honest)

@@ -13,6 +13,7 @@ use Rattle.oai_repo.specs.Machine.{Outcome, accepted, refused_with}
 use Rattle.oai_repo.specs.State.{OpenLists, RepoState, still_open}
 use Rattle.oai_holdings.specs.Indexing.{MakesChange}
 use Rattle.oai_item.specs.declared.refusals.Refusal.TheVariants as refusal
+use Rattle.oai_holdings.proofs.ChangeLemmas.{stamp_fits}
 use Rattle.oai_holdings.proofs.PutLemmas.{noted_told}
 use Rattle.oai_repo.proofs.OpenListLemmas.{open_lists_same, table_agrees_same}
 use Rattle.oai_repo.proofs.ClockLemmas.{in_years-tick}
@@ -103,16 +104,17 @@ returns-in-Ok-clause-changed g c = λ honest.
     open_lists_same inside.clock inside.lists before between (moved_others inside.index.version after.index.version (versions_in inside.lists) before between stands c.make_change-made.ensures.moves.moved)
     in
     let indexed : IsIndexed inside.config after.index after.sets between = c.in-Ok.ensures.made.indexed honest in
-    let fits_told : FitsSigned w64 c.told_stamp-told.result = record { sfits = c.told_stamp-told.type_inv } in
-    let noted : c.told_stamp-told.result ≡ noted_stamp c.stamp-stamp.result c.args.change.now after.index.entries = simp to_z-of_z at c.told_stamp-told.ensures.told in
-    let said : c.told_stamp-told.result ≡ told_stamp c.stamp-stamp.result c.args.change.now (holdings_of after.index after.sets between).items =
+    let answer = simp to_z-of_z at c.in-Ok.ensures.kept.1 in
+    let fits_told : FitsSigned w64 c.in-Ok.told = stamp_fits c.in-Ok.told answer.writable in
+    let noted : c.in-Ok.told ≡ noted_stamp c.stamp-stamp.result c.args.change.now after.index.entries = answer.is in
+    let said : c.in-Ok.told ≡ told_stamp c.stamp-stamp.result c.args.change.now (holdings_of after.index after.sets between).items =
     noted ∙ noted_told c.stamp-stamp.result c.args.change.now after.index.entries (holdings_of after.index after.sets between).items indexed.agrees
     in
     let told : ℤ → RepoState → Outcome × RepoState = λ stamp state. (accepted stamp, state) in
     let done = step-made inside.config now (tick inside.clock c.args.moment) c.stamp-stamp.result (holdings_of inside.index inside.sets before) (holdings_of after.index after.sets between) (open_lists_of inside.clock inside.lists before) c.args.change.now moved dated made in
     rw (← c.self.view_is)
     (simp to_z-of_z (done ∙ ap (λ (s : ℤ). told s (at_later now (holdings_of after.index after.sets between) (open_lists_of inside.clock inside.lists before))) (sym said)
-    ∙ ap (λ (b : OpenLists). told c.told_stamp-told.result (at_later now (holdings_of after.index after.sets between) b)) (sym open_lists) ∙ ap (told c.told_stamp-told.result) (sym c.move_to.ensures.moved)))
+    ∙ ap (λ (b : OpenLists). told c.in-Ok.told (at_later now (holdings_of after.index after.sets between) b)) (sym open_lists) ∙ ap (told c.in-Ok.told) (sym c.move_to.ensures.moved)))
 
 pub returns-in-Err-Refused-clause-changed : goal.returns-in-Err-Refused-clause-changed
 returns-in-Err-Refused-clause-changed g c = λ honest.
@@ -223,9 +225,10 @@ returns-in-Ok-clause-accepted g c =
     let fits_stamp : FitsSigned w64 c.stamp-stamp.result = record { sfits = c.stamp-stamp.type_inv } in
     let inside = c.self.inside in
     let stamped : c.stamp-stamp.result ≡ stamp_at inside.config c.tick.new.self = rw (← c.now.ensures, ← c.granularity.ensures) (simp to_z-of_z at c.stamp-stamp.ensures.value) in
-    let made = simp to_z-of_z at c.in-Ok.ensures.kept in
-    let fits_told : FitsSigned w64 c.told_stamp-told.result = record { sfits = c.told_stamp-told.type_inv } in
-    let noted : c.told_stamp-told.result ≡ noted_stamp c.stamp-stamp.result c.args.change.now c.make_change-made.new.index.entries = simp to_z-of_z at c.told_stamp-told.ensures.told in
+    let made = simp to_z-of_z at c.in-Ok.ensures.kept.0 in
+    let answer = simp to_z-of_z at c.in-Ok.ensures.kept.1 in
+    let fits_told : FitsSigned w64 c.in-Ok.told = stamp_fits c.in-Ok.told answer.writable in
+    let noted : c.in-Ok.told ≡ noted_stamp c.stamp-stamp.result c.args.change.now c.make_change-made.new.index.entries = answer.is in
     let fits : FitsSigned w64 c.args.moment = c.ranges.moment in
     let after = c.make_change-made.new in
     let before = g.V.Versions.lists c.args.store.now in
@@ -242,7 +245,7 @@ returns-in-Ok-clause-accepted g c =
       sets = ap (λ (s : RepoState). s.holdings.sets) c.move_to.ensures.moved ∙ made.sets;
     } in
     simp to_z-of_z (rw (← c.self.view_is) (record {
-      writable = c.told_stamp-told.ensures.in_range;
+      writable = answer.writable;
       stamped = noted ∙ ap (λ (s : ℤ). noted_stamp s c.args.change.now c.make_change-made.new.index.entries) same_stamp
           ∙ ap (λ (index : ItemIndex). noted_stamp (stamp_at new.config new.clock) c.args.change.now index.entries) (sym c.move_to.ensures.index);
       kept = subst (λ (s : ℤ). KeepsChange inside.config.deleted s c.args.change.now inside.index.entries new.index.entries inside.sets new.sets) same_stamp kept;
