@@ -95,6 +95,7 @@ pub exchanged_nowhere : (repos : List NamedRepo) (lists : VersionLists) (host : 
 exchanged_nowhere repos lists host call answer here nowhere is = record {
   each = subst (λ (rs : List Repository). AreSteps call answer (store_of host) (store_of host) rs rs) (sym here) (none_steps repos lists call answer (store_of host) (store_of host) nowhere);
   none = λ _. (is, refl);
+  unsaved = refl;
   device = subst (λ (a : Answer). CountsFailures Device (failure_in a) host.failures host.failures) (sym is) (record { count = omega arith; device = tt });
   honesty = subst (λ (a : Answer). IsHonest (failure_in a) host.honest host.honest) (sym is) (record { same = refl; damaged = tt });
 }

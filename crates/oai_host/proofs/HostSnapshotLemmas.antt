@@ -5,7 +5,7 @@ use Rattle.std.proofs.lemmas.Bool.{and_parts, cases_Bool, cases_lt, cond-false, 
 use Rattle.std.proofs.lemmas.List.{drop_all, length-drop, length-take, map-append, take-append-le, take_more}
 use Rattle.std.proofs.lemmas.List.Concat.{flat_map-append}
 use Rattle.std.proofs.lemmas.List.Folds.{list_all-map}
-use Rattle.std.specs.Prelude.{nat_le, slice_index_or}
+use Rattle.std.specs.Prelude.{is_none, nat_le, slice_index_or}
 use Rattle.std.proofs.lemmas.Option.{get_or_from_slice_get}
 use Rattle.oai_item.specs.Item.{ItemState}
 use Rattle.oai_item.specs.declared.faults.Fault.{Fault}
@@ -22,21 +22,23 @@ use Rattle.oai_repo.specs.SavedLists.{part_of_difference}
 use Rattle.oai_repo.specs.State.{RepoState}
 use Rattle.oai_repo.proofs.NeighbourLemmas.{held_where, stands_where}
 use Rattle.oai_repo.proofs.NumberLemmas.{clash, kept_same, kept_twice, none_false, same_number, unused_lacks, used_at}
-use Rattle.oai_replay.specs.Parts.{PartState}
+use Rattle.oai_replay.specs.Parts.{PartState, SavesMore}
 use Rattle.oai_snapshots.specs.Batches.{HasHandedOutMore, HoldsSnapshot, LeavesSnapshot, has_nothing_left}
 use Rattle.oai_snapshots.specs.Snapshots.{AreFrozen, HandsOut, IsSnapshot, IsSnapshotTaken, SnapshotFields, SnapshotPlace, differences_left, going, have_whole, items_before, list_parts, numbers_of_snapshot, parts_left, versions_left, versions_of, with_before, without_lists}
 use Rattle.oai_snapshots.specs.declared.versions.SnapshotVersion.{SnapshotVersion}
 use Rattle.oai_snapshots.proofs.SnapshotLemmas.{snapshot_taken, stored_whole}
 use Rattle.oai_snapshots.proofs.TakingLemmas.{without_none}
 use Rattle.oai_host.specs.HostSnapshots.{AreNoneOf, AreSnapshotsTaken, HasGrown, HasItsSets, HasSavedMore, HoldsSnapshots, HasChangedAt, LeavesSnapshots, SavesSome, calls_for, numbers_of_snapshots, parts_left_in, parts_of_each, parts_of_one, repos_left}
-use Rattle.oai_host.specs.Hosts.{Repository}
+use Rattle.oai_host.specs.Hosts.{NamedPart, Repository}
 use Rattle.oai_host.specs.NamedRepos.{AllHeld, AllStand, AreNamedRepos, repositories_of, repository_of}
-use Rattle.oai_host.specs.Saved.{spelled_part}
-use Rattle.oai_host.specs.Saving.{TakesNext}
+use Rattle.oai_host.specs.Saved.{named_part, encoded_part}
+use Rattle.oai_host.specs.Saving.{Takes, TakesNext}
+use Rattle.oai_host.specs.Unsaved.{AreSavedBy}
 use Rattle.oai_host.specs.declared.repositories.NamedRepo.{NamedRepo}
 use Rattle.oai_host.proofs.NamedRepoLemmas.{held_at, stands_at, state_same}
 use Rattle.oai_host.proofs.PlaceLemmas.{nothing_there, same_one}
 use Rattle.oai_host.proofs.RestoreLemmas.{got_there}
+use Rattle.oai_host.proofs.UnsavedLemmas.{named_readable, named_spelled, saved_more, saved_none}
 use Rattle.oai_host.proofs.InUseLemmas.{AreSame, HaveNone, in_first, in_left, in_right, in_use_both, in_use_parts, kept_beside, kept_other, kept_others, kept_released, none_turned, released_both, released_stands, same_at, stands_same, taken_both, whole_both, whole_parts, whole_same}
 
 -- ---- the numbers
@@ -250,9 +252,9 @@ each_where : (repos : List NamedRepo) (snapshots : List SnapshotFields) (before 
 each_where [] snapshots before after same = refl
 each_where (one ∷ repos) [] before after same = refl
 each_where (one ∷ repos) (s ∷ snapshots) before after same =
-    ap (λ (ps : List SavedPartState). map (spelled_part one.name s.clock) ps ++ parts_of_each after repos snapshots)
+    ap (λ (ps : List SavedPartState). map (named_part one.name s.clock) ps ++ parts_of_each after repos snapshots)
     (left_where one.repo.sets s before after (λ n there. same n (in_left (numbers_of_snapshot s) (numbers_of_snapshots snapshots) n there)))
-    ∙ ap (λ (ps : List PartState). parts_of_one before one s ++ ps)
+    ∙ ap (λ (ps : List NamedPart). parts_of_one before one s ++ ps)
     (each_where repos snapshots before after (λ n there. same n (in_right (numbers_of_snapshot s) (numbers_of_snapshots snapshots) n there)))
 
 no_versions : (versions : List SnapshotVersion) → (length versions == 0) ≡ true → versions ≡ []
@@ -308,8 +310,8 @@ others_same honest repos s others before t after held leaves =
     kept_others (numbers_of_snapshot s) (numbers_of_snapshot t) (numbers_of_snapshots others) before after leaves.others parts.second (none_turned (numbers_of_snapshot s) (numbers_of_snapshots others) parts.apart)
 
 pub more_left : (honest : Bool) (repos : List NamedRepo) (s : SnapshotFields) (others : List SnapshotFields) (before : VersionLists) (t : SnapshotFields) (after : VersionLists)
-    → HoldsSnapshots honest repos (s ∷ others) before → LeavesSnapshot honest s before t after → t.sets ≡ s.sets → LeavesSnapshots honest repos (s ∷ others) before (t ∷ others) after
-more_left honest repos s others before t after held leaves sets =
+    → HoldsSnapshots honest repos (s ∷ others) before → LeavesSnapshot honest s before t after → LeavesSnapshots honest repos (s ∷ others) before (t ∷ others) after
+more_left honest repos s others before t after held leaves =
     let xs : List ℕ = numbers_of_snapshot s in
     let ts : List ℕ = numbers_of_snapshot t in
     let zs : List ℕ = numbers_of_snapshots others in
@@ -325,27 +327,27 @@ more_left honest repos s others before t after held leaves sets =
               | inl of_others ↦ in_right xs zs n of_others
               | inr lacks ↦ in_left xs zs n (own_kept honest s before t after leaves n (in_first ts zs n there lacks))
             ]);
-        sets = zip_first HasItsSets (repos_left repos (s ∷ others)) s t others (λ one few. subst (λ (n : ℕ). n ≤ length one.repo.sets) (sym sets) few) held.sets;
+        sets = zip_first HasItsSets (repos_left repos (s ∷ others)) s t others (λ one few. subst (λ (n : ℕ). n ≤ length one.repo.sets) (sym leaves.sets) few) held.sets;
       };
       others = kept_beside xs ts zs before after leaves.others;
     }
 
 pub more_saved : (repos : List NamedRepo) (s : SnapshotFields) (others : List SnapshotFields) (before : VersionLists) (t : SnapshotFields) (after : VersionLists) (first : IsFirstLeft repos others)
     (some : List SavedPartState) → HandsOut first.one.repo.sets before s some t → t.clock ≡ s.clock → AreSame (numbers_of_snapshot t) before after → AreSame (numbers_of_snapshots others) before after
-    → parts_left_in repos before (s ∷ others) ≡ map (spelled_part first.one.name s.clock) some ++ parts_left_in repos after (t ∷ others)
+    → parts_left_in repos before (s ∷ others) ≡ map (named_part first.one.name s.clock) some ++ parts_left_in repos after (t ∷ others)
 more_saved repos s others before t after first some handed clock own same =
     let one : NamedRepo = first.one in
-    let spelled : SavedPartState → PartState = spelled_part one.name s.clock in
-    let rest : List PartState = parts_of_each before (repos_left repos others) others in
+    let named : SavedPartState → NamedPart = named_part one.name s.clock in
+    let rest : List NamedPart = parts_of_each before (repos_left repos others) others in
     let now : List SavedPartState = parts_left one.repo.sets before t in
     ap (λ (rs : List NamedRepo). parts_of_each before rs (s ∷ others)) first.left
-    ∙ ap (λ (ps : List SavedPartState). map spelled ps ++ rest) handed
-    ∙ ap (λ (ps : List PartState). ps ++ rest) (map-append spelled some now)
-    ∙ append_assoc (map spelled some) (map spelled now) rest
-    ∙ ap (λ (ps : List SavedPartState). map spelled some ++ (map spelled ps ++ rest)) (sym (left_where one.repo.sets t before after own))
-    ∙ ap (λ (ps : List PartState). map spelled some ++ (map spelled (parts_left one.repo.sets after t) ++ ps)) (sym (each_where (repos_left repos others) others before after same))
-    ∙ ap (λ (k : ℤ). map spelled some ++ (map (spelled_part one.name k) (parts_left one.repo.sets after t) ++ parts_of_each after (repos_left repos others) others)) (sym clock)
-    ∙ ap (λ (rs : List NamedRepo). map spelled some ++ parts_of_each after rs (t ∷ others)) (sym first.left)
+    ∙ ap (λ (ps : List SavedPartState). map named ps ++ rest) handed
+    ∙ ap (λ (ps : List NamedPart). ps ++ rest) (map-append named some now)
+    ∙ append_assoc (map named some) (map named now) rest
+    ∙ ap (λ (ps : List SavedPartState). map named some ++ (map named ps ++ rest)) (sym (left_where one.repo.sets t before after own))
+    ∙ ap (λ (ps : List NamedPart). map named some ++ (map named (parts_left one.repo.sets after t) ++ ps)) (sym (each_where (repos_left repos others) others before after same))
+    ∙ ap (λ (k : ℤ). map named some ++ (map (named_part one.name k) (parts_left one.repo.sets after t) ++ parts_of_each after (repos_left repos others) others)) (sym clock)
+    ∙ ap (λ (rs : List NamedRepo). map named some ++ parts_of_each after rs (t ∷ others)) (sym first.left)
 
 -- ---- the first one is released
 
@@ -376,7 +378,7 @@ pub released_saved : (honest : Bool) (repos : List NamedRepo) (s : SnapshotField
 released_saved honest repos s others before after first held is none =
     let parts = in_use_parts (numbers_of_snapshot s) (numbers_of_snapshots others) before held.stands in
     ap (λ (rs : List NamedRepo). parts_of_each before rs (s ∷ others)) first.left
-    ∙ ap (λ (ps : List SavedPartState). map (spelled_part first.one.name s.clock) ps ++ parts_of_each before (repos_left repos others) others) none
+    ∙ ap (λ (ps : List SavedPartState). map (named_part first.one.name s.clock) ps ++ parts_of_each before (repos_left repos others) others) none
     ∙ sym (each_where (repos_left repos others) others before after (released_same (numbers_of_snapshot s) (numbers_of_snapshots others) before after parts.apart is))
 
 pub left_twice : (honest : Bool) (repos : List NamedRepo) (old : List SnapshotFields) (before : VersionLists) (mid : List SnapshotFields) (between : VersionLists) (new : List SnapshotFields) (after : VersionLists)
@@ -409,17 +411,17 @@ pub front_holds : (honest : Bool) (repos : List NamedRepo) (items was : List Sna
 front_holds honest repos items was s before front held = first_holds honest repos s front.others before (front_held honest repos items was s before front held)
 
 pub front_left : (honest : Bool) (repos : List NamedRepo) (items was : List SnapshotFields) (s : SnapshotFields) (before : VersionLists) → IsAtFront items was s → HoldsSnapshots honest repos was before
-    → (t : SnapshotFields) (after : VersionLists) → LeavesSnapshot honest s before t after → t.sets ≡ s.sets → LeavesSnapshots honest repos was before (slice_set items 0 t) after
-front_left honest repos items was s before front held t after leaves sets =
+    → (t : SnapshotFields) (after : VersionLists) → LeavesSnapshot honest s before t after → LeavesSnapshots honest repos was before (slice_set items 0 t) after
+front_left honest repos items was s before front held t after leaves =
     subst (λ (new : List SnapshotFields). LeavesSnapshots honest repos was before new after) (sym (front.set t))
     (subst (λ (old : List SnapshotFields). LeavesSnapshots honest repos old before (t ∷ front.others) after) (sym front.split)
-    (more_left honest repos s front.others before t after (front_held honest repos items was s before front held) leaves sets))
+    (more_left honest repos s front.others before t after (front_held honest repos items was s before front held) leaves))
 
 pub front_released : (honest : Bool) (repos : List NamedRepo) (items was : List SnapshotFields) (s : SnapshotFields) (before : VersionLists) (front : IsAtFront items was s) → HoldsSnapshots honest repos was before
-    → (t : SnapshotFields) (between : VersionLists) (new : List SnapshotFields) (after : VersionLists) → LeavesSnapshot honest s before t between → t.sets ≡ s.sets
+    → (t : SnapshotFields) (between : VersionLists) (new : List SnapshotFields) (after : VersionLists) → LeavesSnapshot honest s before t between
     → new ≡ front.others → after ≡ without_lists (numbers_of_snapshot t) between → LeavesSnapshots honest repos was before new after
-front_released honest repos items was s before front held t between new after leaves sets is released =
-    let first = more_left honest repos s front.others before t between (front_held honest repos items was s before front held) leaves sets in
+front_released honest repos items was s before front held t between new after leaves is released =
+    let first = more_left honest repos s front.others before t between (front_held honest repos items was s before front held) leaves in
     subst (λ (xs : List SnapshotFields). LeavesSnapshots honest repos was before xs after) (sym is)
     (subst (λ (old : List SnapshotFields). LeavesSnapshots honest repos old before front.others after) (sym front.split)
     (left_twice honest repos (s ∷ front.others) before (t ∷ front.others) between front.others after first (first_released honest repos t front.others between after first.holds released)))
@@ -449,20 +451,21 @@ record HasHanded {S : Type 0} (has : S → List PartState → Type 0) (repos : L
 
 front_handed : {S : Type 0} (has : S → List PartState → Type 0) (honest : Bool) (repos : List NamedRepo) (items was : List SnapshotFields) (s : SnapshotFields) (before : VersionLists) (front : IsAtFront items was s)
     → HoldsSnapshots honest repos was before → (sink took : S) (one : NamedRepo) (k : ℕ) → k ≡ length repos - length was → one ≡ get_or repos k one → (t : SnapshotFields) (after : VersionLists)
-    → LeavesSnapshot honest s before t after → t.clock ≡ s.clock → TakesNext has one.name s.clock one.repo.sets before s sink t took
+    → LeavesSnapshot honest s before t after → TakesNext has one.name s.clock one.repo.sets before s sink t took
     → HasHanded has repos was before sink (t ∷ front.others) after took front.others s t
-front_handed has honest repos items was s before front held sink took one k at is t after leaves clock next =
+front_handed has honest repos items was s before front held sink took one k at is t after leaves next =
     let own = front_held honest repos items was s before front held in
     let first : IsFirstLeft repos front.others = first_left repos s front.others own.sets in
     let same : one ≡ first.one = front_one repos items was s front first one k at is in
     let passed : TakesNext has first.one.name s.clock first.one.repo.sets before s sink t took = subst (λ (o : NamedRepo). TakesNext has o.name s.clock o.repo.sets before s sink t took) same next in
     record {
       saved = record {
-        some = map (spelled_part first.one.name s.clock) passed.some;
+        some = map (named_part first.one.name s.clock) passed.some;
         handed =
             ap (λ (xs : List SnapshotFields). parts_left_in repos before xs) front.split
-            ∙ more_saved repos s front.others before t after first passed.some passed.handed clock leaves.kept (λ n there. (others_same honest repos s front.others before t after own leaves n there).1);
-        taken = passed.taken;
+            ∙ more_saved repos s front.others before t after first passed.some passed.handed leaves.clock leaves.kept (λ n there. (others_same honest repos s front.others before t after own leaves n there).1);
+        taken = subst (λ (ps : List PartState). Takes has ps sink took) (sym (named_spelled first.one.name s.clock passed.some)) passed.taken.taken;
+        readable = named_readable first.one.name s.clock passed.some passed.taken.readable;
       };
       first = first;
       some = passed.some;
@@ -471,22 +474,22 @@ front_handed has honest repos items was s before front held sink took one k at i
 
 pub front_saved : {S : Type 0} (has : S → List PartState → Type 0) (honest : Bool) (repos : List NamedRepo) (items was : List SnapshotFields) (s : SnapshotFields) (before : VersionLists) (front : IsAtFront items was s)
     → HoldsSnapshots honest repos was before → (sink took : S) (one : NamedRepo) (k : ℕ) → k ≡ length repos - length was → one ≡ get_or repos k one → (t : SnapshotFields) (after : VersionLists)
-    → LeavesSnapshot honest s before t after → t.clock ≡ s.clock → TakesNext has one.name s.clock one.repo.sets before s sink t took
+    → LeavesSnapshot honest s before t after → TakesNext has one.name s.clock one.repo.sets before s sink t took
     → SavesSome has repos was before sink (slice_set items 0 t) after took
-front_saved has honest repos items was s before front held sink took one k at is t after leaves clock next =
+front_saved has honest repos items was s before front held sink took one k at is t after leaves next =
     subst (λ (new : List SnapshotFields). SavesSome has repos was before sink new after took) (sym (front.set t))
-    (front_handed has honest repos items was s before front held sink took one k at is t after leaves clock next).saved
+    (front_handed has honest repos items was s before front held sink took one k at is t after leaves next).saved
 
 -- nothing was left of it, and it is released
 pub front_ended : {S : Type 0} (has : S → List PartState → Type 0) (honest : Bool) (repos : List NamedRepo) (items was : List SnapshotFields) (s : SnapshotFields) (before : VersionLists) (front : IsAtFront items was s)
     → HoldsSnapshots honest repos was before → (sink took : S) (one : NamedRepo) (k : ℕ) → k ≡ length repos - length was → one ≡ get_or repos k one → (t : SnapshotFields) (after : VersionLists)
-    → LeavesSnapshot honest s before t after → t.clock ≡ s.clock → TakesNext has one.name s.clock one.repo.sets before s sink t took
-    → (new : List SnapshotFields) (later : VersionLists) → t.sets ≡ s.sets → has_nothing_left s ≡ true → new ≡ front.others → later ≡ without_lists (numbers_of_snapshot t) after
+    → LeavesSnapshot honest s before t after → TakesNext has one.name s.clock one.repo.sets before s sink t took
+    → (new : List SnapshotFields) (later : VersionLists) → has_nothing_left s ≡ true → new ≡ front.others → later ≡ without_lists (numbers_of_snapshot t) after
     → SavesSome has repos was before sink new later took
-front_ended has honest repos items was s before front held sink took one k at is t after leaves clock next new later sets none new_is released =
+front_ended has honest repos items was s before front held sink took one k at is t after leaves next new later none new_is released =
     let own = front_held honest repos items was s before front held in
-    let left = more_left honest repos s front.others before t after own leaves sets in
-    let passed = front_handed has honest repos items was s before front held sink took one k at is t after leaves clock next in
+    let left = more_left honest repos s front.others before t after own leaves in
+    let passed = front_handed has honest repos items was s before front held sink took one k at is t after leaves next in
     let own_sets : List NamedSet = passed.first.one.repo.sets in
     let nothing : parts_left own_sets after t ≡ [] =
     left_where own_sets t before after leaves.kept
@@ -496,9 +499,10 @@ front_ended has honest repos items was s before front held sink took one k at is
       some = passed.saved.some;
       handed =
           passed.saved.handed
-          ∙ ap (λ (ps : List PartState). passed.saved.some ++ ps) (released_saved honest repos t front.others after later passed.first left.holds released nothing)
+          ∙ ap (λ (ps : List NamedPart). passed.saved.some ++ ps) (released_saved honest repos t front.others after later passed.first left.holds released nothing)
           ∙ ap (λ (xs : List SnapshotFields). passed.saved.some ++ parts_left_in repos later xs) (sym new_is);
       taken = passed.saved.taken;
+      readable = passed.saved.readable;
     }
 
 -- ---- released one after the other
@@ -573,11 +577,11 @@ grown_parts lists [] (y ∷ new) snapshots grown each = absurd grown
 grown_parts lists (x ∷ old) [] snapshots grown each = absurd grown
 grown_parts lists (x ∷ old) (y ∷ new) [] grown each = absurd each
 grown_parts lists (x ∷ old) (y ∷ new) (s ∷ snapshots) grown each =
-    let rest : List PartState = parts_of_each lists new snapshots in
-    ap (λ (name : List ℕ). map (spelled_part name s.clock) (parts_left y.repo.sets lists s) ++ rest) grown.0.name
-    ∙ ap (λ (sets : List NamedSet). map (spelled_part x.name s.clock) (parts_left sets lists s) ++ rest) grown.0.added.sets
-    ∙ ap (λ (ps : List SavedPartState). map (spelled_part x.name s.clock) ps ++ rest) (left_more x.repo.sets grown.0.added.more lists s each.0)
-    ∙ ap (λ (ps : List PartState). parts_of_one lists x s ++ ps) (grown_parts lists old new snapshots grown.1 each.1)
+    let rest : List NamedPart = parts_of_each lists new snapshots in
+    ap (λ (name : List ℕ). map (named_part name s.clock) (parts_left y.repo.sets lists s) ++ rest) grown.0.name
+    ∙ ap (λ (sets : List NamedSet). map (named_part x.name s.clock) (parts_left sets lists s) ++ rest) grown.0.added.sets
+    ∙ ap (λ (ps : List SavedPartState). map (named_part x.name s.clock) ps ++ rest) (left_more x.repo.sets grown.0.added.more lists s each.0)
+    ∙ ap (λ (ps : List NamedPart). parts_of_one lists x s ++ ps) (grown_parts lists old new snapshots grown.1 each.1)
 
 none_at : (repos : List NamedRepo) (i : ℕ) (one : NamedRepo) (numbers : List ℕ) → slice_get repos i ≡ Some one → AreNoneOf numbers repos → HaveNone numbers (numbers_of one.repo)
 none_at [] i one numbers there none = nothing_there one there
@@ -762,3 +766,77 @@ spends_stopped g front own all start now within so_far =
       device = record { count = so_far.device.count; device = λ broken. cc };
       honesty = record { same = so_far.honesty.same; damaged = λ damage. cc };
     }
+
+-- ---- at a host
+
+free_of_none : (repos : List NamedRepo) → AreNoneOf [] repos
+free_of_none [] = tt
+free_of_none (one ∷ repos) = ((λ n there. clash false there refl), free_of_none repos)
+
+-- no snapshot is left
+pub holds_none : (honest : Bool) (repos : List NamedRepo) (lists : VersionLists) → HoldsSnapshots honest repos [] lists
+holds_none honest repos lists = record {
+  stands = record { used = refl; apart = refl };
+  whole = λ _. refl;
+  apart = free_of_none repos;
+  sets = subst (λ (rs : List NamedRepo). AllZip HasItsSets rs []) (sym (drop_all (length repos - 0) repos (omega arith))) tt;
+}
+
+none_of_each : (lists : VersionLists) (repos : List NamedRepo) → parts_of_each lists repos [] ≡ []
+none_of_each lists [] = refl
+none_of_each lists (one ∷ repos) = refl
+
+pub none_left_in : (repos : List NamedRepo) (lists : VersionLists) → parts_left_in repos lists [] ≡ []
+none_left_in repos lists = none_of_each lists (repos_left repos [])
+
+-- all are released
+pub leaves_none : (honest : Bool) (repos : List NamedRepo) (old : List SnapshotFields) (before after : VersionLists) → after ≡ without_lists (numbers_of_snapshots old) before
+    → LeavesSnapshots honest repos old before [] after
+leaves_none honest repos old before after is = record {
+  holds = holds_none honest repos after;
+  others = subst (λ (lists : VersionLists). KeepsOthers (numbers_of_snapshots old) before [] lists) (sym is) (kept_released (numbers_of_snapshots old) before);
+}
+
+-- they are taken
+pub leaves_taken : (honest : Bool) (repos : List NamedRepo) (before : VersionLists) (snapshots : List SnapshotFields) (after : VersionLists) → HoldsSnapshots honest repos snapshots after
+    → AreSnapshotsTaken honest repos before snapshots after → LeavesSnapshots honest repos [] before snapshots after
+leaves_taken honest repos before snapshots after holds taken = record { holds = holds; others = taken.others }
+
+-- and all is left
+pub saved_taken : (honest : Bool) (repos : List NamedRepo) (before : VersionLists) (snapshots : List SnapshotFields) (after : VersionLists) → IsTrue honest → AreInOrder before → AreNamedRepos honest repos before
+    → AreSnapshotsTaken honest repos before snapshots after → AreSavedBy (parts_left_in repos after snapshots) (repositories_of repos before) []
+saved_taken honest repos before snapshots after sure ordered named taken =
+    let long : length repos ≡ length snapshots = zip_long (IsTakenOf before after) repos snapshots taken.each in
+    let all : repos_left repos snapshots ≡ repos = ap (λ (n : ℕ). drop (n - length snapshots) repos) long ∙ ap (λ (n : ℕ). drop n repos) (no_more (length snapshots)) in
+    subst (λ (rs : List NamedRepo). AreSavedBy (parts_of_each after rs snapshots) (repositories_of repos before) []) (sym all)
+    (saved_none repos snapshots before after named.named.distinct (all_taken honest repos before snapshots after ordered (named.held sure) taken))
+
+pub saved_some : {S : Type 0} (has : S → List PartState → Type 0) (repos : List NamedRepo) (old : List SnapshotFields) (before : VersionLists) (sink : S) (new : List SnapshotFields) (after : VersionLists) (took : S)
+    → SavesSome has repos old before sink new after took → SavesMore has (AreSavedBy (parts_left_in repos before old)) sink (AreSavedBy (parts_left_in repos after new)) took
+saved_some has repos old before sink new after took is = record {
+  some = map encoded_part is.some;
+  taken = is.taken;
+  saved = λ repositories parts. saved_more (parts_left_in repos before old) is.some (parts_left_in repos after new) repositories parts is.handed is.readable;
+}
+
+pub none_saved : {S : Type 0} (has : S → List PartState → Type 0) (repos : List NamedRepo) (old : List SnapshotFields) (before : VersionLists) (sink : S) (new : List SnapshotFields) (after : VersionLists) (took : S)
+    → SavesSome has repos old before sink new after took → is_none (slice_get old 0) ≡ true → parts_left_in repos after new ≡ []
+none_saved has repos [] before sink new after took is none = last_none is.some (parts_left_in repos after new) (sym is.handed ∙ none_left_in repos before)
+none_saved has repos (s ∷ old) before sink new after took is none = cc
+
+-- what a call on the snapshots leaves of the repositories
+pub repos_beside : (honest now : Bool) (repos : List NamedRepo) (old new : List SnapshotFields) (before after : VersionLists) → now ≡ honest → HoldsSnapshots honest repos old before
+    → LeavesSnapshots honest repos old before new after → AreNamedRepos honest repos before
+    → AreNamedRepos now repos after × (HoldsSnapshots now repos new after × (repositories_of repos after ≡ repositories_of repos before))
+repos_beside honest now repos old new before after same held leaves named =
+    let kept = repos_kept honest repos old new before after held leaves named in (
+      subst (λ (b : Bool). AreNamedRepos b repos after) (sym same) kept.0,
+      (subst (λ (b : Bool). HoldsSnapshots b repos new after) (sym same) leaves.holds, kept.1),
+    )
+
+pub repos_released : (honest now : Bool) (repos : List NamedRepo) (old new : List SnapshotFields) (before after : VersionLists) → now ≡ honest → HoldsSnapshots honest repos old before
+    → new ≡ [] → after ≡ without_lists (numbers_of_snapshots old) before → AreNamedRepos honest repos before
+    → AreNamedRepos now repos after × (HoldsSnapshots now repos new after × (repositories_of repos after ≡ repositories_of repos before))
+repos_released honest now repos old new before after same held none is named =
+    repos_beside honest now repos old new before after same held
+    (subst (λ (xs : List SnapshotFields). LeavesSnapshots honest repos old before xs after) (sym none) (leaves_none honest repos old before after is)) named

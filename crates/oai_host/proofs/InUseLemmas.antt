@@ -1,5 +1,5 @@
 -- Numbers that are in use, of several holders one after the other: what becomes of the others where one changes.
-use Rattle.std.proofs.Common.{◌≡◌, ◌∙◌, ℕ, Bool, true, false, not, ◌||◌, ◌&&◌, eqb, cond, inl, inr, List, [], ◌∷◌, ◌++◌, Option, None, is_some, unwrap_or, refl, sym, ap, subst}
+use Rattle.std.proofs.Common.{◌≡◌, ◌∙◌, ℕ, Bool, true, false, not, ◌||◌, eqb, cond, inl, inr, List, [], ◌∷◌, ◌++◌, Option, None, is_some, unwrap_or, refl, sym, ap, subst}
 use Rattle.std.specs.List.{list_all}
 use Rattle.std.proofs.lemmas.Bool.{and_from, and_parts, cases_Bool, cond-false, cond-true, eqb-true, not-true, not_from_false, or_from, or_left, or_parts, or_right}
 use Rattle.std.proofs.lemmas.List.Folds.{list_all-append, list_any-append}

@@ -17,5 +17,6 @@ pub mod RestoreLemmas
 pub mod ListLemmas
 pub mod SavingLemmas
 pub mod InUseLemmas
+pub mod UnsavedLemmas
 pub mod HostSnapshotLemmas
 pub mod GrownLemmas

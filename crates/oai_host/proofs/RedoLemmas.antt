@@ -16,9 +16,8 @@ use Rattle.oai_repo.specs.Fields.{Keeps, RepoFields, state_of}
 use Rattle.oai_repo.proofs.PassLemmas.{bare_ticks, ticks}
 use Rattle.oai_args.specs.Pairs.{decoded_pairs}
 use Rattle.oai_args.specs.Requests.{request_of}
-use Rattle.oai_catalogue.specs.Store.{Spends, VersionLists}
+use Rattle.oai_catalogue.specs.Store.{Spends}
 use Rattle.oai_catalogue.specs.declared.versions.Versions.{Ghosts}
-use Rattle.oai_http.specs.declared.targets.Endpoint.{Endpoint}
 use Rattle.oai_http.specs.declared.targets.Endpoint.TheVariants.{Deposits, Requests}
 use Rattle.oai_host.specs.Exchanged.{RedoesIn}
 use Rattle.oai_http.specs.Answers.{failed}
@@ -27,7 +26,6 @@ use Rattle.oai_http.specs.Targets.{leads_to_repository}
 use Rattle.oai_http.specs.declared.exchanges.Answer.{Answer}
 use Rattle.oai_http.specs.declared.exchanges.Call.{Call}
 use Rattle.oai_replay.specs.declared.replays.Performed.{Performed}
-use Rattle.oai_http.specs.declared.statuses.Status.{Status}
 use Rattle.oai_host.specs.Alone.{done_alone, exchanged_alone}
 use Rattle.oai_host.specs.Answers.{IsReply, answer_of, failure, failure_in}
 use Rattle.oai_host.specs.Bodies.{lines_in}

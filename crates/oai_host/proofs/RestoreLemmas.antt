@@ -1,5 +1,5 @@
 -- A part that was read is restored at the repository of its name, and the others stay as they were.
-use Rattle.std.proofs.Common.{◌≡◌, ◌∙◌, ◌<◌, ℕ, suc, zero, arith, Bool, true, false, List, [], ◌∷◌, get_or, length, slice_set, Some, Result, Ok, Err, OnErr, OnOk, IsTrue, refl, sym, ap, ap₂, subst, map}
+use Rattle.std.proofs.Common.{◌≡◌, ◌∙◌, ◌<◌, ℕ, suc, zero, arith, Bool, true, false, List, [], ◌∷◌, get_or, length, slice_set, Some, Result, Ok, Err, IfOk, OnErr, OnOk, IsTrue, refl, sym, ap, ap₂, subst, map}
 use Rattle.std.specs.List.{list_any, slice_get}
 use Rattle.std.specs.Str.{bytes_eq}
 use Rattle.std.proofs.lemmas.Bool.{cond-false, cond-true, or_parts}
@@ -123,3 +123,12 @@ pub got_there : (repos : List NamedRepo) (i : ℕ) (one : NamedRepo) → i < len
 got_there [] i one within is = absurd (omega (arith, within))
 got_there (x ∷ repos) zero one within is = ap Some (sym is)
 got_there (x ∷ repos) (suc i) one within is = got_there repos i one (omega (arith, within)) is
+
+pub on_err : {A E : Type 0} (P Q : Type 0) (result : Result A E) → (P → Q) → OnErr result P → OnErr result Q
+on_err P Q (Ok x) turn is = tt
+on_err P Q (Err fault) turn is = turn is
+
+-- two facts of a value that a result has are a third
+pub if_both : {A E : Type 0} (P Q R : A → Type 0) (result : Result A E) → ((x : A) → P x → Q x → R x) → IfOk result P → IfOk result Q → IfOk result R
+if_both P Q R (Ok x) turn is other = turn x is other
+if_both P Q R (Err fault) turn is other = tt

@@ -1,5 +1,5 @@
 -- The paths that the route of a repository matches.
-use Rattle.std.proofs.Common.{◌≡◌, ◌∙◌, ◌<◌, ℕ, zero, suc, ◌+◌, ◌-◌, Bool, true, false, ◌&&◌, ◌==◌, nat_lt, List, [], ◌∷◌, ◌++◌, Option, None, Some, length, take, drop, cond, refl, sym, ap, subst, arith, tests, ◌≤◌, codes, lit<, is_some, unwrap_or, le_refl, leb, Bor}
+use Rattle.std.proofs.Common.{◌≡◌, ◌∙◌, ◌<◌, ℕ, zero, suc, ◌-◌, Bool, true, false, ◌&&◌, ◌==◌, nat_lt, List, [], ◌∷◌, ◌++◌, Option, None, Some, length, take, drop, cond, refl, sym, ap, subst, arith, tests, codes, lit<, is_some, unwrap_or, le_refl, leb, Bor}
 use Rattle.std.specs.List.{list_all}
 use Rattle.std.specs.Option.{IfNone}
 use Rattle.std.specs.Prelude.{IfSome, MatchOption}

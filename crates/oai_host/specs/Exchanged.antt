@@ -1,9 +1,11 @@
 -- How a front passes its messages to a host, and what that does to what the host stores. This repository's own.
 use Rattle.std.specs.Prelude.{◌≡◌, ◌++◌, ℕ, ℤ, List, Result, OnErr, OnOk}
-use Rattle.oai_catalogue.specs.Store.{Spends}
+use Rattle.oai_catalogue.specs.Store.{IsHonest, Spends}
 use Rattle.oai_catalogue.specs.declared.versions.Versions.{Ghosts}
 use Rattle.oai_deposit.specs.declared.changes.Change.{Change}
+use Rattle.oai_device.specs.Device.{CountsFailures}
 use Rattle.oai_item.specs.declared.faults.Fault.{Fault}
+use Rattle.oai_item.specs.declared.faults.Fault.TheVariants as fault
 use Rattle.oai_item.specs.declared.refusals.LineRefusal.{LineRefusal}
 use Rattle.oai_repo.specs.Fields.{Keeps, RepoFields, state_of}
 use Rattle.oai_http.specs.Exchanges.{Asked, call_at}
@@ -23,6 +25,11 @@ IsHandled before moment asked answer after = IsExchanged (call_at moment asked) 
 -- the state of a store that clauses speak of
 abbrev pub store_state : {V : Type 0} → Ghosts V → V → StoreState
 store_state g store = record { honest = g.honest store; failures = g.failures store; room = g.room store }
+
+-- what an exchange leaves of a store beside its lists: a fault of the device is counted, and the store is as honest
+pub record CountsFaults {V : Type 0} (g : Ghosts V) (answer : Answer) (before after : V) : Type 0 where
+  pub device : CountsFailures fault.Device (failure_in answer) (g.failures before) (g.failures after)
+  pub honesty : IsHonest (failure_in answer) (g.honest before) (g.honest after)
 
 -- a repository in a store performs what is asked, and keeps its invariants
 pub record PerformsIn {V : Type 0} (g : Ghosts V) (moment : ℤ) (task : Task) (answer : Answer) (old : RepoFields) (before : V) (new : RepoFields) (after : V) : Type 0 where

@@ -9,8 +9,9 @@ use Rattle.oai_repo.specs.Fields.{AreInUse, KeepsOthers, has, numbers_of}
 use Rattle.oai_replay.specs.Parts.{PartState}
 use Rattle.oai_snapshots.specs.Batches.{HasHandedOutMore}
 use Rattle.oai_snapshots.specs.Snapshots.{IsSnapshotTaken, SnapshotFields, have_whole, numbers_of_snapshot, parts_left}
-use Rattle.oai_host.specs.Saved.{spelled_part}
-use Rattle.oai_host.specs.Saving.{Takes}
+use Rattle.oai_host.specs.Hosts.{NamedPart}
+use Rattle.oai_host.specs.Saved.{named_part, encoded_part}
+use Rattle.oai_host.specs.Saving.{CanBeRead, Takes}
 use Rattle.oai_host.specs.declared.repositories.NamedRepo.{NamedRepo}
 
 -- ---- whose snapshots they are
@@ -60,24 +61,25 @@ pub record AreSnapshotsTaken (honest : Bool) (repos : List NamedRepo) (before : 
 
 -- ---- what is left to save
 
--- the parts that are left of a repository, encoded with its name and the clock that it had when the snapshot was taken
-abbrev pub parts_of_one : VersionLists → NamedRepo → SnapshotFields → List PartState
-parts_of_one lists one snapshot = map (spelled_part one.name snapshot.clock) (parts_left one.repo.sets lists snapshot)
+-- the parts that are left of a repository, with its name and the clock that it had when the snapshot was taken
+abbrev pub parts_of_one : VersionLists → NamedRepo → SnapshotFields → List NamedPart
+parts_of_one lists one snapshot = map (named_part one.name snapshot.clock) (parts_left one.repo.sets lists snapshot)
 
-abbrev pub parts_of_each : VersionLists → List NamedRepo → List SnapshotFields → List PartState
+abbrev pub parts_of_each : VersionLists → List NamedRepo → List SnapshotFields → List NamedPart
 parts_of_each lists [] snapshots = []
 parts_of_each lists (one ∷ repos) [] = []
 parts_of_each lists (one ∷ repos) (snapshot ∷ snapshots) = parts_of_one lists one snapshot ++ parts_of_each lists repos snapshots
 
 -- the parts that are left of all, in the order of the repositories
-abbrev pub parts_left_in : List NamedRepo → VersionLists → List SnapshotFields → List PartState
+abbrev pub parts_left_in : List NamedRepo → VersionLists → List SnapshotFields → List NamedPart
 parts_left_in repos lists snapshots = parts_of_each lists (repos_left repos snapshots) snapshots
 
--- a sink took some of the parts that were left, and the others are left
+-- a sink took some of the parts that were left, and the others are left; those that it took can be decoded again
 pub record SavesSome {S : Type 0} (has : S → List PartState → Type 0) (repos : List NamedRepo) (old : List SnapshotFields) (before : VersionLists) (sink : S) (new : List SnapshotFields) (after : VersionLists) (took : S) : Type 0 where
-  pub some : List PartState
+  pub some : List NamedPart
   pub handed : parts_left_in repos before old ≡ some ++ parts_left_in repos after new
-  pub taken : Takes has some sink took
+  pub taken : Takes has (map encoded_part some) sink took
+  pub readable : AllByRecursion (λ (one : NamedPart). CanBeRead one.part) some
 
 -- the first snapshot is released, or more of it was handed out
 abbrev pub HasSavedMore : List SnapshotFields → List SnapshotFields → Type 0

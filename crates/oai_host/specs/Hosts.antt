@@ -1,10 +1,11 @@
 -- Many repositories, and what exchanges with their host do to each. This repository's own.
-use Rattle.std.specs.Prelude.{◌≡◌, ◌≤◌, ℕ, Bool, true, false, not, is_none, if◌then◌else◌, List, [], ◌∷◌}
+use Rattle.std.specs.Prelude.{◌≡◌, ◌≤◌, ℕ, ℤ, Bool, true, false, not, is_none, if◌then◌else◌, List, [], ◌∷◌}
 use Rattle.std.specs.List.{AllByRecursion, AllZip, list_all}
 use Rattle.oai_catalogue.specs.Store.{IsHonest}
 use Rattle.oai_device.specs.Device.{CountsFailures}
 use Rattle.oai_item.specs.declared.faults.Fault.TheVariants.{Device}
 use Rattle.oai_settings.specs.Config.{RepositoryConfig}
+use Rattle.oai_repo.specs.Saved.{SavedPartState}
 use Rattle.oai_repo.specs.State.{RepoState, empty_state}
 use Rattle.oai_http.specs.Answers.{answered}
 use Rattle.oai_config.specs.Configs.{NamedConfig}
@@ -27,13 +28,20 @@ pub record Repository : Type 0 where
 abbrev pub begun : NamedConfig → Repository
 begun entry = record { name = entry.name; config = entry.config; state = empty_state entry.config }
 
+-- a part of the repository of that name, whose clock is this
+pub record NamedPart : Type 0 where
+  pub name : List ℕ
+  pub clock : ℤ
+  pub part : SavedPartState
+
 -- a host: its repositories, whether the device of its store returns what was written to it, how often that has failed,
--- and how many calls of the store are sure to find room
+-- how many calls of the store are sure to find room, and what is left to save of the checkpoint that is written
 pub record HostState : Type 0 where
   pub repositories : List Repository
   pub honest : Bool
   pub failures : ℕ
   pub room : ℕ
+  pub unsaved : List NamedPart
 
 -- the state of its store
 abbrev pub store_of : HostState → StoreState
@@ -63,10 +71,11 @@ abbrev pub refused : Call → Answer
 refused call = answered (if is_rooted call.target then status.NotFound else status.BadRequest)
 
 -- an exchange with the host: it is a step of each repository; one that is no repository's is refused, and leaves the
--- host unchanged; and a fault has its cause
+-- host unchanged; what is left to save stays; and a fault has its cause
 pub record IsExchanged (call : Call) (answer : Answer) (before after : HostState) : Type 0 where
   pub each : AreSteps call answer (store_of before) (store_of after) before.repositories after.repositories
   pub none : is_of_none before.repositories call ≡ true → (answer ≡ refused call) × (after ≡ before)
+  pub unsaved : after.unsaved ≡ before.unsaved
   pub device : CountsFailures Device (failure_in answer) before.failures after.failures
   pub honesty : IsHonest (failure_in answer) before.honest after.honest
 

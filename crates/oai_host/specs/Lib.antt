@@ -16,5 +16,6 @@ pub mod Places
 pub mod Saved
 pub mod Emptied
 pub mod Saving
+pub mod Unsaved
 pub mod HostSnapshots
 pub mod ListReadings

@@ -23,7 +23,7 @@ use Rattle.oai_host.specs.Alone.{done_alone, exchanged_alone}
 use Rattle.oai_host.specs.Answers.{failure_in}
 use Rattle.oai_host.specs.Bodies.{lines_in}
 use Rattle.oai_host.specs.Hosts.{AreSteps, HostState, IsExchanged, Repository, refused}
-use Rattle.oai_host.specs.Performed.{IsPerformed, StoreState}
+use Rattle.oai_host.specs.Performed.{StoreState}
 use Rattle.oai_host.specs.Tasks.{Task, asking, depositing}
 
 -- ---- the state after a call, and its answer

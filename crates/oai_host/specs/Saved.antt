@@ -18,7 +18,7 @@ use Rattle.oai_repo.specs.State.{RepoState, empty_state}
 use Rattle.oai_replay.specs.Parts.{PartState}
 use Rattle.oai_replay.specs.declared.parts.PartKind.{PartKind}
 use Rattle.oai_replay.specs.declared.parts.PartKind.TheVariants.{Begin, Gone, Item, Set, List as OpenList}
-use Rattle.oai_host.specs.Hosts.{Repository}
+use Rattle.oai_host.specs.Hosts.{NamedPart, Repository}
 
 -- ---- an open list
 
@@ -109,6 +109,13 @@ part_bytes_of (has_list list) = list_bytes list
 -- a part of a repository of that name and clock
 abbrev pub spelled_part : List ℕ → ℤ → SavedPartState → PartState
 spelled_part name clock part = record { kind = part_kind_of part; moment = part_moment_of clock part; name = name; bytes = part_bytes_of part }
+
+-- the part of a repository, with its name and clock
+abbrev pub named_part : List ℕ → ℤ → SavedPartState → NamedPart
+named_part name clock part = record { name = name; clock = clock; part = part }
+
+abbrev pub encoded_part : NamedPart → PartState
+encoded_part one = spelled_part one.name one.clock one.part
 
 abbrev pub is_space_character : ℕ → Bool
 is_space_character b = b == 32

@@ -66,8 +66,8 @@ pub record TakesAll {S : Type 0} (has : S → List PartState → Type 0) (raise 
   pub readable : AllByRecursion (λ (repository : Repository). AllByRecursion CanBeRead (parts_of (ended raise repository.state))) repositories
 
 -- some parts of a snapshot of a repository with that name and these sets were handed out, and a sink took them, each that
--- has no moment of its own with that clock
+-- has no moment of its own with that clock; these can be decoded again
 pub record TakesNext {S : Type 0} (has : S → List PartState → Type 0) (name : List ℕ) (clock : ℤ) (sets : List NamedSet) (lists : VersionLists) (old : SnapshotFields) (before : S) (new : SnapshotFields) (after : S) : Type 0 where
   pub some : List SavedPartState
   pub handed : HandsOut sets lists old some new
-  pub taken : Takes has (map (spelled_part name clock) some) before after
+  pub taken : TakesParts has name clock some before after

@@ -1,22 +1,25 @@
 //! A host of repositories.
 ghost use Rattle.oai_host.specs.Faults.{HasCause};
+ghost use Rattle.oai_host.specs.HostSnapshots.{HoldsSnapshots};
 ghost use Rattle.oai_host.specs.Hosts.{AreAloneUnlessFailed, AreAnswered, AreExchanged, IsExchanged, begun};
 ghost use Rattle.oai_host.specs.NamedRepos.{AreNamedRepos, StandFor, repo_names};
 ghost use Rattle.oai_host.specs.Places.{IsRepoPlace, LeadsNowhere};
-ghost use Rattle.oai_host.specs.Props.{named_repo_props};
+ghost use Rattle.oai_host.specs.Props.{named_repo_props, snapshot_props};
 ghost use Rattle.oai_host.specs.Redone.{IsPerformedAt, IsRecorded, IsRedone};
 ghost use Rattle.oai_host.specs.Saved.{emptied_in, ended_in, parts_in, restored_in};
 ghost use Rattle.oai_host.specs.Saving.{Takes};
+ghost use Rattle.oai_host.specs.Unsaved.{AreSavedBy};
 ghost use Rattle.oai_http.specs.Exchanges.{call_of};
-ghost use Rattle.oai_replay.specs.Parts.{as_part, restored_all};
+ghost use Rattle.oai_replay.specs.Parts.{SavesMore, as_part, restored_all};
 ghost use Rattle.oai_http.specs.Targets as spec;
 ghost use Rattle.oai_http.specs.declared.statuses.Status.TheVariants as status;
 ghost use Rattle.oai_item.specs.declared.faults.Fault.TheVariants.{TooManyPages};
 ghost use Rattle.oai_settings.specs.Config.{is_repository_name};
 ghost use Rattle.std.specs.List.{list_all};
 ghost use Rattle.std.specs.Option.{IfNone, option_copied};
-ghost use Rattle.std.specs.Prelude.{IfErr, IfOk, IfSome, IsTrue, OnErr, OnOk, if◌then◌else◌, length, map, true, ◌++◌, ◌+◌, ◌<◌, ◌≡◌, ◌≤◌};
+ghost use Rattle.std.specs.Prelude.{IfErr, IfOk, IfSome, IsTrue, OnErr, OnOk, [], false, if◌then◌else◌, length, map, true, ◌++◌, ◌+◌, ◌<◌, ◌≡◌, ◌≤◌};
 
+use crate::host_snapshots::HostSnapshots;
 use crate::records::Recorded;
 use crate::repositories::Repositories;
 use crate::routes::Routes;
@@ -41,10 +44,14 @@ pub struct Host<V: Versions + Drop> {
     routes: Routes,
     repositories: Repositories,
     store: V,
+    /// What is left to save of the checkpoint that is written: of the repositories as they were when it was begun.
+    snapshots: HostSnapshots,
     ghost repos: { AreNamedRepos (V.honest store) repositories (V.lists store) } by { Prim.hlevel named_repo_props },
+    ghost left: { HoldsSnapshots (V.honest store) repositories snapshots (V.lists store) } by { Prim.hlevel snapshot_props },
 }
 
 impl<V: Versions + Drop> Model for Host<V> {
+    ghost use Rattle.oai_host.specs.HostSnapshots.{parts_left_in};
     ghost use Rattle.oai_host.specs.Hosts.{HostState};
     ghost use Rattle.oai_host.specs.NamedRepos.{repositories_of};
 
@@ -55,6 +62,7 @@ impl<V: Versions + Drop> Model for Host<V> {
       honest = V.honest h.store;
       failures = V.failures h.store;
       room = V.room h.store;
+      unsaved = parts_left_in h.repositories (V.lists h.store) h.snapshots;
     } };
 }
 
@@ -81,6 +89,7 @@ impl<V: Versions + Drop> Host<V> {
             routes,
             repositories,
             store,
+            snapshots: HostSnapshots::none(alloc),
         })
     }
 
@@ -136,15 +145,17 @@ impl<V: Versions + Drop> Host<V> {
         }
     }
 
-    /// Restores a part, after those that were restored before. Any fault may come, and `Damaged` if no repository has
-    /// the part's name, its bytes encode nothing, or it violates the repository's invariants. After a fault all
-    /// repositories are unchanged.
+    /// Restores a part, after those that were restored before; a checkpoint that is written is given up. Any fault may
+    /// come, and `Damaged` if no repository has the part's name, its bytes encode nothing, or it violates the repository's
+    /// invariants. After a fault all repositories are unchanged.
     pub fn restore(&mut self, part: &Part<'_>) -> Result<(), Fault>
         ensures restored { OnOk result (IsTrue self.old.honest
             → self.new.repositories ≡ restored_in self.old.repositories (as_part part.now)) }
         ensures err { OnErr result (self.new.repositories ≡ self.old.repositories) }
         ensures honesty { self.new.honest ≡ self.old.honest }
+        ensures unsaved { self.new.unsaved ≡ [] }
     {
+        self.snapshots.release(&mut self.store);
         match self.repositories.place_named(part.name) {
             Some(place) => self.repositories.restore(&mut self.store, place, part),
             None => Err(Fault::Damaged),
@@ -165,6 +176,50 @@ impl<V: Versions + Drop> Host<V> {
         ensures honesty { self.new.honest ≡ self.old.honest }
     {
         self.repositories.save(&mut self.store, raise, sink)
+    }
+
+    /// Begins a checkpoint: what `save_next` passes from here on are the parts of the repositories as they are now, with
+    /// their open lists. One that was begun before is given up. It freezes versions of the store, and reads no item. Any
+    /// fault may come; then no checkpoint is begun.
+    pub fn begin_saving(&mut self) -> Result<(), Fault>
+        ensures begun { OnOk result (IsTrue self.old.honest → AreSavedBy self.new.unsaved self.old.repositories []) }
+        ensures err { OnErr result (self.new.unsaved ≡ []) }
+        ensures same { self.new.repositories ≡ self.old.repositories }
+        ensures honesty { self.new.honest ≡ self.old.honest }
+    {
+        self.stop_saving();
+        let repos = self.repositories.as_slice();
+        match HostSnapshots::take(self.alloc, repos, &mut self.store) {
+            Ok(snapshots) => {
+                self.snapshots = snapshots;
+                Ok(())
+            }
+            Err(fault) => Err(fault),
+        }
+    }
+
+    /// Passes the next parts of the checkpoint to the sink, and returns whether there were any; if not, all are saved, or
+    /// no checkpoint is written. The repositories are unchanged, also after an error. The errors: `Reading` if the store
+    /// fails or memory runs out, `Sink` if the sink takes no more; after that the checkpoint can only be given up.
+    pub fn save_next<S: Sink>(&mut self, sink: &mut S) -> Result<bool, SaveFault>
+        ensures saved { IfOk result (λ more. IsTrue self.old.honest
+            → SavesMore S.has (AreSavedBy self.old.unsaved) sink.old (AreSavedBy self.new.unsaved) sink.new) }
+        ensures all { IfOk result (λ more. more ≡ false → IsTrue self.old.honest → self.new.unsaved ≡ []) }
+        ensures same { self.new.repositories ≡ self.old.repositories }
+        ensures honesty { self.new.honest ≡ self.old.honest }
+    {
+        let repos = self.repositories.as_slice();
+        self.snapshots
+            .save_next(self.alloc, repos, &mut self.store, sink)
+    }
+
+    /// Gives up the checkpoint that is written, if one is. It allocates nothing and cannot fail.
+    pub fn stop_saving(&mut self)
+        ensures unsaved { self.new.unsaved ≡ [] }
+        ensures same { self.new.repositories ≡ self.old.repositories }
+        ensures honesty { self.new.honest ≡ self.old.honest }
+    {
+        self.snapshots.release(&mut self.store);
     }
 
     /// The store. Its lists are the host's repositories, and its honesty, its failures and its room are those of the
@@ -269,12 +324,15 @@ impl<V: Versions + Drop> Replayed for Host<V> {
     ghost use Rattle.oai_host.specs.Emptied.{emptied_redone, emptied_restored};
     ghost use Rattle.oai_host.specs.Redone.{redone_repositories, reply_all};
     ghost use Rattle.oai_host.specs.Saved.{emptied_in, ended_in, parts_in, restored_in};
+    ghost use Rattle.oai_host.specs.Unsaved.{AreSavedBy};
 
     ghost Kept = { List Repository };
 
     ghost kept = { λ host. host.repositories };
 
     ghost is_honest = { λ host. host.honest };
+
+    ghost saves = { λ host. AreSavedBy host.unsaved };
 
     ghost redone = { redone_repositories };
 
@@ -306,6 +364,18 @@ impl<V: Versions + Drop> Replayed for Host<V> {
 
     fn save<S: Sink>(&mut self, raise: u32, sink: &mut S) -> Result<(), SaveFault> {
         self.save(raise, sink)
+    }
+
+    fn begin_saving(&mut self) -> Result<(), Fault> {
+        self.begin_saving()
+    }
+
+    fn save_next<S: Sink>(&mut self, sink: &mut S) -> Result<bool, SaveFault> {
+        self.save_next(sink)
+    }
+
+    fn stop_saving(&mut self) {
+        self.stop_saving();
     }
 }
 

@@ -1,5 +1,4 @@
-//! Snapshots of all repositories of a host, taken at one moment and saved batch by batch while the host serves. No call
-//! of `Host` does so yet.
+//! Snapshots of all repositories of a host, taken at one moment and saved batch by batch while the host serves.
 ghost use Rattle.std.specs.Prelude.{◌≡◌, ◌+◌, ◌++◌, ◌∷◌, ◌≤◌, [], IfOk, IsTrue, List, OnErr, OnOk, is_none, not, slice_get, true};
 ghost use Rattle.std.specs.VecDeque.{deque_capacity, deque_len};
 ghost use Rattle.oai_catalogue.specs.Store.{Spares, Spends};
@@ -37,6 +36,15 @@ impl Model for HostSnapshots {
 }
 
 impl HostSnapshots {
+    /// No snapshot. Allocates nothing.
+    pub(crate) fn none(alloc: Global) -> HostSnapshots
+        ensures { result ≡ [] }
+    {
+        HostSnapshots {
+            left: VecDeque::new(alloc),
+        }
+    }
+
     /// A snapshot of each of the repositories: it freezes versions of the store, and reads no item. Any fault may come;
     /// `TooManyPages` only if the store may lack room for a call for each repository and each open list. After a fault
     /// the lists of the store are unchanged.
@@ -58,7 +66,7 @@ impl HostSnapshots {
         match take_each(alloc, repos, store, &mut left) {
             Ok(()) => Ok(HostSnapshots { left }),
             Err(fault) => {
-                release_each(store, left);
+                release_each(store, &mut left);
                 Err(fault)
             }
         }
@@ -111,12 +119,13 @@ impl HostSnapshots {
     }
 
     /// Releases all that are left. It allocates nothing and cannot fail.
-    pub(crate) fn release<V: Versions>(self, store: &mut V)
-        requires { AreInUse (numbers_of_snapshots self) (V.lists store.old) }
-        ensures released { V.lists store.new ≡ without_lists (numbers_of_snapshots self) (V.lists store.old) }
+    pub(crate) fn release<V: Versions>(&mut self, store: &mut V)
+        requires { AreInUse (numbers_of_snapshots self.old) (V.lists store.old) }
+        ensures none { self.new ≡ [] }
+        ensures released { V.lists store.new ≡ without_lists (numbers_of_snapshots self.old) (V.lists store.old) }
         ensures store { Spares V.room V.failures V.honest store.old store.new }
     {
-        release_each(store, self.left);
+        release_each(store, &mut self.left);
     }
 }
 
@@ -153,12 +162,12 @@ fn append(snapshot: Snapshot, snapshots: &mut VecDeque<Snapshot>)
 }
 
 /// Releases each of the snapshots. It allocates nothing and cannot fail.
-fn release_each<V: Versions>(store: &mut V, snapshots: VecDeque<Snapshot>)
-    requires { AreInUse (numbers_of_snapshots snapshots.items) (V.lists store.old) }
-    ensures released { V.lists store.new ≡ without_lists (numbers_of_snapshots snapshots.items) (V.lists store.old) }
+fn release_each<V: Versions>(store: &mut V, left: &mut VecDeque<Snapshot>)
+    requires { AreInUse (numbers_of_snapshots left.old.items) (V.lists store.old) }
+    ensures none { left.new.items ≡ [] }
+    ensures released { V.lists store.new ≡ without_lists (numbers_of_snapshots left.old.items) (V.lists store.old) }
     ensures store { Spares V.room V.failures V.honest store.old store.new }
 {
-    let mut left = snapshots;
     'snapshots: while let Some(snapshot) = left.pop_front() {
         snapshot.release(store);
     }
@@ -179,8 +188,6 @@ fn save_one<V: Versions, S: Sink>(
     ensures further { IfOk result (λ more. more ≡ true → IsTrue (V.honest store.old)
         → HasHandedOutMore snapshot.old snapshot.new) }
     ensures end { IfOk result (λ more. not more ≡ has_nothing_left snapshot.old) }
-    ensures clock { snapshot.new.clock ≡ snapshot.old.clock }
-    ensures sets { snapshot.new.sets ≡ snapshot.old.sets }
     ensures leaves { LeavesSnapshot (V.honest store.old) snapshot.old (V.lists store.old) snapshot.new
         (V.lists store.new) }
     ensures honesty { V.honest store.new ≡ V.honest store.old }

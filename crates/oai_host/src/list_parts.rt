@@ -2,7 +2,8 @@
 ghost use Rattle.oai_args.specs.Verbs.{is_of_records};
 ghost use Rattle.oai_host.specs.ListReadings.{CanBeWords, IsListReading, IsPieceReading, IsPrefix, IsGivenSet, IsSetSpec, list_of_words};
 ghost use Rattle.oai_host.specs.Saved as spec;
-ghost use Rattle.oai_host.specs.Saving.{CanBeFilter};
+ghost use Rattle.oai_host.specs.Saving.{CanBeFilter, CanBeList};
+ghost use Rattle.oai_names.specs.Sets.{may_be_set_spec};
 ghost use Rattle.oai_repo.specs.Saved.{list_state};
 ghost use Rattle.std.specs.Fmt.{signed_decimal};
 ghost use Rattle.std.specs.Option.{option_map};
@@ -82,7 +83,8 @@ struct ListWords<'a> {
 /// out of memory.
 #[tactic(auto, unfolding(crate::specs::Saved::spaced))]
 pub(crate) fn spelled_list(alloc: Global, list: &SavedList<'_>) -> Result<Sequence<u8>, AllocError>
-    ensures { IfOk result (λ bytes. bytes ≡ spec.list_bytes (list_state list.now)) }
+    ensures bytes { IfOk result (λ bytes. bytes ≡ spec.list_bytes (list_state list.now)) }
+    ensures list { OnOk result (is_of_records list.now.verb ≡ true → CanBeList (list_state list.now)) }
 {
     let mut digits = Buffer::new();
     let mut out = Vec::from_slice(alloc, digits.format(list.number).as_bytes())?;
@@ -95,9 +97,10 @@ pub(crate) fn spelled_list(alloc: Global, list: &SavedList<'_>) -> Result<Sequen
 
 /// Appends the words of a filter.
 fn put_filter(filter: &Filter, out: &mut Vec<u8>) -> Result<(), AllocError>
-    ensures { OnOk result (out.new.items ≡ out.old.items ++ spec.spaced filter.now.prefix
+    ensures bytes { OnOk result (out.new.items ≡ out.old.items ++ spec.spaced filter.now.prefix
         ++ spec.spaced (signed_decimal filter.now.lower) ++ spec.spaced (signed_decimal filter.now.upper)
         ++ spec.spaced_set filter.now.set) }
+    ensures filter { OnOk result (CanBeFilter filter.now) }
 {
     let mut digits = Buffer::new();
     put_word(filter.prefix.as_str().as_bytes(), out)?;
@@ -108,7 +111,8 @@ fn put_filter(filter: &Filter, out: &mut Vec<u8>) -> Result<(), AllocError>
 
 /// Appends a space and the setSpec, if there is one.
 fn put_set(set: &Option<SetSpec>, out: &mut Vec<u8>) -> Result<(), AllocError>
-    ensures { OnOk result (out.new.items ≡ out.old.items ++ spec.spaced_set set.now) }
+    ensures bytes { OnOk result (out.new.items ≡ out.old.items ++ spec.spaced_set set.now) }
+    ensures set { IfSome set.now (λ set. may_be_set_spec set ≡ true) }
 {
     match set {
         Some(set) => put_word(set.as_str().as_bytes(), out),

@@ -1,9 +1,6 @@
 //! The repositories of a host.
-ghost use Rattle.oai_catalogue.specs.Store.{IsHonest, Spends};
-ghost use Rattle.oai_device.specs.Device.{CountsFailures};
-ghost use Rattle.oai_item.specs.declared.faults.Fault.TheVariants as fault;
-ghost use Rattle.oai_host.specs.Answers.{failure_in};
-ghost use Rattle.oai_host.specs.Exchanged.{store_state};
+ghost use Rattle.oai_catalogue.specs.Store.{Spends};
+ghost use Rattle.oai_host.specs.Exchanged.{CountsFaults, store_state};
 ghost use Rattle.oai_host.specs.HostSnapshots.{HasChangedAt};
 ghost use Rattle.oai_host.specs.Hosts.{AreSteps, begun};
 ghost use Rattle.oai_host.specs.NamedRepos.{AreNamedRepos, place_in, repo_names, repositories_of};
@@ -81,6 +78,13 @@ impl Repositories {
         }
     }
 
+    /// All of them, in their order.
+    pub(crate) fn as_slice(&self) -> &[NamedRepo]
+        ensures { result.now ≡ self.now }
+    {
+        &self.repos
+    }
+
     /// The position of the repository with that name, if there is one.
     pub(crate) fn place_of(&self, name: &str) -> Option<usize>
         ensures { result ≡ place_in (repo_names self.now) name.now }
@@ -155,8 +159,7 @@ impl Repositories {
         ensures size { IsNoLonger exchange.now (option_copied result.bytes) }
         ensures changed { HasChangedAt place self.old (V.lists store.old) self.new (V.lists store.new) }
         ensures repos { AreNamedRepos (V.honest store.new) self.new (V.lists store.new) }
-        ensures device { CountsFailures fault.Device (failure_in result.answer) (V.failures store.old) (V.failures store.new) }
-        ensures honesty { IsHonest (failure_in result.answer) (V.honest store.old) (V.honest store.new) }
+        ensures faults { CountsFaults V.Versions result.answer store.old store.new }
     {
         let repo = &mut self.repos[place].repo;
         perform_exchange(self.alloc, repo, store, moment, endpoint, exchange)

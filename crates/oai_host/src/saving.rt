@@ -1,6 +1,6 @@
 //! A repository that is saved while it serves: the batches of a snapshot of it, passed to a sink.
-ghost use Rattle.oai_host.specs.Saved.{spelled_part};
-ghost use Rattle.oai_host.specs.Saving.{Takes, TakesNext, TakesParts};
+ghost use Rattle.oai_args.specs.Verbs.{is_of_records};
+ghost use Rattle.oai_host.specs.Saving.{TakesNext, TakesParts};
 ghost use Rattle.oai_item.specs.Item.{ItemState};
 ghost use Rattle.oai_repo.specs.Saved.{has_gone, has_item, has_list, has_named_set};
 ghost use Rattle.oai_snapshots.specs.Batches.{HasHandedOutMore, HoldsSnapshot, LeavesSnapshot, has_nothing_left, parts_of_batch};
@@ -12,7 +12,7 @@ use crate::list_parts::spelled_list;
 use crate::saves::{put, save_piece, save_set, save_start};
 use oai_catalogue::Versions;
 use oai_item::{Fault, Item};
-use oai_names::{SetSpec, SetTree, Text};
+use oai_names::{ListVerb, SetSpec, SetTree, Text};
 use oai_replay::{Part, PartKind, SaveFault, Sink};
 use oai_repo::SavedList;
 use oai_snapshots::{Batch, Snapshot, SnapshotList};
@@ -47,8 +47,6 @@ pub(crate) fn save_next<V: Versions, S: Sink>(
     ensures further { IfOk result (λ more. more ≡ true → IsTrue (V.honest store.old)
         → HasHandedOutMore snapshot.old snapshot.new) }
     ensures end { IfOk result (λ more. not more ≡ has_nothing_left snapshot.old) }
-    ensures clock { snapshot.new.clock ≡ snapshot.old.clock }
-    ensures sets { snapshot.new.sets ≡ snapshot.old.sets }
     ensures leaves { LeavesSnapshot (V.honest store.old) snapshot.old (V.lists store.old) snapshot.new
         (V.lists store.new) }
     ensures honesty { V.honest store.new ≡ V.honest store.old }
@@ -73,8 +71,8 @@ fn save_batch<S: Sink>(
     batch: &Batch,
     sink: &mut S,
 ) -> Result<(), SaveFault>
-    ensures { OnOk result (Takes S.has (map (spelled_part repo.now.name.now repo.now.clock)
-        (parts_of_batch repo.now.sets.now batch.now)) sink.old sink.new) }
+    ensures { OnOk result (TakesParts S.has repo.now.name.now repo.now.clock
+        (parts_of_batch repo.now.sets.now batch.now) sink.old sink.new) }
 {
     match batch {
         Batch::Begins { clock, next } => save_start(repo.name, *clock, *next, sink),
@@ -140,8 +138,8 @@ fn save_come<S: Sink>(
     list: &Option<SnapshotList>,
     sink: &mut S,
 ) -> Result<(), SaveFault>
-    ensures { OnOk result (Takes S.has (map (spelled_part repo.now.name.now repo.now.clock)
-        (map has_item items.now ++ list_parts list.now)) sink.old sink.new) }
+    ensures { OnOk result (TakesParts S.has repo.now.name.now repo.now.clock
+        (map has_item items.now ++ list_parts list.now) sink.old sink.new) }
 {
     save_piece(alloc, items, repo.name, sink)?;
     save_list_if(alloc, repo, list, sink)
@@ -154,7 +152,7 @@ fn save_list_if<S: Sink>(
     list: &Option<SnapshotList>,
     sink: &mut S,
 ) -> Result<(), SaveFault>
-    ensures { OnOk result (Takes S.has (map (spelled_part repo.now.name.now repo.now.clock) (list_parts list.now))
+    ensures { OnOk result (TakesParts S.has repo.now.name.now repo.now.clock (list_parts list.now)
         sink.old sink.new) }
 {
     match list {
@@ -163,16 +161,19 @@ fn save_list_if<S: Sink>(
     }
 }
 
-/// Passes an open list.
+/// Passes an open list. The error is also `Damaged` for a list of sets, which no repository opens.
 fn save_list<S: Sink>(
     alloc: Global,
     repo: &SavedRepo<'_>,
     list: &SnapshotList,
     sink: &mut S,
 ) -> Result<(), SaveFault>
-    ensures { OnOk result (Takes S.has (spelled_part repo.now.name.now repo.now.clock (has_list list.now) ∷ [])
+    ensures { OnOk result (TakesParts S.has repo.now.name.now repo.now.clock (has_list list.now ∷ [])
         sink.old sink.new) }
 {
+    if !lists_items(list.verb) {
+        return Err(SaveFault::Reading(Fault::Damaged));
+    }
     let saved = SavedList {
         number: list.number,
         verb: list.verb,
@@ -190,4 +191,15 @@ fn save_list<S: Sink>(
         bytes: bytes.as_slice(),
     };
     put(sink, &part)
+}
+
+/// Whether the verb lists records or headers of items.
+fn lists_items(verb: ListVerb) -> bool
+    ensures { result ≡ is_of_records verb }
+{
+    match verb {
+        ListVerb::Records => true,
+        ListVerb::Identifiers => true,
+        ListVerb::Sets => false,
+    }
 }

@@ -197,8 +197,8 @@ none_left s begun all none =
 -- ---- the lists
 
 pub leaves_same : (honest : Bool) (old new : SnapshotFields) (before after : VersionLists) → HoldsSnapshot honest old before → numbers_of_snapshot new ≡ numbers_of_snapshot old → after ≡ before
-    → LeavesSnapshot honest old before new after
-leaves_same honest old new before after holds numbers lists = record {
+    → new.clock ≡ old.clock → new.sets ≡ old.sets → LeavesSnapshot honest old before new after
+leaves_same honest old new before after holds numbers lists clock sets = record {
   holds = record {
     stands = subst (λ (ls : VersionLists). AreInUse (numbers_of_snapshot new) ls) (sym lists) (subst (λ (ns : List ℕ). AreInUse ns before) (sym numbers) holds.stands);
     whole = λ is. ap (have_whole (numbers_of_snapshot new)) lists ∙ ap (λ (ns : List ℕ). have_whole ns before) numbers ∙ holds.whole is;
@@ -206,6 +206,8 @@ leaves_same honest old new before after holds numbers lists = record {
   others = subst (λ (ls : VersionLists). KeepsOthers (numbers_of_snapshot old) before (numbers_of_snapshot new) ls) (sym lists)
       (subst (λ (ns : List ℕ). KeepsOthers (numbers_of_snapshot old) before ns before) (sym numbers) (kept_same (numbers_of_snapshot old) before));
   kept = λ n there. ap (λ (ls : VersionLists). ls n) lists;
+  clock = clock;
+  sets = sets;
 }
 
 -- the others keep their lists where the version before them is released
@@ -242,8 +244,8 @@ rest_whole None numbers lists h = h
 rest_whole (Some v) numbers lists h = (and_parts (are_whole (list_at lists v)) (have_whole numbers lists) h).1
 
 leaves_rest : (honest : Bool) (old new : SnapshotFields) (lists : VersionLists) (numbers : List ℕ) → HoldsSnapshot honest old lists → numbers_of_snapshot old ≡ with_before old.before numbers
-    → numbers_of_snapshot new ≡ numbers → LeavesSnapshot honest old lists new (without_lists (with_before old.before []) lists)
-leaves_rest honest old new lists numbers holds is is_new =
+    → numbers_of_snapshot new ≡ numbers → new.clock ≡ old.clock → new.sets ≡ old.sets → LeavesSnapshot honest old lists new (without_lists (with_before old.before []) lists)
+leaves_rest honest old new lists numbers holds is is_new clock sets =
     let stands : AreInUse (with_before old.before numbers) lists = subst (λ (ns : List ℕ). AreInUse ns lists) is holds.stands in
     let after : VersionLists = without_lists (with_before old.before []) lists in
     record {
@@ -257,13 +259,16 @@ leaves_rest honest old new lists numbers holds is is_new =
       others = subst (λ (ns : List ℕ). KeepsOthers ns lists (numbers_of_snapshot new) after) (sym is)
           (subst (λ (ns : List ℕ). KeepsOthers (with_before old.before numbers) lists ns after) (sym is_new) (rest_others old.before numbers lists stands));
       kept = λ n there. rest_same old.before numbers lists n stands (subst (λ (ns : List ℕ). has ns n ≡ true) is_new there);
+      clock = clock;
+      sets = sets;
     }
 
 pub leaves_passed : (honest : Bool) (old new : SnapshotFields) (list : Option SavedListState) (lists after : VersionLists) → HoldsSnapshot honest old lists → HasPassed old list new
     → after ≡ without_lists (with_before old.before []) lists → LeavesSnapshot honest old lists new after
 leaves_passed honest old new list lists after holds passed is =
     subst (λ (ls : VersionLists). LeavesSnapshot honest old lists new ls) (sym is)
-    (leaves_rest honest old new lists (versions_of (passed.0 ∷ passed.1)) holds (ap (λ (vs : List SnapshotVersion). with_before old.before (versions_of vs)) passed.2) (ap numbers_of_snapshot passed.4))
+    (leaves_rest honest old new lists (versions_of (passed.0 ∷ passed.1)) holds (ap (λ (vs : List SnapshotVersion). with_before old.before (versions_of vs)) passed.2) (ap numbers_of_snapshot passed.4)
+    (ap (λ (s : SnapshotFields). s.clock) passed.4) (ap (λ (s : SnapshotFields). s.sets) passed.4))
 
 -- ---- the versions that are read
 

@@ -42,11 +42,13 @@ pub record HoldsSnapshot (honest : Bool) (snapshot : SnapshotFields) (lists : Ve
   pub whole : IsTrue honest → have_whole (numbers_of_snapshot snapshot) lists ≡ true
 
 -- what handing out a batch leaves: the precondition of the next call; the lists of others, and those under the numbers
--- that the snapshot still has
+-- that the snapshot still has; its clock, and how many sets there were
 pub record LeavesSnapshot (honest : Bool) (old : SnapshotFields) (before : VersionLists) (new : SnapshotFields) (after : VersionLists) : Type 0 where
   pub holds : HoldsSnapshot honest new after
   pub others : KeepsOthers (numbers_of_snapshot old) before (numbers_of_snapshot new) after
   pub kept : (n : ℕ) → has (numbers_of_snapshot new) n ≡ true → after n ≡ before n
+  pub clock : new.clock ≡ old.clock
+  pub sets : new.sets ≡ old.sets
 
 -- ---- how far it is handed out
 

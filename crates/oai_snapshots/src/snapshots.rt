@@ -104,8 +104,6 @@ impl Snapshot {
         ensures further { IfOk result (λ batch. IfSome batch (λ _. IsTrue (V.honest store.old)
             → HasHandedOutMore self.old self.new)) }
         ensures none { IfOk result (λ batch. is_none batch ≡ has_nothing_left self.old) }
-        ensures clock { self.new.clock ≡ self.old.clock }
-        ensures sets { self.new.sets ≡ self.old.sets }
         ensures leaves { LeavesSnapshot (V.honest store.old) self.old (V.lists store.old) self.new
             (V.lists store.new) }
         ensures err { OnErr result ((self.new ≡ self.old) × (V.lists store.new ≡ V.lists store.old)) }
@@ -189,8 +187,6 @@ impl Snapshot {
         requires first { Some version ≡ option_map (λ s. s.version) (slice_get self.old.versions 0) }
         ensures changes { IfOk result (λ batch. IsTrue (V.honest store.old)
             → HandsOutChange (V.lists store.old) self.old batch self.new) }
-        ensures clock { self.new.clock ≡ self.old.clock }
-        ensures sets { self.new.sets ≡ self.old.sets }
         ensures leaves { LeavesSnapshot (V.honest store.old) self.old (V.lists store.old) self.new
             (V.lists store.new) }
         ensures err { OnErr result ((self.new ≡ self.old) × (V.lists store.new ≡ V.lists store.old)) }

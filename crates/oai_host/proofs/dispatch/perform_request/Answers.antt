@@ -1,5 +1,5 @@
 -- A request is replied to, or a fault has left all as it was.
-use Rattle.std.proofs.Common.{◌≡◌, ◌∙◌, inl, inr, None, Ok, FitsSigned, w64, refl, sym, ap}
+use Rattle.std.proofs.Common.{inl, inr, None, FitsSigned, w64, refl, sym, ap}
 use Rattle.std.proofs.lemmas.Int.{to_z-of_z}
 use Rattle.oai_repo.specs.Calls.{output_of_reply}
 use Rattle.oai_repo.specs.Fields.{state_of}

@@ -20,11 +20,16 @@ release-requires g c =
 
 pub snapshots-preserved : goal.snapshots-preserved
 snapshots-preserved g c =
-    releasing_next g.V.Versions c.args.snapshots.items c.args.store.now c.snapshots.left.items c.snapshots.store c.in-Some.snapshot c.pop_front.new.self.items c.release.new.store c.snapshots.invariant
+    releasing_next g.V.Versions c.args.left.now.items c.args.store.now c.snapshots.left.items c.snapshots.store c.in-Some.snapshot c.pop_front.new.self.items c.release.new.store c.snapshots.invariant
     c.in-Some.ensures.items c.release.ensures.released c.release.ensures.store
 
 pub returns-clause-released : goal.returns-clause-released
 returns-clause-released g c =
     let ends : c.snapshots.left.len ≡ 0 = search rules in
-    releasing_ends g.V.Versions c.args.snapshots.items c.args.store.now c.snapshots.left.items c.snapshots.store c.snapshots.invariant
+    releasing_ends g.V.Versions c.args.left.now.items c.args.store.now c.snapshots.left.items c.snapshots.store c.snapshots.invariant
     (nothing_left c.snapshots.left.items (sym c.snapshots.left.ok.0 ∙ ends))
+
+pub returns-clause-none : goal.returns-clause-none
+returns-clause-none g c =
+    let ends : c.pop_front.new.self.len ≡ 0 = search rules in
+    nothing_left c.pop_front.new.self.items (sym c.pop_front.new.self.ok.0 ∙ ends)

@@ -1,5 +1,5 @@
 -- Each turn takes one more.
-use Rattle.std.proofs.Common.{◌≡◌, ◌∙◌, ◌+◌, ◌<◌, [], ◌∷◌, ◌++◌, Bool, Err, List, Ok, Result, arith, get_or, length, refl, rules, subst, sym, take}
+use Rattle.std.proofs.Common.{◌≡◌, ◌+◌, [], ◌∷◌, ◌++◌, Bool, Err, List, Ok, Result, arith, length, refl, rules, subst, sym, take}
 use Rattle.std.proofs.SliceLists.{take_long}
 use Rattle.oai_item.specs.declared.faults.Fault.{Fault}
 use Rattle.oai_item.specs.declared.faults.Fault.TheVariants.{NoMemory}

@@ -1,5 +1,5 @@
 -- a snapshot of each of the first repositories is taken
-use Rattle.std.proofs.Common.{◌≡◌, Ok, take}
+use Rattle.std.proofs.Common.{Ok, take}
 use Rattle.oai_catalogue.specs.Store.{Spends}
 use Rattle.oai_host.specs.HostSnapshots.{AreSnapshotsTaken, calls_for}
 use Rattle.oai_host.proofs.host_snapshots.take_each.Given as goal

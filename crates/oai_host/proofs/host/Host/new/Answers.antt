@@ -3,6 +3,7 @@ use Rattle.std.proofs.Common.{◌≡◌, ◌∙◌, ◌∷◌, ap, arith, length
 use Rattle.std.specs.Vec.Iter.{into_iter_items}
 use Rattle.oai_host.specs.NamedRepos.{repositories_of}
 use Rattle.oai_host.proofs.HostLemmas.{begun_more, begun_none, next_named, next_unused}
+use Rattle.oai_host.proofs.HostSnapshotLemmas.{holds_none}
 use Rattle.oai_host.proofs.host.Host.new.Goals as goal
 
 pub loop-entry-init : goal.loop-entry-init
@@ -44,6 +45,12 @@ loop-entry-preserved g c =
       honesty = c.begin.ensures.store.honesty.same ∙ c.loop-entry.invariant.honesty;
       named = c.loop-entry.invariant.named;
     }
+
+pub invariant_of-result : goal.invariant_of-result
+invariant_of-result g c =
+    let V = g.V.Versions in
+    let store = c.loop-entry.store in
+    (c.loop-entry.invariant.repos, (rw c.none.ensures (holds_none (V.honest store) c.loop-entry.repositories (V.lists store)), tt))
 
 pub returns-clause-cause : goal.returns-clause-cause
 returns-clause-cause g c = record {

@@ -28,7 +28,7 @@ returns-in_err-more-clause-leaves g c =
     let some : 0 < length items = some_there c.self.inside.left.len (length items) (sym c.is_empty.ensures ∙ c.if-is_empty.false) c.self.inside.left.ok.0 in
     let front = at_front items c.args.self.now c.index_mut.result.now c.self.view_is some c.index_mut.ensures.value in
     front_left (V.honest c.args.store.now) c.args.repos.now items c.args.self.now c.index_mut.result.now (V.lists c.args.store.now) front c.requires
-    c.save_one.new.snapshot (V.lists c.save_one.new.store) c.save_one.ensures.leaves c.save_one.ensures.sets
+    c.save_one.new.snapshot (V.lists c.save_one.new.store) c.save_one.ensures.leaves
 
 pub release_first-requires : goal.release_first-requires
 release_first-requires g c =
@@ -37,7 +37,7 @@ release_first-requires g c =
     let some : 0 < length items = some_there c.self.inside.left.len (length items) (sym c.is_empty.ensures ∙ c.if-is_empty.false) c.self.inside.left.ok.0 in
     let front = at_front items c.args.self.now c.index_mut.result.now c.self.view_is some c.index_mut.ensures.value in
     (front_left (V.honest c.args.store.now) c.args.repos.now items c.args.self.now c.index_mut.result.now (V.lists c.args.store.now) front c.requires
-    c.save_one.new.snapshot (V.lists c.save_one.new.store) c.save_one.ensures.leaves c.save_one.ensures.sets).holds.stands
+    c.save_one.new.snapshot (V.lists c.save_one.new.store) c.save_one.ensures.leaves).holds.stands
 
 pub returns-then-not-more-clause-saved : goal.returns-then-not-more-clause-saved
 returns-then-not-more-clause-saved g c = λ honest.
@@ -49,8 +49,8 @@ returns-then-not-more-clause-saved g c = λ honest.
     let none : has_nothing_left c.index_mut.result.now ≡ true = search rules in
     front_ended g.S.Sink.has (V.honest c.args.store.now) c.args.repos.now items c.args.self.now c.index_mut.result.now (V.lists c.args.store.now) front c.requires
     c.args.sink.now c.save_one.new.sink c.index-repos-repos.result (length c.args.repos.now - c.len.result) at c.index-repos-repos.is
-    c.save_one.new.snapshot (V.lists c.save_one.new.store) c.save_one.ensures.leaves c.save_one.ensures.clock (c.in_ok-more.ensures.saved honest)
-    c.release_first.new.self (V.lists c.release_first.new.store) c.save_one.ensures.sets none
+    c.save_one.new.snapshot (V.lists c.save_one.new.store) c.save_one.ensures.leaves (c.in_ok-more.ensures.saved honest)
+    c.release_first.new.self (V.lists c.release_first.new.store) none
     (c.release_first.ensures.first c.save_one.new.snapshot front.others (front.set c.save_one.new.snapshot))
     (c.release_first.ensures.released c.save_one.new.snapshot front.others (front.set c.save_one.new.snapshot))
 
@@ -61,7 +61,7 @@ returns-then-not-more-clause-leaves g c =
     let some : 0 < length items = some_there c.self.inside.left.len (length items) (sym c.is_empty.ensures ∙ c.if-is_empty.false) c.self.inside.left.ok.0 in
     let front = at_front items c.args.self.now c.index_mut.result.now c.self.view_is some c.index_mut.ensures.value in
     front_released (V.honest c.args.store.now) c.args.repos.now items c.args.self.now c.index_mut.result.now (V.lists c.args.store.now) front c.requires
-    c.save_one.new.snapshot (V.lists c.save_one.new.store) c.release_first.new.self (V.lists c.release_first.new.store) c.save_one.ensures.leaves c.save_one.ensures.sets
+    c.save_one.new.snapshot (V.lists c.save_one.new.store) c.release_first.new.self (V.lists c.release_first.new.store) c.save_one.ensures.leaves
     (c.release_first.ensures.first c.save_one.new.snapshot front.others (front.set c.save_one.new.snapshot))
     (c.release_first.ensures.released c.save_one.new.snapshot front.others (front.set c.save_one.new.snapshot))
 
@@ -74,7 +74,7 @@ returns-else-not-more-clause-saved g c = λ honest.
     let at : length c.args.repos.now - c.len.result ≡ length c.args.repos.now - length c.args.self.now = ap (λ n. length c.args.repos.now - n) (c.len.ensures ∙ c.self.inside.left.ok.0 ∙ ap length c.self.view_is) in
     front_saved g.S.Sink.has (V.honest c.args.store.now) c.args.repos.now items c.args.self.now c.index_mut.result.now (V.lists c.args.store.now) front c.requires
     c.args.sink.now c.save_one.new.sink c.index-repos-repos.result (length c.args.repos.now - c.len.result) at c.index-repos-repos.is
-    c.save_one.new.snapshot (V.lists c.save_one.new.store) c.save_one.ensures.leaves c.save_one.ensures.clock (c.in_ok-more.ensures.saved honest)
+    c.save_one.new.snapshot (V.lists c.save_one.new.store) c.save_one.ensures.leaves (c.in_ok-more.ensures.saved honest)
 
 pub returns-else-not-more-clause-further : goal.returns-else-not-more-clause-further
 returns-else-not-more-clause-further g c = λ _ honest.
@@ -92,4 +92,4 @@ returns-else-not-more-clause-leaves g c =
     let some : 0 < length items = some_there c.self.inside.left.len (length items) (sym c.is_empty.ensures ∙ c.if-is_empty.false) c.self.inside.left.ok.0 in
     let front = at_front items c.args.self.now c.index_mut.result.now c.self.view_is some c.index_mut.ensures.value in
     front_left (V.honest c.args.store.now) c.args.repos.now items c.args.self.now c.index_mut.result.now (V.lists c.args.store.now) front c.requires
-    c.save_one.new.snapshot (V.lists c.save_one.new.store) c.save_one.ensures.leaves c.save_one.ensures.sets
+    c.save_one.new.snapshot (V.lists c.save_one.new.store) c.save_one.ensures.leaves

@@ -83,6 +83,10 @@ returns-clause-left g c = λ name path honest.
     (set_left_by call c.perform_exchange.result.answer (store_state V before) (store_state V after) c.args.endpoint p.one c.perform_exchange.new.repo (V.lists before) (V.lists after) p.path
     named inside c.args.place there repos.named.distinct steps kept.config c.args.moment (option_copied c.perform_exchange.result.bytes) (left honest))
 
+pub returns-clause-faults : goal.returns-clause-faults
+returns-clause-faults g c =
+    let performed = c.perform_exchange.ensures.performed.performed in record { device = performed.device; honesty = performed.honesty }
+
 pub returns-clause-changed : goal.returns-clause-changed
 returns-clause-changed g c =
     let V = g.V.Versions in
