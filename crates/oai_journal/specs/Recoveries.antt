@@ -1,10 +1,15 @@
 -- A journal's file as it is read from its first byte on. This repository's own.
-use Rattle.std.specs.Prelude.{◌≡◌, ◌⊎◌, ℕ, ◌+◌, ◌≤◌, Bool, true, false, if◌then◌else◌, List, [], ◌∷◌, ◌++◌, length, map, drop, Option, Some, MatchOption}
+use Rattle.std.specs.Prelude.{◌≡◌, ◌⊎◌, ℕ, ◌+◌, ◌<◌, ◌≤◌, Bool, true, false, if◌then◌else◌, List, [], ◌∷◌, ◌++◌, length, map, drop, Option, Some, MatchOption, IsTrue, Vec, vec_len}
+use Rattle.std.specs.declared.alloc.Global.{Global}
+use Rattle.oai_journal.specs.Blocks.{IsBlock}
 use Rattle.oai_journal.specs.Changes.{GoesOn}
 use Rattle.oai_journal.specs.Files.{AreGated, Gated, IsFirstRecord, digest_after, front, is_commit_set}
-use Rattle.oai_journal.specs.Frames.{entry_in, frame, head_of, next_digest}
+use Rattle.oai_journal.specs.Frames.{IsFrameHead, entry_in, frame, head_of, next_digest}
 use Rattle.oai_journal.specs.Heads.{RecordHeadFields}
 use Rattle.oai_journal.specs.Records.{Entry, IsFit, is_first_kind}
+use Rattle.oai_journal.specs.declared.blocks.BlockReader.{BlockReader}
+use Rattle.oai_journal.specs.declared.frames.FrameHead.{FrameHead}
+use Rattle.oai_journal.specs.declared.heads.TheConstants.{MAX_HEAD}
 use Rattle.oai_journal.specs.declared.recovery.Step.{Step}
 use Rattle.oai_journal.specs.declared.recovery.Step.TheVariants.{Changed, End, Frame, Damage}
 
@@ -31,6 +36,16 @@ IsLenAt bytes found = (before : ℕ) (e : Entry) (after : List ℕ) → IsFit e 
 -- the head is that of each frame with which these bytes begin
 abbrev pub IsHeadOf : RecordHeadFields → List ℕ → Type 0
 IsHeadOf h bytes = (before : ℕ) (e : Entry) (after : List ℕ) → IsFit e → bytes ≡ frame before e ++ after → h ≡ head_of e
+
+-- a head was read at that position of a file of that length: it is that of each frame with which the file's bytes begin
+-- there, its frame is within the file, and its text is short
+pub record IsHeadRead {D : Type 0} (clean : Bool) (seen : D → List ℕ) (reader : BlockReader D) (len at : ℕ) (head : FrameHead) (out : Vec ℕ Global) : Type 0 where
+  pub fields : RecordHeadFields
+  pub is : IsFrameHead fields head.kind head.size out.items
+  pub begins : IsTrue clean → IsBlock seen reader → len ≡ length (seen reader.disk) → IsHeadOf fields (drop at (seen reader.disk))
+  pub some : 0 < head.len
+  pub within : at + head.len ≤ len
+  pub short : vec_len out ≤ MAX_HEAD
 
 -- the bytes do not begin with a frame
 abbrev pub HasNoFrame : Bool → ℕ → List ℕ → Type 0

@@ -5,7 +5,7 @@ ghost use Rattle.sqlite_disk.specs.Disk.{Only};
 ghost use Rattle.oai_journal.specs.Blocks.{IsBlock};
 ghost use Rattle.oai_journal.specs.Frames.{IsFrameHead};
 ghost use Rattle.oai_journal.specs.Heads.{RecordHeadFields};
-ghost use Rattle.oai_journal.specs.Recoveries.{Checks, FindsFrame, IsGateAt, IsHeadOf, IsLenAt};
+ghost use Rattle.oai_journal.specs.Recoveries.{Checks, FindsFrame, IsGateAt, IsHeadOf, IsHeadRead, IsLenAt};
 ghost use Rattle.oai_journal.specs.declared.heads.TheConstants.{MAX_HEAD};
 
 use crate::blocks::BlockReader;
@@ -92,12 +92,8 @@ fn read_head<D: Disk + Drop>(
     ensures found { IfOk result (λ found. IsTrue (D.Disk.is_clean reader.new.disk) → IsBlock D.Disk.seen reader.old
         → len ≡ length (D.Disk.seen reader.old.disk)
         → IsLenAt (drop at (D.Disk.seen reader.old.disk)) (option_map (λ head. head.len) found)) }
-    ensures head { IfOk result (λ found. IfSome found (λ head. (h : RecordHeadFields)
-        × IsFrameHead h head.kind head.size out.new.items
-        × (IsTrue (D.Disk.is_clean reader.new.disk) → IsBlock D.Disk.seen reader.old
-        → len ≡ length (D.Disk.seen reader.old.disk) → IsHeadOf h (drop at (D.Disk.seen reader.old.disk))))) }
-    ensures within { IfOk result (λ found. IfSome found (λ head. (0 < head.len) × (at + head.len ≤ len))) }
-    ensures text { IfOk result (λ found. IfSome found (λ head. vec_len out.new ≤ MAX_HEAD)) }
+    ensures head { IfOk result (λ found. IfSome found (λ head. IsHeadRead (D.Disk.is_clean reader.new.disk)
+        D.Disk.seen reader.old len at head out.new)) }
     ensures room { vec_capacity out.old ≤ vec_capacity out.new }
     ensures block { OnOk result (IsTrue (D.Disk.is_clean reader.new.disk) → IsBlock D.Disk.seen reader.old
         → IsBlock D.Disk.seen reader.new) }

@@ -1,5 +1,5 @@
 -- Parts of a handler's state, as plain data: this repository's own.
-use Rattle.std.specs.Prelude.{ℕ, ℤ, List, [], ◌∷◌}
+use Rattle.std.specs.Prelude.{ℕ, ℤ, List, [], ◌∷◌, ◌++◌}
 use Rattle.oai_replay.specs.declared.parts.Part.{Part}
 use Rattle.oai_replay.specs.declared.parts.PartKind.{PartKind}
 
@@ -17,3 +17,10 @@ as_part part = record { kind = part.kind; moment = part.moment; name = part.name
 abbrev pub restored_all : {K : Type 0} → (K → PartState → K) → K → List PartState → K
 restored_all restored kept [] = kept
 restored_all restored kept (part ∷ parts) = restored_all restored (restored kept part) parts
+
+-- a sink took some more parts, whatever it had taken; and what says of which state which parts are saved, says it of these
+-- behind the others
+pub record SavesMore {S K : Type 0} (has : S → List PartState → Type 0) (old : K → List PartState → Type 0) (before : S) (new : K → List PartState → Type 0) (after : S) : Type 0 where
+  pub some : List PartState
+  pub taken : (parts : List PartState) → has before parts → has after (parts ++ some)
+  pub saved : (state : K) (parts : List PartState) → old state parts → new state (parts ++ some)

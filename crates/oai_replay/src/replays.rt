@@ -1,8 +1,8 @@
-ghost use Rattle.std.specs.Prelude.{◌≡◌, ◌≤◌, ◌++◌, ℕ, Bool, IfSome, IsTrue, List, None, OnOk, length, max};
+ghost use Rattle.std.specs.Prelude.{◌≡◌, ◌≤◌, ◌++◌, [], ℕ, Bool, false, IfOk, IfSome, IsTrue, List, None, OnOk, length, max};
 ghost use Rattle.oai_http.specs.Exchanges.{asked_by, call_at};
 ghost use Rattle.oai_http.specs.declared.exchanges.Answer.{Answer as Given};
 ghost use Rattle.oai_http.specs.declared.exchanges.Call.{Call as Calls};
-ghost use Rattle.oai_replay.specs.Parts.{PartState, as_part, restored_all};
+ghost use Rattle.oai_replay.specs.Parts.{PartState, SavesMore, as_part, restored_all};
 ghost use Rattle.oai_replay.specs.Redone.{call_again, is_short_name, left_again};
 
 use crate::parts::{Part, SaveFault, Sink};
@@ -47,9 +47,12 @@ pub trait Replayed: Handler {
     /// The answer to a call.
     ghost reply: { Kept → Calls → Given };
 
+    /// Whether a checkpoint of that state is written, of which these parts are saved, and the others left to save.
+    ghost saves: { Self → Kept → List PartState → Type 0 };
+
     /// Performs a message as `exchange` does, and returns with the answer what of it has to be replayed: a request; a
     /// deposit of its first lines, as many as were done; or nothing if nothing was done, as by a request that failed.
-    /// The message left the state that the replay leaves.
+    /// The message left the state that the replay leaves. A checkpoint that is written stays one of the same state.
     fn exchange_recorded<'a>(&mut self, moment: i64, exchange: &Exchange<'a>) -> Done<'a>
         ensures step { Self.step self.old moment (asked_by exchange.now) result.answer self.new }
         ensures left { IsTrue (is_honest self.old)
@@ -61,6 +64,7 @@ pub trait Replayed: Handler {
         ensures name { IfSome result.performed (λ p. IsTrue (is_short_name p.name.now)) }
         ensures size { IfSome result.performed (λ p. length p.bytes.now
             ≤ max (length exchange.now.target) (length exchange.now.body.now)) }
+        ensures saving { (state : Kept) (parts : List PartState) → saves self.old state parts → saves self.new state parts }
         ensures honesty { is_honest self.new ≡ is_honest self.old };
 
     /// Replays, at the moment, in seconds from 1970 on, what was performed, and makes no answer. The error is the fault
@@ -97,6 +101,29 @@ pub trait Replayed: Handler {
         ensures whole { OnOk result (IsTrue (is_honest self.old)
             → restored_all restored (emptied (kept self.old)) (parts (ended raise (kept self.old)))
             ≡ ended raise (kept self.old)) }
+        ensures same { kept self.new ≡ kept self.old }
+        ensures honesty { is_honest self.new ≡ is_honest self.old };
+
+    /// Begins a checkpoint of the state as it is now; one that was begun before is given up. Any fault may come, and then
+    /// none is begun.
+    fn begin_saving(&mut self) -> Result<(), Fault>
+        ensures begun { OnOk result (IsTrue (is_honest self.old) → saves self.new (kept self.old) []) }
+        ensures same { kept self.new ≡ kept self.old }
+        ensures honesty { is_honest self.new ≡ is_honest self.old };
+
+    /// Passes the next parts of the checkpoint to the sink, and returns whether there were any. If not, all are saved, and
+    /// they restore the state of which it is. After an error it can only be given up.
+    fn save_next<S: Sink>(&mut self, sink: &mut S) -> Result<bool, SaveFault>
+        ensures saved { IfOk result (λ more. IsTrue (is_honest self.old)
+            → SavesMore S.has (saves self.old) sink.old (saves self.new) sink.new) }
+        ensures all { IfOk result (λ more. more ≡ false → IsTrue (is_honest self.old)
+            → (state : Kept) (parts : List PartState) → saves self.new state parts
+            → restored_all restored (emptied state) parts ≡ state) }
+        ensures same { kept self.new ≡ kept self.old }
+        ensures honesty { is_honest self.new ≡ is_honest self.old };
+
+    /// Gives up the checkpoint that is written, if one is. It cannot fail.
+    fn stop_saving(&mut self)
         ensures same { kept self.new ≡ kept self.old }
         ensures honesty { is_honest self.new ≡ is_honest self.old };
 

@@ -38,7 +38,7 @@ sound_store = record { honest = true; failures = 0; room = 0 }
 
 -- a host over it
 abbrev pub sound_host : List Repository → HostState
-sound_host repositories = record { repositories = repositories; honest = true; failures = 0; room = 0 }
+sound_host repositories = record { repositories = repositories; honest = true; failures = 0; room = 0; unsaved = [] }
 
 -- ---- at one repository
 
@@ -261,6 +261,7 @@ pub whole_exchanged : (call : Call) (repositories : List Repository) → leads_t
 whole_exchanged call repositories one = record {
   each = whole_steps call repositories one;
   none = λ none. absurd (not_of_none call repositories one none);
+  unsaved = refl;
   device = counted_none (reply_all repositories call) (reply_whole call repositories);
   honesty = honest_none (reply_all repositories call) (reply_whole call repositories);
 }
@@ -270,6 +271,7 @@ pub once_exchanged : (call again : Call) (repositories : List Repository) → Is
 once_exchanged call again repositories once one = record {
   each = once_steps call again repositories once one;
   none = λ none. absurd (not_of_none call repositories one none);
+  unsaved = refl;
   device = record { count = omega arith; device = λ h. cc };
   honesty = record { same = refl; damaged = λ h. cc };
 }

@@ -5,6 +5,8 @@ use Rattle.std.proofs.lemmas.List.{append-nil, append_assoc, map-append}
 use Rattle.std.proofs.lemmas.Grind.{flat_map-append}
 use Rattle.oai_front.specs.Runs.{Served, Serves}
 use Rattle.oai_http.specs.Exchanges.{call_at}
+use Rattle.oai_http.specs.declared.exchanges.Answer.{Answer}
+use Rattle.oai_http.specs.declared.exchanges.Call.{Call}
 use Rattle.oai_host.specs.Hosts.{HostState, IsExchanged, IsLater, Repository, store_of}
 use Rattle.oai_host.specs.Performed.{StoreState}
 use Rattle.oai_journal.specs.Records.{Entry}
@@ -147,6 +149,16 @@ goes_barred {H} view j rings begun before durable s old held other out answer =
       turned = λ so. (store_of (view old.handler), (ap (redone_all leaving begun) same, refl, inr answer), refl);
     }
 
+-- an exchange, whatever is left to save
+exchanged_bare : (call : Call) (answer : Answer) (old new : HostState) → IsExchanged call answer old new → IsExchanged call answer (host_in old.repositories (store_of old)) (host_in new.repositories (store_of new))
+exchanged_bare call answer old new is = record {
+  each = is.each;
+  none = λ none. ((is.none none).0, ap (λ (h : HostState). host_in h.repositories (store_of h)) (is.none none).1);
+  unsaved = refl;
+  device = is.device;
+  honesty = is.honesty;
+}
+
 -- any other message
 goes_other : {H J : Type 0} (view : H → HostState) (j : journal.Ghosts J) (rings : List Ring) (begun : List Repository) (before : List Entry) (durable : ℕ) (s : Served) (old new : Parts H J)
     → IsHeld (hosting view) j begun old before durable → is_status s.done.message.asked.target ≡ false
@@ -181,7 +193,8 @@ goes_other {H} view j rings begun before durable s old new held other (inl perfo
       | inl step ↦
           as_turn (was_performed e) refl performed.0 other (λ so.
           subst (λ (rs : List Repository). IsExchanged (call_at e.moment e.asked) e.answer (host_in rs first) (host_in is last)) (held.kept so)
-          (subst (λ (rs : List Repository). IsExchanged (call_at e.moment e.asked) e.answer (view old.handler) (host_in rs last)) (kept.held.kept (exchange.honesty ∙ so)) step))
+          (subst (λ (rs : List Repository). IsExchanged (call_at e.moment e.asked) e.answer (host_in (view old.handler).repositories first) (host_in rs last)) (kept.held.kept (exchange.honesty ∙ so))
+          (exchanged_bare (call_at e.moment e.asked) e.answer (view old.handler) (view new.handler) step)))
       | inr none ↦
           as_turn (was_refused e) refl (inl (performed.0, none.1)) other (λ so. (
             sym (kept.held.kept (exchange.honesty ∙ so)) ∙ ap (λ (x : H). (view x).repositories) none.0 ∙ held.kept so,

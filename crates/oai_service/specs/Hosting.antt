@@ -47,6 +47,7 @@ Promised H = record {
   is_honest : H → Bool;
   redone : Kept → Call → Kept;
   reply : Kept → Call → Answer;
+  saves : H → Kept → List PartState → Type 0;
   restored : Kept → PartState → Kept;
   parts : Kept → List PartState;
   ended : ℕ → Kept → Kept;

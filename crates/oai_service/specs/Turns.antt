@@ -48,7 +48,7 @@ answers_in (was_status e ∷ turns) = answers_in turns
 
 -- a host of these repositories, over a store in that state
 abbrev pub host_in : List Repository → StoreState → HostState
-host_in repositories store = record { repositories = repositories; honest = store.honest; failures = store.failures; room = store.room }
+host_in repositories store = record { repositories = repositories; honest = store.honest; failures = store.failures; room = store.room; unsaved = [] }
 
 -- what was done of it: a host exchanged the message; or it was refused, or asked for figures, and nothing was done
 abbrev pub IsTurn : List Repository → StoreState → Turn → List Repository → StoreState → Type 0

@@ -1,5 +1,5 @@
 -- The bytes before the last one are the body, so what stands behind the front is compared by its length and its end.
-use Rattle.std.proofs.Common.{◌≡◌, ◌∙◌, ℕ, ◌+◌, ◌-◌, Bool, true, false, List, ◌++◌, length, take, drop, Some, IsTrue, refl, sym, ap, arith, rules, ◌==◌}
+use Rattle.std.proofs.Common.{◌≡◌, ◌∙◌, ℕ, ◌-◌, Bool, true, false, List, ◌++◌, length, take, drop, Some, IsTrue, refl, sym, ap, arith, rules, ◌==◌}
 use Rattle.std.specs.Str.{bytes_eq}
 use Rattle.std.proofs.lemmas.Bool.{eqb-true, eq-eqb, false≢true}
 use Rattle.std.proofs.lemmas.List.{drop_at, length-append, take-append-drop, take_at}

@@ -17,13 +17,16 @@ returns-in-Some-clause-found g c clean block size before e after fit is =
 
 pub returns-in-Some-clause-head : goal.returns-in-Some-clause-head
 returns-in-Some-clause-head g c =
-    let its = c.in-Some.ensures.head in (
-      its.0,
-      its.2,
-      λ clean block size before e after fit is.
+    let its = c.in-Some.ensures.head in record {
+      fields = its.0;
+      is = its.2;
+      begins = λ clean block size before e after fit is.
           let read = c.deref.ensures.value ∙ c.in_ok-read.ensures.read clean block ∙ ap (λ n. take n (drop c.args.at (g.D.Disk.seen c.args.reader.now.disk))) c.min.ensures in
-          some_same _ _ (sym its.1 ∙ head_read (g.D.Disk.seen c.args.reader.now.disk) c.args.len c.args.at size c.deref.result.now read before e after fit is),
-    )
+          some_same _ _ (sym its.1 ∙ head_read (g.D.Disk.seen c.args.reader.now.disk) c.args.len c.args.at size c.deref.result.now read before e after fit is);
+      some = search rules;
+      within = search rules;
+      short = search rules;
+    }
 
 pub returns-in_default-clause-found : goal.returns-in_default-clause-found
 returns-in_default-clause-found g c clean block size before e after fit is =
