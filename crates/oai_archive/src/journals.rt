@@ -55,8 +55,8 @@ pub fn begin_reading<D: Disk + Drop>(alloc: Global, disk: D) -> Result<Recovery<
 }
 
 /// The journal on the disk, whose first record is read, and has the configuration in the text, ignoring the size of the
-/// cache, and a version whose records have these forms. The errors are those of `begin_reading` and of `has_config`, and
-/// `NotOurs` if it has another one.
+/// cache, and a version whose records have these forms. The errors are those of `begin_reading` and of
+/// `forms_with_config`, and `NotOurs` if it has another one.
 pub fn begin_for<D: Disk + Drop>(
     alloc: Global,
     disk: D,
@@ -68,7 +68,7 @@ pub fn begin_for<D: Disk + Drop>(
     ensures seen { IfOk result (λ recovery. D.Disk.seen (disk_of recovery) ≡ D.Disk.seen disk) }
 {
     let recovery = begin_reading(alloc, disk)?;
-    match has_config(alloc, &recovery, text)? {
+    match forms_with_config(alloc, &recovery, text)? {
         Some(found) if found == forms => Ok(recovery),
         _ => Err(ServerStop::NotOurs),
     }
@@ -76,7 +76,7 @@ pub fn begin_for<D: Disk + Drop>(
 
 /// The forms of the records of the journal, if its first record, which was read, has the configuration in the text,
 /// ignoring the size of the cache. The errors are `NotOurs`, `OfVersion` and `NoMemory`.
-pub fn has_config<D: Disk + Drop>(
+pub fn forms_with_config<D: Disk + Drop>(
     alloc: Global,
     recovery: &Recovery<D>,
     text: &[u8],

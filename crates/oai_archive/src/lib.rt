@@ -17,7 +17,7 @@ pub use checkpoints::write_checkpoint;
 pub use differences::check_differences;
 pub use dumps::dump_repository;
 pub use firsts::VERSION;
-pub use journals::{begin_for, begin_reading, config_text, create_journal, has_config};
+pub use journals::{begin_for, begin_reading, config_text, create_journal, forms_with_config};
 pub use laws::same_config_law;
 pub use read_files::ReadFile;
 pub use recoveries::{stop_of_checkpoint, stop_of_recovery};

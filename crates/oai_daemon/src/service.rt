@@ -18,7 +18,6 @@ use oai_durable::{Journaled, resume};
 use oai_figures::Figures;
 use oai_host::Host;
 use oai_http::Settled;
-use oai_item::Forms;
 use oai_journal::{FileJournal, Journal};
 use oai_keys::{Guarded, Ring};
 use oai_names::Sequence;
@@ -26,7 +25,7 @@ use oai_paged::PagedVersions;
 use oai_recovery::{Origin, Place, Started, second_of, start, to_moment};
 use oai_replay::Replayed;
 use oai_serving::{ServeFault, Server, Sockets, Stream};
-use oai_startup::{Stop, config_in};
+use oai_startup::{Stop, WrittenConfig};
 use std::alloc::Global;
 use std::rc::Rc;
 use std::rt::Clock;
@@ -86,31 +85,31 @@ pub type Hosting<'a, P> = Watched<
     P,
 >;
 
-/// Serves the repositories of the configuration in the text, in the state that the journal of the place gives, until it
-/// is killed or cannot continue. Deposits into those that `rings` names need one of their keys. What is performed is
-/// logged in the journal, and synced, before it is answered. The error is why it stopped before it served; the value is
-/// what its service ended with.
+/// Serves the repositories of the configuration, in the state that the journal of the place gives, until it is killed or
+/// cannot continue. Deposits into those that `rings` names need one of their keys. What is performed is logged in the
+/// journal, and synced, before it is answered. The error is why it stopped before it served; the value is what its service
+/// ended with.
 ///
-/// A startup goes in this order, and stops at the first fault: the configuration, the folder, the port, the journal that
-/// is found and its first record, the pages, all other records, and the report of where the server listens. A journal
-/// with another configuration, and one that is long while no list is open, is replaced by a checkpoint before that.
+/// A startup goes in this order, and stops at the first fault: the folder, the port, the journal that is found and its
+/// first record, the pages, all other records, and the report of where the server listens. A journal with another
+/// configuration, and one that is long while no list is open, is replaced by a checkpoint before that.
 pub fn serve<'a, P: Place, C: Clock>(
     alloc: Global,
     place: &'a mut P,
     clock: &C,
-    text: &[u8],
+    written: WrittenConfig,
     rings: Sequence<Ring>,
 ) -> Result<Ended<P::Link, P::Port, Hosting<'a, P>>, ServerStop>
     ensures lived { IfOk result (λ ended. HasLived ⟦<FileJournal<P::Disk> as Journal>⟧ P.Disk.Disk.seen P.Disk.Disk.is_clean
-        P.Link.Stream.contents P.Link.Stream.remaining (file_of P.held P.held_begun ended.origin) text.now rings ended.origin
+        P.Link.Stream.contents P.Link.Stream.remaining (file_of P.held P.held_begun ended.origin) written.text rings ended.origin
         (known_of (P.Port.Sockets.accepted ended.port) (P.Port.Sockets.gone ended.port)) ended.result (world_behind unguarded ended.server)) }
     ensures renewed { IfOk result (λ ended. IsTrue (is_checkpoint ended.origin)
         → HasRenewed P.Disk.Disk.seen P.Disk.Disk.is_clean ⟦<FileJournal<P::NewDisk> as Journal>⟧ P.is_honest 0) }
 {
-    let config = config_in(alloc, Forms::Elements, text)?;
+    let (text, config) = written.into_parts();
     let counts = Counts::new(alloc, &config, second_of(clock))?;
     let listening = open(place, counts)?;
-    let started = start(alloc, place, clock, text, config)?;
+    let started = start(alloc, place, clock, &text, config)?;
     serve_over(alloc, place, clock, started, rings, listening)
 }
 

@@ -6,9 +6,8 @@ use crate::places::Place;
 use crate::renewals::{Renewal, renew};
 use crate::starts::keep_checkpoint;
 use oai_archive::{ServerStop, begin_reading, verify_journal};
-use oai_item::Forms;
 use oai_journal::{FileJournal, Journal};
-use oai_startup::config_in;
+use oai_startup::WrittenConfig;
 use std::alloc::Global;
 use std::io::Write;
 use std::rt::Clock;
@@ -17,35 +16,35 @@ use std::rt::Clock;
 /// machine that wrote them.
 const RAISE: u32 = 1_000_000;
 
-/// Replaces the journal of the place by a checkpoint with the configuration in the text, and writes `ok`, the number of
-/// records in it after the first one, and its length in bytes, as a line. Nothing is served meanwhile. All open lists
-/// have ended then, and the number of each next list is raised by 1,000,000. The errors are those of `serve`;
-/// `CannotOpen` if there is no journal. After an error the journal is unchanged, or it is the checkpoint already: where
-/// the folder could not be synced, or the line not be written.
+/// Replaces the journal of the place by a checkpoint with the configuration, and writes `ok`, the number of records in it
+/// after the first one, and its length in bytes, as a line. Nothing is served meanwhile. All open lists have ended then,
+/// and the number of each next list is raised by 1,000,000. The errors are those of `serve`; `CannotOpen` if there is no
+/// journal. After an error the journal is unchanged, or it is the checkpoint already: where the folder could not be
+/// synced, or the line not be written.
 pub fn checkpoint_folder<P: Place, C: Clock, W: Write>(
     alloc: Global,
     place: &mut P,
     clock: &C,
-    text: &[u8],
+    written: WrittenConfig,
     writer: &mut W,
 ) -> Result<(), ServerStop>
     ensures { OnOk result (IsJournalReplaced P.OldDisk.Disk.seen P.OldDisk.Disk.is_clean ⟦<FileJournal<P::NewDisk> as Journal>⟧ P.is_honest 1_000_000
-        P.Disk.Disk.seen P.Disk.Disk.may_leave P.Disk.Disk.is_clean P.held_begun text.now) }
+        P.Disk.Disk.seen P.Disk.Disk.may_leave P.Disk.Disk.is_clean P.held_begun written.text) }
 {
-    let config = config_in(alloc, Forms::Elements, text)?;
+    let (text, config) = written.into_parts();
     place.lock()?;
     if !place.find_journal()? {
         return Err(ServerStop::CannotOpen);
     }
     let renewal = Renewal {
-        text,
+        text: &text,
         config: &config,
         raise: RAISE,
     };
     let mut old = begin_reading(alloc, place.read_journal()?)?;
     drop(renew(alloc, place, clock, &renewal, &mut old)?);
     drop(old);
-    keep_checkpoint(alloc, place, clock, text, config)?;
+    keep_checkpoint(alloc, place, clock, &text, config)?;
     verify_journal(alloc, place.read_journal()?, writer)?;
     Ok(())
 }

@@ -13,7 +13,7 @@ use crate::notices::Notice;
 use crate::origins::Origin;
 use crate::places::Place;
 use crate::renewals::{Renewal, renew};
-use oai_archive::{ServerStop, begin_for, begin_reading, create_journal, has_config};
+use oai_archive::{ServerStop, begin_for, begin_reading, create_journal, forms_with_config};
 use oai_host::Config;
 use oai_item::Forms;
 use oai_journal::{FileJournal, Journal, Recovery};
@@ -57,7 +57,7 @@ pub(crate) fn prepare<P: Place, C: Clock>(
     }
     let disk = place.open_journal()?;
     let old = begin_reading(alloc, disk)?;
-    match has_config(alloc, &old, text)? {
+    match forms_with_config(alloc, &old, text)? {
         Some(forms) => Ok(Prepared {
             recovery: old,
             origin: Origin::Found,

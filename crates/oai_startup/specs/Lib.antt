@@ -2,3 +2,4 @@ pub mod Begun
 pub mod Configurations
 pub mod Rules
 pub mod Stops
+pub mod Written

@@ -4,6 +4,7 @@ ghost use Rattle.std.specs.Io.KnownBytes.{Appends};
 ghost use Rattle.std.specs.String.{string_bytes};
 ghost use Rattle.oai_host.specs.Hosts.{begun};
 ghost use Rattle.oai_config.specs.Reading.{IsRead};
+ghost use Rattle.oai_config.specs.Warnings.{warnings_of};
 ghost use Rattle.oai_startup.specs.Rules.{HaveRules};
 ghost use Rattle.oai_startup.specs.Configurations as spec;
 ghost use Rattle.oai_startup.specs.declared.stop.Stop.TheVariants.{NoMemory, OutputFault};
@@ -69,8 +70,16 @@ pub fn warnings_in(alloc: Global, forms: Forms, text: &[u8]) -> Result<String, S
         Ok(config) => config,
         Err(stop) => return Err(stop),
     };
+    warnings_of(alloc, &config)
+}
+
+/// The warnings of the configuration, each a line, as `warnings_in` returns them. The error is `NoMemory`.
+pub fn warnings_of(alloc: Global, config: &Config) -> Result<String, Stop>
+    ensures warnings { IfOk result (λ warnings. string_bytes warnings ≡ warnings_of config.now) }
+    ensures err { IfErr result (λ stop. stop ≡ NoMemory) }
+{
     let mut warnings = String::new(alloc);
-    match write_warnings(&config, &mut warnings) {
+    match write_warnings(config, &mut warnings) {
         Ok(()) => Ok(warnings),
         Err(_) => Err(Stop::NoMemory),
     }
@@ -89,17 +98,18 @@ pub fn check_config<W: Write>(
         (Appends (W.Write.contents writer.old) (W.Write.contents writer.new)) }
 {
     match config_in(alloc, forms, text) {
-        Ok(config) => write_checked(config.len(), writer),
+        Ok(config) => write_checked(&config, writer),
         Err(stop) => Err(stop),
     }
 }
 
-/// Writes the line for a configuration of that many repositories.
-fn write_checked<W: Write>(repositories: usize, writer: &mut W) -> Result<(), Stop>
+/// Writes `ok`, a space and the number of the configuration's repositories, as a line. The error is `OutputFault`.
+pub fn write_checked<W: Write>(config: &Config, writer: &mut W) -> Result<(), Stop>
     ensures written { OnOk result (Appends (W.Write.contents writer.old)
-        (W.Write.contents writer.new) (spec.checked_line repositories)) }
+        (W.Write.contents writer.new) (spec.checked_line (length config.now.repositories))) }
     ensures err { IfErr result (λ stop. stop ≡ OutputFault) }
 {
+    let repositories = config.len();
     if writeln!(writer, "ok {repositories}").is_err() {
         return Err(Stop::OutputFault);
     }

@@ -7,9 +7,14 @@ mod limits;
 mod pages;
 mod rules;
 mod stop;
+mod written_configs;
 
-pub use configurations::{check_config, config_in, host_over, read_config, read_file, warnings_in};
+pub use configurations::{
+    check_config, config_in, host_over, read_config, read_file, warnings_in, warnings_of,
+    write_checked,
+};
 pub use limits::{MAX_READS, READ_BYTES};
 pub use pages::{empty_file, host_on};
 pub use rules::rules_law;
 pub use stop::Stop;
+pub use written_configs::WrittenConfig;

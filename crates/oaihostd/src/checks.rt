@@ -1,9 +1,8 @@
 //! The check of a configuration, and of a file of deposit lines for one of its repositories.
-use crate::configurations::{Checked, Failure, read_checked};
+use crate::configurations::{Failure, read_checked};
 use oai_config::{Config, NamedConfig};
-use oai_item::Forms;
 use oai_reports::LineFile;
-use oai_startup::{Stop, check_config, read_file, warnings_in};
+use oai_startup::{Stop, read_file, warnings_of, write_checked};
 use std::io;
 
 /// Writes how many repositories the configuration in the file has, and its warnings on standard error. If there is a
@@ -14,13 +13,14 @@ pub(crate) fn run_check(
     lines: Option<&str>,
     repository: Option<&str>,
 ) -> Result<(), Failure> {
-    let Checked { text, config } = read_checked(rt, path)?;
-    check_config(rt.alloc(), Forms::Elements, &text, &mut io::writer(rt))?;
-    if let Ok(warnings) = warnings_in(rt.alloc(), Forms::Elements, &text) {
+    let written = read_checked(rt, path)?;
+    let config = written.config();
+    write_checked(config, &mut io::writer(rt))?;
+    if let Ok(warnings) = warnings_of(rt.alloc(), config) {
         let _ = eprint!(rt; "{warnings}");
     }
     match lines {
-        Some(lines) => check_lines(rt, &config, lines, repository),
+        Some(lines) => check_lines(rt, config, lines, repository),
         None => Ok(()),
     }
 }

@@ -1,19 +1,9 @@
 //! The configuration that a command is called with, and why a command ends.
 use oai_archive::ServerStop;
-use oai_config::{Config, ReadFault};
-use oai_item::Forms;
+use oai_config::ReadFault;
 use oai_keys::KeysFault;
-use oai_startup::{Stop, config_in, read_file};
+use oai_startup::{Stop, WrittenConfig, read_file};
 use std::rt::Files;
-
-/// A configuration that was read from a file.
-#[derive(Drop)]
-pub(crate) struct Checked {
-    /// The bytes of the file.
-    pub(crate) text: Vec<u8>,
-    /// The configuration in them.
-    pub(crate) config: Config,
-}
 
 /// Why a command ends before it is done.
 #[derive(Drop)]
@@ -61,11 +51,11 @@ impl From<Stop> for Failure {
 pub(crate) fn read_checked(
     rt: &(impl Files + AllocGlobal),
     path: &str,
-) -> Result<Checked, Failure> {
+) -> Result<WrittenConfig, Failure> {
     let text = read_file(rt, path)?;
-    match config_in(rt.alloc(), Forms::Elements, &text) {
-        Ok(config) => Ok(Checked { text, config }),
-        Err(Stop::BadConfig(fault)) => Err(Failure::Config(fault, text)),
-        Err(stop) => Err(Failure::from(stop)),
+    match WrittenConfig::read(rt.alloc(), text) {
+        Ok(written) => Ok(written),
+        Err((Stop::BadConfig(fault), text)) => Err(Failure::Config(fault, text)),
+        Err((stop, _)) => Err(Failure::from(stop)),
     }
 }

@@ -7,12 +7,13 @@ use oai_startup::{Stop, read_file};
 
 /// Writes how many repositories of the configuration have keys in the file, and on standard error which have none.
 pub(crate) fn run_keys(rt: &HostRuntime, config: &str, path: &str) -> Result<(), Failure> {
-    let config = read_checked(rt, config)?.config;
-    let rings = rings_in(rt, path, &config)?;
+    let written = read_checked(rt, config)?;
+    let config = written.config();
+    let rings = rings_in(rt, path, config)?;
     if println!(rt; "ok {}", rings.len()).is_err() {
         return Err(Failure::from(Stop::OutputFault));
     }
-    warn_of_open(rt, &config, &rings);
+    warn_of_open(rt, config, &rings);
     Ok(())
 }
 

@@ -13,7 +13,7 @@ mod keys;
 
 use checks::run_check;
 use clap::Error;
-use configurations::{Checked, Failure, read_checked};
+use configurations::{Failure, read_checked};
 use elements::run_xml;
 use keys::{read_rings, run_keys};
 use oai_archive::{ReadFile, ServerStop, VERSION, dump_repository, verify_journal};
@@ -85,14 +85,13 @@ fn run(rt: &HostRuntime, called: Called<'_>) -> Result<(), Failure> {
 
 /// Serves the configuration in the file on the port, with the journal in the folder, and behind the keys in a file.
 fn run_serve(rt: &HostRuntime, serving: Serving<'_>) -> Result<(), Failure> {
-    let Checked { text, config } = read_checked(rt, serving.config)?;
-    let rings = read_rings(rt, serving.keys, &config)?;
-    drop(config);
+    let written = read_checked(rt, serving.config)?;
+    let rings = read_rings(rt, serving.keys, written.config())?;
     warn_of(rt, &serving);
     let mut place = HostPlace::new(rt, serving.folder, serving.port, Wary, Wary)
         .listening_at(serving.address)
         .quiet(serving.is_quiet);
-    Ok(outcome_of(serve(rt.alloc(), &mut place, rt, &text, rings))?)
+    Ok(outcome_of(serve(rt.alloc(), &mut place, rt, written, rings))?)
 }
 
 /// Warns of an address that other machines may reach.
@@ -157,9 +156,9 @@ fn run_checkpoint(
     folder: &str,
     is_quiet: bool,
 ) -> Result<(), Failure> {
-    let text = read_checked(rt, path)?.text;
+    let written = read_checked(rt, path)?;
     let mut place = HostPlace::new(rt, folder, 0, Wary, Wary).quiet(is_quiet);
-    Ok(checkpoint_folder(rt.alloc(), &mut place, rt, &text, &mut io::writer(rt))?)
+    Ok(checkpoint_folder(rt.alloc(), &mut place, rt, written, &mut io::writer(rt))?)
 }
 
 /// Ends with the status of what was done, and writes to standard error why it was not. If that fails, its status still

@@ -8,7 +8,7 @@ returns g c = record {
     written = c.in_ok-renew.field-0;
     renewed = λ honest clean. c.in_ok-renew.ensures honest clean c.in_ok-old.ensures.begun;
   };
-  config = c.in_ok-config.config;
-  read = c.in_ok-config.ensures.read;
-  back = c.in_ok-keep_checkpoint.ensures;
+  config = c.into_parts-text.result.1;
+  read = rw c.into_parts-text.ensures.text at c.into_parts-text.ensures.read;
+  back = rw (c.deref-2.ensures.value, c.into_parts-text.ensures.text) at c.in_ok-keep_checkpoint.ensures;
 }
