@@ -1,6 +1,7 @@
 //! Hosts that are saved part by part, and restored. `save`, by how much it raises the next list numbers, and for how
-//! many parts there is room, writes the parts; `restore` and a part restores it. A part is its kind, its moment, the
-//! name of its repository, and its bytes behind ` | `.
+//! many parts there is room, writes the parts; `restore` and a part restores it. `checkpoint begin` begins a checkpoint,
+//! `checkpoint next` saves some parts of it, `checkpoint all` all others, where there is room for so many, and
+//! `checkpoint stop` gives it up. A part is its kind, its moment, the name of its repository, and its bytes behind ` | `.
 use crate::hosts::exchange;
 use crate::repositories::name_of;
 use oai_catalogue::Versions;
@@ -10,6 +11,9 @@ use std::alloc::Global;
 use std::io::{self, Write};
 use std::slice;
 use tests_samples::with_bytes;
+
+/// How many times the next parts are saved at most.
+const MOST: u64 = 1_000;
 
 /// Parts that were taken, as lines, and for how many more there is room.
 #[derive(Drop)]
@@ -47,6 +51,7 @@ pub(crate) fn save_and_restore<V: Versions + Drop>(
         match line.split_once(' ') {
             Some(("save", numbers)) => save(alloc, host, numbers, out)?,
             Some(("restore", part)) => restore(alloc, host, part, out)?,
+            Some(("checkpoint", step)) => checkpoint(alloc, host, step, out)?,
             _ => {
                 exchange(alloc, host, line, out)?;
             }
@@ -73,6 +78,57 @@ fn save<V: Versions + Drop>(
     match saved {
         Ok(()) => out.write_all(b"saved\n"),
         Err(fault) => writeln!(out, "{}", name_of_save(fault)),
+    }
+}
+
+/// Takes a step of a checkpoint, and writes the parts that were taken, and what it came to.
+fn checkpoint<V: Versions + Drop>(
+    alloc: Global,
+    host: &mut Host<V>,
+    step: &str,
+    out: &mut Vec<u8>,
+) -> io::Result<()> {
+    let (step, room) = step.split_once(' ').unwrap_or((step, "100"));
+    let mut sink = PartLines {
+        alloc,
+        room: room.parse::<u64>().unwrap_or(0),
+        lines: Vec::new(alloc),
+    };
+    let said = match step {
+        "begin" => match host.begin_saving() {
+            Ok(()) => "begun",
+            Err(fault) => name_of(fault),
+        },
+        "next" => name_of_next(host.save_next(&mut sink)),
+        "all" => name_of_next(save_all(host, &mut sink)),
+        _ => {
+            host.stop_saving();
+            "stopped"
+        }
+    };
+    out.write_all(sink.lines.as_slice())?;
+    writeln!(out, "{said}")
+}
+
+/// Saves the next parts until all are saved.
+fn save_all<V: Versions + Drop>(
+    host: &mut Host<V>,
+    sink: &mut PartLines,
+) -> Result<bool, SaveFault> {
+    for _ in 0..MOST {
+        if !host.save_next(sink)? {
+            return Ok(false);
+        }
+    }
+    Ok(true)
+}
+
+/// Whether there was more to save, or why it was not saved.
+fn name_of_next(saved: Result<bool, SaveFault>) -> &'static str {
+    match saved {
+        Ok(true) => "more",
+        Ok(false) => "all saved",
+        Err(fault) => name_of_save(fault),
     }
 }
 

@@ -130,6 +130,18 @@ impl Replayed for Shelf<'_> {
         }
     }
 
+    ghost saves = { λ shelf kept parts. Unit };
+
+    fn begin_saving(&mut self) -> Result<(), Fault> {
+        Ok(())
+    }
+
+    fn save_next<S: Sink>(&mut self, _sink: &mut S) -> Result<bool, SaveFault> {
+        Ok(false)
+    }
+
+    fn stop_saving(&mut self) {}
+
     ghost same_redone = { λ kept call. refl };
 
     ghost same_restored = { λ kept part. refl };

@@ -10,7 +10,7 @@ use oai_journal::{FileJournal, Journal, Kind, LogRecord, MAX_BODY, Recovery};
 use oai_names::Sequence;
 use oai_recovery::{Notice, Place};
 use oai_serving::{Readiness, Sockets, Stream};
-use oai_startup::Stop;
+use oai_startup::{Stop, WrittenConfig};
 use sqlite_disk::{Disk, Memory};
 use std::alloc::{AllocError, Global};
 use std::io::{self, ErrorKind};
@@ -39,7 +39,7 @@ pub(crate) fn served<C: Clock>(
 ) -> Result<Result<(), ServerStop>, ServerStop> {
     let alloc = place.alloc();
     let rings = Sequence::new(Vec::new(alloc));
-    outcome_of(serve(alloc, place, clock, text, rings))
+    outcome_of(serve(alloc, place, clock, written_in(alloc, text)?, rings))
 }
 
 /// What the client of that place received of a service of the configuration in the text, with no keys.
@@ -50,7 +50,19 @@ pub(crate) fn received<C: Clock>(
 ) -> Result<Vec<u8>, ServerStop> {
     let alloc = place.alloc();
     let rings = Sequence::new(Vec::new(alloc));
-    received_of(serve(alloc, place, clock, text, rings))
+    received_of(serve(alloc, place, clock, written_in(alloc, text)?, rings))
+}
+
+/// The configuration in the text.
+fn written_in(alloc: Global, text: &[u8]) -> Result<WrittenConfig, ServerStop> {
+    let mut copy = Vec::new(alloc);
+    if copy.extend_from_slice(text).is_err() {
+        return Err(ServerStop::Common(Stop::NoMemory));
+    }
+    match WrittenConfig::read(alloc, copy) {
+        Ok(written) => Ok(written),
+        Err((stop, _)) => Err(ServerStop::Common(stop)),
+    }
 }
 
 /// What the client received of that service, or why it did not begin.
