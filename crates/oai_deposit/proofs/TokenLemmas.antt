@@ -1,5 +1,5 @@
 -- A line of these tokens is the deposit that they spell.
-use Rattle.std.proofs.Common.{◌≡◌, ℕ, suc, ◌-◌, Bool, true, false, ◌&&◌, Option, Some, List, [], ◌∷◌, ◌++◌, map, length, codes, refl, sym, ap, ◌∙◌, arith, append_assoc}
+use Rattle.std.proofs.Common.{◌≡◌, ℕ, suc, ◌-◌, Bool, true, false, ◌&&◌, Option, Some, inl, inr, List, [], ◌∷◌, ◌++◌, map, length, codes, refl, sym, ap, ◌∙◌, arith, append_assoc}
 use Rattle.std.proofs.lemmas.List.{append-nil}
 use Rattle.std.specs.Prelude.{option_and_then, option_map, slice_get}
 use Rattle.std.specs.List.{flat_map}
@@ -23,7 +23,7 @@ use Rattle.oai_json.proofs.JsonLemmas.{json_in-Some}
 use Rattle.oai_json.proofs.TokenLemmas.{Spell, SpellMembers, array_spelled, text_spelled}
 use Rattle.oai_deposit.specs.Lines.{LineRecord, are_records_of, deposits, is_of_forms, shape_of}
 use Rattle.oai_deposit.specs.Shapes.{IsDeposit, written_field, written_given, written_record, written_records, written_texts}
-use Rattle.oai_deposit.specs.Tokens.{field_tokens, given_tokens, record_tokens, records_tokens, deposit_tokens, is_none_or_before, may_follow, IsDepositLine}
+use Rattle.oai_deposit.specs.Tokens.{field_tokens, given_tokens, record_tokens, records_tokens, sets_member, records_member, ArePartsBefore, IsDepositBefore, is_none_or_before, may_follow, IsDepositLine}
 use Rattle.oai_deposit.proofs.ShapeLemmas.{shape_law_holds}
 use Rattle.oai_deposit.proofs.ValueLemmas.{put_above}
 
@@ -82,13 +82,29 @@ records_spelled rs rise =
 abbrev alone_value : List ℕ → List (List ℕ) → List LineRecord → Data
 alone_value i s r = object_of ((codes "deposit", string i) ∷ (codes "records", written_records r) ∷ (codes "sets", written_texts s) ∷ [])
 
-deposit_spelled : (i : List ℕ) (s : List (List ℕ)) (r : List LineRecord) → are_rising r ≡ true → Spell 4 (deposit_tokens i s r) (alone_value i s r)
-deposit_spelled i s r rise =
+-- its tokens, with those of its other members, in either order
+abbrev deposit_tokens : List ℕ → List Token → List Token
+deposit_tokens i parts = Token.begin_object ∷ Token.key (codes "deposit") ∷ Token.string i ∷ parts
+
+deposit_spelled : (i : List ℕ) (s : List (List ℕ)) (r : List LineRecord) (parts : List Token) → are_rising r ≡ true
+    → ArePartsBefore s r (Token.end_object ∷ []) parts → Spell 4 (deposit_tokens i parts) (alone_value i s r)
+deposit_spelled i s r parts rise (inl are) =
     let sets = array_spelled 0 text_tokens string text_spelled s in
     let records = records_spelled r rise in (
       json.object (json.member (codes "deposit") (json.string i) (json.member (codes "sets") sets.0 (json.member (codes "records") records.0 json.no_members))),
-      ap (λ ts. Token.begin_object ∷ Token.key (codes "deposit") ∷ Token.string i ∷ Token.key (codes "sets") ∷ (ts ++ Token.key (codes "records") ∷ (tree.json_tokens records.0 ++ Token.end_object ∷ []))) sets.1
-          ∙ ap (λ ts. Token.begin_object ∷ Token.key (codes "deposit") ∷ Token.string i ∷ Token.key (codes "sets") ∷ (array_tokens text_tokens s ++ Token.key (codes "records") ∷ (ts ++ Token.end_object ∷ []))) records.1,
+      ap (λ ts. deposit_tokens i (Token.key (codes "sets") ∷ (ts ++ Token.key (codes "records") ∷ (tree.json_tokens records.0 ++ Token.end_object ∷ [])))) sets.1
+          ∙ ap (λ ts. deposit_tokens i (sets_member s ++ Token.key (codes "records") ∷ (ts ++ Token.end_object ∷ []))) records.1
+          ∙ ap (deposit_tokens i) (sym are),
+      rw (sets.2, records.2) refl,
+      omega (arith, sets.3, records.3),
+    )
+deposit_spelled i s r parts rise (inr are) =
+    let sets = array_spelled 0 text_tokens string text_spelled s in
+    let records = records_spelled r rise in (
+      json.object (json.member (codes "deposit") (json.string i) (json.member (codes "records") records.0 (json.member (codes "sets") sets.0 json.no_members))),
+      ap (λ ts. deposit_tokens i (Token.key (codes "records") ∷ (ts ++ Token.key (codes "sets") ∷ (tree.json_tokens sets.0 ++ Token.end_object ∷ [])))) records.1
+          ∙ ap (λ ts. deposit_tokens i (records_member r ++ Token.key (codes "sets") ∷ (ts ++ Token.end_object ∷ []))) sets.1
+          ∙ ap (deposit_tokens i) (sym are),
       rw (sets.2, records.2) refl,
       omega (arith, sets.3, records.3),
     )
@@ -111,9 +127,9 @@ spelled_reads text ts d same spelled =
     ∙ spelled.2
 
 pub is_deposit_line : (forms : Forms) (line text : List ℕ) (i : List ℕ) (s : List (List ℕ)) (r : List LineRecord) → text ≡ line → IsUtf8 line → are_rising r ≡ true
-    → are_records_of forms r ≡ true → tokens text ≡ deposit_tokens i s r → IsDepositLine forms line i s r
-is_deposit_line forms line text i s r same utf8 rise formed are =
-    let reads = spelled_reads text (deposit_tokens i s r) (alone_value i s r) are (deposit_spelled i s r rise) in
+    → are_records_of forms r ≡ true → IsDepositBefore i s r [] (tokens text) → IsDepositLine forms line i s r
+is_deposit_line forms line text i s r same utf8 rise formed before =
+    let reads = spelled_reads text (deposit_tokens i before.0) (alone_value i s r) before.1 (deposit_spelled i s r before.0 rise before.2) in
     (alone_value i s r, json_in-Some line (alone_value i s r) utf8 (ap read (sym same) ∙ reads), deposit_shape_is forms i s r formed)
 
 -- ---- loops

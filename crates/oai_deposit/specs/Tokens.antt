@@ -1,5 +1,5 @@
--- The tokens of a deposit line with its members in the order deposit, sets, records. RFC 8259, sections 2, 4, 5 and 7.
-use Rattle.std.specs.Prelude.{◌≡◌, ℕ, ◌-◌, Bool, true, List, [], ◌∷◌, ◌++◌, length, slice_get, codes, Option, Some, None}
+-- The tokens of a deposit line whose first member is deposit, without about. RFC 8259, sections 2, 4, 5 and 7.
+use Rattle.std.specs.Prelude.{◌≡◌, ◌⊎◌, ℕ, ◌-◌, Bool, true, List, [], ◌∷◌, ◌++◌, length, slice_get, codes, Option, Some, None}
 use Rattle.std.specs.List.{flat_map}
 use Rattle.json.specs.Token.{Token}
 use Rattle.serde_json.specs.Data.{Data}
@@ -29,11 +29,25 @@ record_tokens r = Token.key r.0 ∷ given_tokens r.1
 abbrev pub records_tokens : List LineRecord → List Token
 records_tokens records = Token.begin_object ∷ (flat_map record_tokens records ++ Token.end_object ∷ [])
 
--- {"deposit":ID,"sets":[SPEC,..],"records":{PREFIX:[[NAME,TEXT],..],PREFIX:TEXT,..}}
-abbrev pub deposit_tokens : List ℕ → List (List ℕ) → List LineRecord → List Token
-deposit_tokens identifier sets records =
-    Token.begin_object ∷ Token.key (codes "deposit") ∷ Token.string identifier ∷ Token.key (codes "sets")
-    ∷ (array_tokens text_tokens sets ++ Token.key (codes "records") ∷ (records_tokens records ++ Token.end_object ∷ []))
+-- "sets":[SPEC,..]
+abbrev pub sets_member : List (List ℕ) → List Token
+sets_member sets = Token.key (codes "sets") ∷ array_tokens text_tokens sets
+
+-- "records":{PREFIX:[[NAME,TEXT],..],PREFIX:TEXT,..}
+abbrev pub records_member : List LineRecord → List Token
+records_member records = Token.key (codes "records") ∷ records_tokens records
+
+-- these two members in either order, and then the rest
+abbrev pub ArePartsBefore : List (List ℕ) → List LineRecord → List Token → List Token → Type 0
+ArePartsBefore sets records rest all =
+    (all ≡ sets_member sets ++ (records_member records ++ rest)) ⊎ (all ≡ records_member records ++ (sets_member sets ++ rest))
+
+-- {"deposit":ID,"sets":[SPEC,..],"records":{PREFIX:[[NAME,TEXT],..],PREFIX:TEXT,..}}, the last two members in either
+-- order, and then the rest
+abbrev pub IsDepositBefore : List ℕ → List (List ℕ) → List LineRecord → List Token → List Token → Type 0
+IsDepositBefore identifier sets records rest all =
+    (parts : List Token) × (all ≡ Token.begin_object ∷ Token.key (codes "deposit") ∷ Token.string identifier ∷ parts)
+    × ArePartsBefore sets records (Token.end_object ∷ rest) parts
 
 -- the record, if there is one, precedes the prefix, byte by byte
 abbrev pub is_none_or_before : Option LineRecord → List ℕ → Bool

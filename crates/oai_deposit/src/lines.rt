@@ -35,7 +35,7 @@ use std::alloc::Global;
 /// A record is a list of fields or, if the forms say so, a text that is an XML element, and is then given by its canonical
 /// text; so is what may be given about it. The errors, in this order: `BadJson`, `BadCommand`, `BadXml`, `BadIdentifier`, `BadSetSpec`, `BadText`, each for
 /// the whole line before the next; and at any point `NoMemory`, but not for a line that is empty or not in UTF-8. Of two members
-/// with one name the last counts. A deposit with its members in the order `deposit`, `sets`, `records`, and no
+/// with one name the last counts. A deposit of `deposit`, and then `sets` and `records` in either order, and no
 /// other, under rising prefixes, is read without making a JSON value of it; each text of a line is copied from the parser's result at most
 /// once.
 #[tactic(auto, using(crate::proofs::LineLemmas::no_text))]

@@ -1,5 +1,5 @@
-//! Deposits that are read from the tokens of their line, without making a JSON value: those with their members in the
-//! order `deposit`, `sets`, `records`, under rising prefixes, and no other.
+//! Deposits that are read from the tokens of their line, without making a JSON value: those with the member `deposit`
+//! first, then `sets` and `records` in either order (a dump has `records` first), under rising prefixes, and no other.
 
 ghost use Rattle.std.specs.Prelude.{◌≡◌, [], ◌∷◌, ◌++◌, map, true, IfSome};
 ghost use Rattle.std.specs.List.{flat_map};
@@ -25,7 +25,7 @@ use std::alloc::Global;
 const USUAL_FIELDS: usize = 8;
 
 /// The texts of the deposit in the line, with records of these forms. `None` says nothing about the line: it may be a
-/// deposit in another order, any other line, or memory ran out.
+/// deposit in another order or with `about`, any other line, or memory ran out.
 pub(crate) fn read_deposit<'a>(
     alloc: Global,
     forms: Forms,
@@ -52,18 +52,14 @@ fn take_deposit<'a>(
     reader: &mut Reader<'a>,
 ) -> Option<DepositTexts<'a>>
     ensures formed { IfSome result (λ texts. are_records_of forms texts.records ≡ true) }
-    ensures taken { IfSome result (λ texts. reader.old
-        ≡ tokens.deposit_tokens texts.identifier.now (map (λ set. set.now) texts.sets.items) texts.records
-        ++ reader.new) }
+    ensures taken { IfSome result (λ texts. tokens.IsDepositBefore texts.identifier.now
+        (map (λ set. set.now) texts.sets.items) texts.records reader.new reader.old) }
     ensures alone { IfSome result (λ texts. texts.abouts ≡ []) }
 {
     take_begin_object(reader)?;
     take_key(reader, "deposit")?;
     let identifier = take_text(reader)?;
-    take_key(reader, "sets")?;
-    let sets = take_texts(alloc, reader)?;
-    take_key(reader, "records")?;
-    let records = take_records(alloc, forms, reader)?;
+    let (sets, records) = take_parts(alloc, forms, reader)?;
     take_end_object(reader)?;
     Some(DepositTexts {
         identifier,
@@ -71,6 +67,31 @@ fn take_deposit<'a>(
         records,
         abouts: AboutTexts::none(),
     })
+}
+
+/// Reads the next two members, `sets` and `records` in either order.
+fn take_parts<'a>(
+    alloc: Global,
+    forms: Forms,
+    reader: &mut Reader<'a>,
+) -> Option<(Vec<&'a str>, RecordTexts)>
+    ensures formed { IfSome result (λ parts. are_records_of forms parts.1 ≡ true) }
+    ensures taken { IfSome result (λ parts. tokens.ArePartsBefore
+        (map (λ set. set.now) parts.0.items) parts.1 reader.new reader.old) }
+{
+    match reader.next_key().ok()?? {
+        "sets" => {
+            let sets = take_texts(alloc, reader)?;
+            take_key(reader, "records")?;
+            Some((sets, take_records(alloc, forms, reader)?))
+        }
+        "records" => {
+            let records = take_records(alloc, forms, reader)?;
+            take_key(reader, "sets")?;
+            Some((take_texts(alloc, reader)?, records))
+        }
+        _ => None,
+    }
 }
 
 /// Reads the next object of records, whose prefixes rise.

@@ -1,9 +1,8 @@
-use Rattle.std.proofs.Common.{◌≡◌, [], ◌++◌, ℕ, List, Bor, map, true, ap, refl, ◌∙◌, rules}
-use Rattle.std.proofs.lemmas.List.{append-nil}
+use Rattle.std.proofs.Common.{◌≡◌, [], ℕ, List, Bor, map, true, refl, subst, rules}
 use Rattle.json.specs.Lex.{tokens}
 use Rattle.oai_item.specs.Item.{are_rising}
 use Rattle.oai_deposit.specs.Lines.{are_records_of}
-use Rattle.oai_deposit.specs.Tokens.{deposit_tokens}
+use Rattle.oai_deposit.specs.Tokens.{IsDepositBefore}
 use Rattle.oai_deposit.proofs.TokenLemmas.{is_deposit_line}
 use Rattle.oai_deposit.proofs.tokens.read_deposit.Goals as goal
 
@@ -16,6 +15,6 @@ returns-clause-line c =
     let rise : are_rising records ≡ true = search rules in
     let formed : are_records_of c.args.forms records ≡ true = search rules in
     let none : c.take_deposit.new.reader ≡ [] = search rules in
-    let are : tokens line ≡ deposit_tokens identifier sets records ++ c.take_deposit.new.reader = search rules in
+    let taken : IsDepositBefore identifier sets records c.take_deposit.new.reader (tokens line) = search rules in
     is_deposit_line c.args.forms line line identifier sets records refl c.requires rise formed
-    (are ∙ ap (λ ts. deposit_tokens identifier sets records ++ ts) none ∙ append-nil (deposit_tokens identifier sets records))
+    (subst (λ ts. IsDepositBefore identifier sets records ts (tokens line)) none taken)
