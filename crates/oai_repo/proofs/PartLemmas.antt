@@ -1,5 +1,5 @@
 -- The part of a list that is answered, by the numbers that the table keeps of the list.
-use Rattle.std.proofs.Common.{◌≡◌, ◌∙◌, ℕ, ℤ, ◌+◌, List, length, ap}
+use Rattle.std.proofs.Common.{◌≡◌, ◌∙◌, ℕ, ℤ, ◌+◌, ◌-◌, ◌<◌, min, List, length, ap, arith}
 use Rattle.oai_item.specs.Item.{ItemState}
 use Rattle.oai_answers.specs.Answers.{Page}
 use Rattle.oai_settings.specs.Config.{RepositoryConfig}
@@ -23,3 +23,7 @@ part_is config list items number size cursor end one two three four =
     ∙ ap (λ s. part_with config list.number end s cursor items) two
     ∙ ap (λ e. part_with config list.number e (length list.items) cursor items) three
     ∙ ap (part_with config list.number list.end (length list.items) cursor) four
+
+-- the first part of a longer list ends after as many records as a part may have
+pub first_end : (chunk size next : ℕ) → next ≡ 0 + min chunk (size - 0) → chunk < size → next ≡ chunk
+first_end chunk size next is beyond = omega (arith, is, beyond)

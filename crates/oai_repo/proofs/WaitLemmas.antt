@@ -82,6 +82,17 @@ waits_spent config now table all limit h =
     waits_is config now table all limit
     ∙ waits_if_spent (full_in table now) (eqb table.next LAST_NUMBER) table.next (seconds_to_end now (open_lists_of now table all).lists) (pos config.lifetime) (sym (ap (λ f. number_or_fault f table.next) (fault_is table now)) ∙ h)
 
+-- to look whether it may begin takes no memory
+spends_nothing : (full spent : Bool) (next : ℕ) → number_or_fault (fault_of full spent) next ≡ Err NoMemory → ⊥
+unfolding fault_of
+spends_nothing true spent next h = cc
+spends_nothing false true next h = cc
+spends_nothing false false next h = cc
+
+pub takes_no_memory : (table : Table) (now : ℤ) → number_or_fault (open_fault table now) table.next ≡ Err NoMemory → ⊥
+takes_no_memory table now h =
+    spends_nothing (full_in table now) (eqb table.next LAST_NUMBER) table.next (sym (ap (λ f. number_or_fault f table.next) (fault_is table now)) ∙ h)
+
 -- a list that was not opened has left the table as it was
 pub opening_failed : (old : Table) (now : ℤ) (list : OpenList) (fault : OpenListFault) (new : Table) → IsListOpening old now list (Err fault) new → new ≡ old
 opening_failed old now list Full new h = h.1

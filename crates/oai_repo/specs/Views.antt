@@ -207,6 +207,11 @@ view_new_list repo table lists selection wait =
 abbrev pub view_wait : RepoView → Table → VersionLists → Option ℤ
 view_wait repo table lists = wait_at repo.config.now repo.clock (view_open_lists repo table lists)
 
+-- the seconds to wait, in place of a number
+abbrev pub wait_in : Result ℕ ℤ → Option ℤ
+wait_in (Ok number) = None
+wait_in (Err seconds) = Some seconds
+
 -- to a token
 abbrev pub view_token_response : RepoView → Table → VersionLists → ListVerb → List ℕ → Response × OpenLists
 view_token_response repo table lists verb text = token_response repo.config.now repo.clock (view_open_lists repo table lists) verb (token_of text)

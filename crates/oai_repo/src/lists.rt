@@ -15,10 +15,10 @@ ghost use Rattle.oai_repo.specs.Answers as spec;
 ghost use Rattle.oai_repo.specs.Fields.{AreInUse, is_place_in, open_lists_of, versions_in};
 ghost use Rattle.oai_repo.specs.Listing as listing;
 ghost use Rattle.oai_repo.specs.Replays.{AreAsBefore};
-ghost use Rattle.oai_repo.specs.Tables.{dropped_at, has_end, version_ended, without_version};
-ghost use Rattle.oai_repo.specs.Views.{HasListBegun, IsBeyondPart, IsFilter, IsOfFormat, IsReady, IsSelectionOrError, IsViewReply, LeavesTableAndLists, document_reply, first_items, view_list_response, view_new_list, view_open_lists, view_selected, view_selection_response, view_wait};
+ghost use Rattle.oai_repo.specs.Tables.{IsKeptTable, dropped_at, has_end, version_ended, without_version};
+ghost use Rattle.oai_repo.specs.Views.{HasListBegun, IsBeyondPart, IsFilter, IsOfFormat, IsReady, IsSelectionOrError, IsViewReply, LeavesTableAndLists, document_reply, first_items, view_list_response, view_new_list, view_open_lists, view_selected, view_selection_response, view_wait, wait_in};
 
-use crate::parts::mark_behind;
+use crate::parts::{end_of_part, mark_behind};
 use crate::responses::{Replied, Reply, make_reply, reply_with_error};
 use crate::tokens::{ListPart, reply_with_part};
 use crate::view::RepoView;
@@ -216,11 +216,26 @@ fn open_list<V: Versions>(
     ensures left { LeavesTableAndLists V.Versions result repo.now lists.old store.old lists.new store.new }
     ensures store { Spends V.room V.failures V.honest 1 result store.old store.new }
 {
-    match lists.next(repo.clock) {
+    match number_or_wait(repo, lists) {
         Ok(number) => start_list(repo, lists, store, selection, first, number),
-        Err(OpenListFault::Full) => Ok(Replied::later(seconds_to_end(lists, repo.clock))),
-        Err(OpenListFault::NumbersSpent) => Ok(Replied::later(repo.lifetime())),
-        Err(OpenListFault::NoMemory) => Err(Fault::NoMemory),
+        Err(seconds) => Ok(Replied::later(seconds)),
+    }
+}
+
+/// The number of a list that begins now. The error is how many seconds to wait: as many lists are open as may be, or no
+/// number is left.
+pub(crate) fn number_or_wait(repo: &RepoView<'_>, lists: &Lists) -> Result<u64, i64>
+    requires dated { is_in_years repo.now.clock ≡ true }
+    requires kept { IsKeptTable repo.now.config.now lists.now }
+    ensures number { IfOk result (λ number. number_or_fault (open_fault lists.now repo.now.clock) lists.now.next
+        ≡ Ok number) }
+    ensures wait { (all : Versioned) → view_wait repo.now lists.now all ≡ wait_in result }
+{
+    match lists.next(repo.clock) {
+        Ok(number) => Ok(number),
+        Err(OpenListFault::Full) => Err(seconds_to_end(lists, repo.clock)),
+        Err(OpenListFault::NumbersSpent) => Err(repo.lifetime()),
+        Err(OpenListFault::NoMemory) => unreachable!(),
     }
 }
 
@@ -246,15 +261,18 @@ fn start_list<V: Versions>(
     ensures left { LeavesTableAndLists V.Versions result repo.now lists.old store.old lists.new store.new }
     ensures store { Spends V.room V.failures V.honest 1 result store.old store.new }
 {
-    let size = count_beyond(repo, store, &selection.filter, first)?;
+    let size = count_selected(repo, store, &selection.filter, first)?;
+    let extent = Extent { size, cursor: 0 };
+    let next = end_of_part(repo.config.chunk(), extent);
     let part = ListPart {
         number,
         end: repo.end(),
-        extent: Extent { size, cursor: 0 },
+        extent,
+        next,
     };
-    let items = &first[..repo.config.chunk() as usize];
+    let items = &first[..next as usize];
     let reply = reply_with_part(repo, selection.verb, selection.format, items, part)?;
-    let mark = mark_behind(repo.alloc, items, repo.config.chunk());
+    let mark = mark_behind(repo.alloc, items, next);
     start_unread(repo, lists, store, selection, size, mark)?;
     Ok(Replied::with_part(reply))
 }
@@ -303,9 +321,9 @@ pub(crate) fn start_unread<V: Versions>(
     }
 }
 
-/// How many items the filter selects; the first of them are known, one more than a part of a list may have. Any fault
-/// but `TooManyPages` may come, and `Damaged` if the store counts fewer.
-fn count_beyond<V: Versions>(
+/// How many items the filter selects, the size that each part of the list says; the first of them are known, one more
+/// than a part may have. Any fault but `TooManyPages` may come, and `Damaged` if the store counts fewer.
+fn count_selected<V: Versions>(
     repo: &RepoView<'_>,
     store: &mut V,
     filter: &Filter,

@@ -1,5 +1,5 @@
 //! Replays requests: what each leaves of the open lists, without a reply.
-ghost use Rattle.std.specs.Prelude.{◌≡◌, ◌<◌, ◌+◌, ◌-◌, length, min, true, None, IsTrue, OnOk};
+ghost use Rattle.std.specs.Prelude.{◌≡◌, length, true, IsTrue, OnOk};
 ghost use Rattle.oai_args.specs.Asks.{asks};
 ghost use Rattle.oai_args.specs.Pairs.{decoded_pairs};
 ghost use Rattle.oai_args.specs.Requests.{is_by_record_verb, request_of};
@@ -8,17 +8,18 @@ ghost use Rattle.oai_catalogue.specs.Store.{Spends, VersionLists as Versioned};
 ghost use Rattle.oai_settings.specs.Config.{is_in_years};
 ghost use Rattle.oai_repo.specs.Calls.{room_to_ask};
 ghost use Rattle.oai_repo.specs.Fields.{AreInUse, TableAgrees};
-ghost use Rattle.oai_repo.specs.Listing as listing;
 ghost use Rattle.oai_repo.specs.Tables.{IsKeptTable, IsLeftOpen};
 ghost use Rattle.oai_repo.specs.Views.{IsOfFormat, IsReady, LeavesTableAndLists, view_ask_response, view_list_response, view_numbers, view_open_lists, view_response, view_selected, view_selection_response, view_token_response};
 
-use crate::lists::{ListRequest, Selection, selection_of, start_unread};
+use crate::lists::{ListRequest, Selection, number_or_wait, selection_of, start_unread};
+use crate::parts::end_of_part;
 use crate::tokens::{chunk_of, continued, cursor_behind};
 use crate::view::RepoView;
+use oai_answers::Extent;
 use oai_args::{ArgFault, Ask, read_request};
 use oai_catalogue::Versions;
 use oai_item::Fault;
-use oai_lists::{Lists, OpenList, OpenListFault};
+use oai_lists::Lists;
 use oai_names::ListVerb;
 use std::alloc::Global;
 
@@ -154,11 +155,9 @@ fn pass_counted<V: Versions>(
     if size <= repo.config.chunk() {
         return Ok(());
     }
-    match lists.next(repo.clock) {
+    match number_or_wait(repo, lists) {
         Ok(_) => start_unread(repo, lists, store, selection, size, None),
-        Err(OpenListFault::Full) => Ok(()),
-        Err(OpenListFault::NumbersSpent) => Ok(()),
-        Err(OpenListFault::NoMemory) => Err(Fault::NoMemory),
+        Err(_) => Ok(()),
     }
 }
 
@@ -180,16 +179,10 @@ fn pass_part(repo: &RepoView<'_>, lists: &mut Lists, verb: ListVerb, token: &str
     let Some((at, list, cursor)) = continued(lists, repo.clock, chunk, verb, token) else {
         return;
     };
-    let next = next_cursor(list, chunk, cursor);
+    let extent = Extent {
+        size: list.size,
+        cursor,
+    };
+    let next = cursor_behind(list.size, end_of_part(chunk, extent));
     lists.carry_on(at, repo.end(), next, None);
-}
-
-/// The cursor of the token of the part of the list that begins after its first `cursor` records, at most `chunk` of
-/// them. None if no more records remain.
-fn next_cursor(list: &OpenList, chunk: u64, cursor: u64) -> Option<u64>
-    requires within { cursor < list.now.size }
-    ensures { result
-        ≡ listing.cursor_behind list.now.size (cursor + min chunk (list.now.size - cursor)) }
-{
-    cursor_behind(list.size, cursor + chunk.min(list.size - cursor))
 }

@@ -1,5 +1,5 @@
 //! Resumption tokens (OAI-PMH 2.0, section 3.5): parts of a list, and the token for the next one.
-ghost use Rattle.std.specs.Prelude.{◌≡◌, ◌≢◌, ◌<◌, ◌≤◌, ◌+◌, length, slice_get, true, Some, IfOk, IfSome, IsSome, IsTrue, OnSome};
+ghost use Rattle.std.specs.Prelude.{◌≡◌, ◌≢◌, ◌+◌, length, slice_get, true, Some, IfOk, IfSome, IsSome, IsTrue, OnSome};
 ghost use Rattle.std.specs.Option.{option_map};
 ghost use Rattle.oai_time.specs.Stamp.{IsWritable};
 ghost use Rattle.oai_item.specs.Formats.{format_named};
@@ -16,7 +16,7 @@ ghost use Rattle.oai_repo.specs.Tables.{table_continued};
 ghost use Rattle.oai_repo.specs.Views.{IsContinuing, IsReady, IsViewReply, LeavesTableAndLists, document_reply, view_token_response};
 
 use crate::lists::answer_by_verb;
-use crate::parts::{mark_behind, read_part};
+use crate::parts::{end_of_part, mark_behind, read_part};
 use crate::responses::{Replied, Reply, make_reply, reply_with_error};
 use crate::view::RepoView;
 use oai_answers::{ErrorCode, Extent, Listed, Remaining, Resumption};
@@ -36,6 +36,8 @@ pub(crate) struct ListPart {
     pub(crate) end: i64,
     /// How many records the list has, and how many of them precede the part.
     pub(crate) extent: Extent,
+    /// How many of them there are up to the end of the part.
+    pub(crate) next: u64,
 }
 
 /// A part of a list that was continued, with its answer.
@@ -159,16 +161,19 @@ fn reply_from<V: Versions>(
         → is_place_in (items_frozen (V.lists store.old) list.now) part.mark ≡ true) }
     ensures reads { OnlyReads V.Versions result store.old store.new }
 {
-    let items = read_part(store, list, cursor, repo.config.chunk())?;
+    let extent = Extent {
+        size: list.size,
+        cursor,
+    };
+    let chunk = repo.config.chunk();
+    let next = end_of_part(chunk, extent);
+    let items = read_part(store, list, cursor, chunk, next)?;
     let part = ListPart {
         number: list.number,
         end: repo.end(),
-        extent: Extent {
-            size: list.size,
-            cursor,
-        },
+        extent,
+        next,
     };
-    let next = end_of_part(part.extent, items.as_slice());
     let format = format_of(repo.config, list);
     let reply = reply_with_part(repo, verb, format, items.as_slice(), part)?;
     Ok(AnsweredPart {
@@ -176,14 +181,6 @@ fn reply_from<V: Versions>(
         next: cursor_behind(list.size, next),
         mark: mark_behind(repo.alloc, items.as_slice(), next),
     })
-}
-
-/// How many records of a list there are up to the end of the part: those before it, and the part's own.
-fn end_of_part(extent: Extent, items: &[Item]) -> u64
-    requires within { extent.cursor + length items.now ≤ extent.size }
-    ensures { result ≡ extent.cursor + length items.now }
-{
-    extent.cursor + items.len() as u64
 }
 
 /// The cursor of the token of a part, if `next` of the list's `size` records come up to its end. None if no more
@@ -215,7 +212,7 @@ pub(crate) fn reply_with_part(
 ) -> Result<Reply, AllocError>
     requires dated { is_in_years repo.now.clock ≡ true }
     requires end { IsWritable part.end }
-    requires within { part.extent.cursor + length items.now ≤ part.extent.size }
+    requires next { part.next ≡ part.extent.cursor + length items.now }
     requires lists { is_of_records verb ≡ true }
     ensures { IfOk result (λ reply. reply ≡ document_reply repo.now
         (listing.answer_by_verb verb format.now (record {
@@ -225,14 +222,13 @@ pub(crate) fn reply_with_part(
               (part.extent.cursor + length items.now);
         }))) }
 {
-    let next = end_of_part(part.extent, items);
-    if part.extent.size <= next {
+    if part.extent.size <= part.next {
         let list = listed(repo, items, Resumption::Last(part.extent));
         return make_reply(repo, answer_by_verb(verb, format, list));
     }
     let token = Token {
         list: part.number,
-        cursor: next,
+        cursor: part.next,
     };
     let token = token.to_string(repo.alloc)?;
     let remaining = Remaining {

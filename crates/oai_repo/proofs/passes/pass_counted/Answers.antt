@@ -1,13 +1,8 @@
 -- How many items are selected says whether a list begins.
-use Rattle.std.proofs.Common.{◌≡◌, ◌∙◌, ◌<◌, ◌≤◌, List, Some, None, Err, IsTrue, refl, sym, ap, length, FitsSigned, w64}
-use Rattle.std.proofs.lemmas.Int.{to_z-of_z}
+use Rattle.std.proofs.Common.{◌≡◌, ◌∙◌, ◌<◌, ◌≤◌, List, Some, None, IsTrue, refl, sym, length}
 use Rattle.oai_item.specs.Item.{ItemState}
-use Rattle.oai_lists.specs.OpenLists.{number_or_fault, open_fault}
-use Rattle.oai_lists.specs.declared.lists.OpenListFault.TheVariants.{Full, NumbersSpent}
 use Rattle.oai_repo.specs.Views.{view_new_list, view_open_lists, view_selected, view_selection_response}
-use Rattle.oai_repo.proofs.ClockLemmas.{years_fit}
 use Rattle.oai_repo.proofs.PassLemmas.{selection_few, selection_many}
-use Rattle.oai_repo.proofs.WaitLemmas.{may_begin, waits_full, waits_spent}
 use Rattle.oai_holdings.proofs.IndexLemmas.{on_ok}
 use Rattle.oai_repo.proofs.passes.pass_counted.Goals as goal
 
@@ -26,45 +21,28 @@ start_unread-requires-clause-mark g c = λ honest. refl
 pub returns-in-Ok-clause-passed : goal.returns-in-Ok-clause-passed
 returns-in-Ok-clause-passed g c =
     let V = g.V.Versions in
-    let fits_now : FitsSigned w64 c.args.repo.now.clock = years_fit c.args.repo.now.clock c.requires.ready.dated in
     let repo = c.args.repo.now in
     let table = c.args.lists.now in
     let all = V.lists c.args.store.now in
     let selection = c.args.selection in
     let chosen : List ItemState = view_selected repo all selection.filter in
     let after = view_open_lists repo c.start_unread.new.lists (V.lists c.start_unread.new.store) in
-    let next = simp to_z-of_z at (sym c.in-Ok.ensures) in
-    let none = may_begin repo.config.now repo.clock table all c.in-Ok.field-0 c.requires.ready.kept.limit next in
+    let none = rw c.in-Ok.is at (c.number_or_wait.ensures.wait all) in
     let from : (IsTrue (V.honest c.args.store.now) → after ≡ (view_new_list repo table all selection None).1)
     → IsTrue (V.honest c.args.store.now) → after ≡ (view_selection_response repo table all selection).1 =
     λ begun honest.
     let many : repo.config.now.chunk < length chosen = rw (c.chunk.ensures.chunk, c.requires.size honest) at c.if-size-chunk.false in
-    begun honest ∙ sym (selection_many repo.config.now repo.clock (view_open_lists repo table all) selection.verb selection.format.now chosen None many none.0)
+    begun honest ∙ sym (selection_many repo.config.now repo.clock (view_open_lists repo table all) selection.verb selection.format.now chosen None many none)
     in
     on_ok c.start_unread.result _ _ from c.start_unread.ensures.passed
 
-pub returns-in-Err-Full-clause-passed : goal.returns-in-Err-Full-clause-passed
-returns-in-Err-Full-clause-passed g c = λ honest.
-    let fits_now : FitsSigned w64 c.args.repo.now.clock = years_fit c.args.repo.now.clock c.requires.ready.dated in
+pub returns-in-Err-clause-passed : goal.returns-in-Err-clause-passed
+returns-in-Err-clause-passed g c = λ honest.
     let repo = c.args.repo.now in
     let table = c.args.lists.now in
     let all = g.V.Versions.lists c.args.store.now in
     let selection = c.args.selection in
     let chosen : List ItemState = view_selected repo all selection.filter in
-    let next : number_or_fault (open_fault table repo.clock) table.next ≡ Err Full = simp to_z-of_z at (sym c.next.ensures ∙ c.in-Err-Full.is ∙ ap (λ f. Err f) c.in-Err-Full.field-0-is) in
-    let full = waits_full repo.config.now repo.clock table all c.requires.ready.kept.limit next in
+    let some = rw c.in-Err.is at (c.number_or_wait.ensures.wait all) in
     let many : repo.config.now.chunk < length chosen = rw (c.chunk.ensures.chunk, c.requires.size honest) at c.if-size-chunk.false in
-    sym (selection_many repo.config.now repo.clock (view_open_lists repo table all) selection.verb selection.format.now chosen (Some _) many full)
-
-pub returns-in-Err-NumbersSpent-clause-passed : goal.returns-in-Err-NumbersSpent-clause-passed
-returns-in-Err-NumbersSpent-clause-passed g c = λ honest.
-    let fits_now : FitsSigned w64 c.args.repo.now.clock = years_fit c.args.repo.now.clock c.requires.ready.dated in
-    let repo = c.args.repo.now in
-    let table = c.args.lists.now in
-    let all = g.V.Versions.lists c.args.store.now in
-    let selection = c.args.selection in
-    let chosen : List ItemState = view_selected repo all selection.filter in
-    let next : number_or_fault (open_fault table repo.clock) table.next ≡ Err NumbersSpent = simp to_z-of_z at (sym c.next.ensures ∙ c.in-Err-NumbersSpent.is ∙ ap (λ f. Err f) c.in-Err-NumbersSpent.field-0-is) in
-    let spent = waits_spent repo.config.now repo.clock table all c.requires.ready.kept.limit next in
-    let many : repo.config.now.chunk < length chosen = rw (c.chunk.ensures.chunk, c.requires.size honest) at c.if-size-chunk.false in
-    sym (selection_many repo.config.now repo.clock (view_open_lists repo table all) selection.verb selection.format.now chosen (Some _) many spent)
+    sym (selection_many repo.config.now repo.clock (view_open_lists repo table all) selection.verb selection.format.now chosen (Some _) many some)

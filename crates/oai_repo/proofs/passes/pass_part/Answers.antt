@@ -1,10 +1,10 @@
 -- The list that the token continues is that of the state, and what is left is the table in which it is kept open.
-use Rattle.std.proofs.Common.{◌∙◌, ℕ, None, Option, is_some, true, ap, refl, sym, FitsSigned, w64}
+use Rattle.std.proofs.Common.{◌∙◌, ℕ, None, Option, is_some, true, ap, refl, sym, arith, FitsSigned, w64}
 use Rattle.std.proofs.lemmas.Bool.{eqb-true, ltb-true}
 use Rattle.std.proofs.lemmas.Int.{to_z-of_z}
 use Rattle.oai_lists.specs.Tokens.{token_of}
 use Rattle.oai_repo.specs.Fields.{frozen_in, is_counted, open_lists_of}
-use Rattle.oai_repo.specs.Listing.{Response, with_carried_on}
+use Rattle.oai_repo.specs.Listing.{Response, cursor_behind, with_carried_on}
 use Rattle.oai_repo.specs.State.{OpenLists}
 use Rattle.oai_repo.proofs.OpenListLemmas.{all_true, left_kept, left_same_table, open_lists_kept, open_parts, table_agrees_kept}
 use Rattle.oai_repo.proofs.ClockLemmas.{years_fit}
@@ -12,12 +12,13 @@ use Rattle.oai_repo.proofs.PassLemmas.{next_by_size}
 use Rattle.oai_repo.proofs.TokenLemmas.{goes_on, stops, token_found, valid_within}
 use Rattle.oai_repo.proofs.passes.pass_part.Goals as goal
 
-pub next_cursor-next-requires : goal.next_cursor-next-requires
-next_cursor-next-requires c =
+pub end_of_part-requires : goal.end_of_part-requires
+end_of_part-requires c =
     let fits_now : FitsSigned w64 c.args.repo.now.clock = years_fit c.args.repo.now.clock c.requires.dated in
     let list = c.in-Some.list.now in
     let found = token_found c.args.repo.now.clock c.chunk_of-chunk.result c.args.verb c.args.lists.now.lists (token_of c.args.token.now) list c.in-Some.cursor (simp to_z-of_z at c.in-Some.ensures.found) in
-    record { within = ltb-true c.in-Some.cursor list.size (valid_within c.chunk_of-chunk.result list.size list.given c.in-Some.cursor found.2.valid) }
+    let within = ltb-true c.in-Some.cursor list.size (valid_within c.chunk_of-chunk.result list.size list.given c.in-Some.cursor found.2.valid) in
+    record { within = omega (arith, within) }
 
 pub carry_on-requires : goal.carry_on-requires
 carry_on-requires c = ap is_some c.in-Some.ensures.placed
@@ -47,11 +48,11 @@ returns-clause-passed c = λ all agrees.
     let on = goes_on config repo.clock c.args.verb table all list cursor (token_of c.args.token.now) token.0 token.1 token.2 agrees.counted in
     let there = open_parts token.0.list repo.clock (is_counted all) table.lists list token.2.there agrees.counted in
     let opened = rw (sym there.0) at token.2.there in
-    let next = rw c.chunk_of-chunk.ensures.chunk at c.next_cursor-next.ensures in
+    let next = c.cursor_behind-next.ensures ∙ ap (cursor_behind list.size) (rw c.chunk_of-chunk.ensures.chunk at c.end_of_part.ensures) in
     let behind = next ∙ next_by_size config (frozen_in all list) list.size cursor (eqb-true list.size _ there.2) in
     let kept = simp to_z-of_z at (c.carry_on.ensures list c.in-Some.ensures.placed) in
     rw kept
-    (open_lists_kept config repo.clock c.end.result c.next_cursor-next.result None list.number table all list c.end.ensures.end c.end.ensures.later c.in-Some.ensures.valid opened
+    (open_lists_kept config repo.clock c.end.result c.cursor_behind-next.result None list.number table all list c.end.ensures.end c.end.ensures.later c.in-Some.ensures.valid opened
     ∙ ap (λ (next : Option ℕ). with_carried_on config repo.clock list.number next (open_lists_of repo.clock table all)) behind
     ∙ sym (ap (λ (r : Response × OpenLists). r.1) on))
 
@@ -66,7 +67,7 @@ returns-clause-left c = λ all stands.
     let there = open_parts found.0.list repo.clock (λ _. true) table.lists list found.2.there (all_true table.lists) in
     let opened = rw (sym there.0) at found.2.there in
     let kept = simp to_z-of_z at (c.carry_on.ensures list c.in-Some.ensures.placed) in
-    rw kept (left_kept repo.config.now repo.clock c.end.result c.next_cursor-next.result None list.number repo.index.now.version table all c.end.ensures.last c.requires.kept stands (ap is_some opened))
+    rw kept (left_kept repo.config.now repo.clock c.end.result c.cursor_behind-next.result None list.number repo.index.now.version table all c.end.ensures.last c.requires.kept stands (ap is_some opened))
 
 pub returns-clause-agrees : goal.returns-clause-agrees
 returns-clause-agrees c = λ all agrees.
@@ -79,4 +80,4 @@ returns-clause-agrees c = λ all agrees.
     let there = open_parts found.0.list repo.clock (λ _. true) table.lists list found.2.there (all_true table.lists) in
     let opened = rw (sym there.0) at found.2.there in
     let kept = simp to_z-of_z at (c.carry_on.ensures list c.in-Some.ensures.placed) in
-    rw kept (table_agrees_kept repo.clock c.end.result c.next_cursor-next.result None list.number table all list c.in-Some.ensures.valid opened refl agrees)
+    rw kept (table_agrees_kept repo.clock c.end.result c.cursor_behind-next.result None list.number table all list c.in-Some.ensures.valid opened refl agrees)

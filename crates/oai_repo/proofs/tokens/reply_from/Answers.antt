@@ -22,9 +22,9 @@ returns-clause-reply g c = λ honest.
     let all = g.V.Versions.lists c.args.store.now in
     let list : FrozenList = prolonged config repo.clock (frozen_in all c.args.list.now) in
     let size = eqb-true c.args.list.now.size (length (frozen_in all c.args.list.now).items) (c.requires.list.counted honest) in
-    let items = rw c.chunk.ensures.chunk at (c.in_ok-items.ensures.items honest) in
+    let items = rw c.chunk-chunk.ensures.chunk at (c.in_ok-items.ensures.items honest) in
     let page = part_is config list c.in_ok-items.items c.args.list.now.number c.args.list.now.size c.args.cursor c.end.result refl size c.end.ensures.end items in
-    (simp to_z-of_z at (rw c.as_slice-2.ensures at c.in_ok-reply.ensures))
+    (simp to_z-of_z at (rw c.as_slice.ensures at c.in_ok-reply.ensures))
     ∙ ap (λ (p : Page). document_reply repo (answer_by_verb c.args.verb c.format_of-format.result.now p)) page
     ∙ ap (λ (f : Option Format). document_reply repo (part_answer c.args.verb f (part_from config list c.args.cursor))) (sym c.format_of-format.ensures)
 
@@ -34,13 +34,14 @@ returns-clause-next g c = λ honest.
     let all = g.V.Versions.lists c.args.store.now in
     let list : FrozenList = frozen_in all c.args.list.now in
     let size = eqb-true c.args.list.now.size (length list.items) (c.requires.list.counted honest) in
-    let items = rw c.chunk.ensures.chunk at (c.in_ok-items.ensures.items honest) in
-    (rw (c.end_of_part-next.ensures, c.as_slice.ensures) at c.cursor_behind.ensures)
+    let items = rw c.chunk-chunk.ensures.chunk at (c.in_ok-items.ensures.items honest) in
+    c.cursor_behind.ensures
+    ∙ ap (cursor_behind c.args.list.now.size) (sym c.in_ok-items.ensures.next)
     ∙ ap (λ (n : ℕ). cursor_behind n (c.args.cursor + length c.in_ok-items.items)) size
     ∙ ap (λ xs. cursor_behind (length list.items) (c.args.cursor + length xs)) items
 
 pub returns-clause-mark : goal.returns-clause-mark
 returns-clause-mark g c = λ honest.
     let all = g.V.Versions.lists c.args.store.now in
-    mark_place (items_frozen all c.args.list.now) c.in_ok-items.items c.args.cursor c.chunk.result c.mark_behind.result (c.in_ok-items.ensures.items honest)
-    (rw (c.end_of_part-next.ensures, c.as_slice.ensures, c.as_slice-3.ensures) at c.mark_behind.ensures)
+    mark_place (items_frozen all c.args.list.now) c.in_ok-items.items c.args.cursor c.chunk-chunk.result c.mark_behind.result (c.in_ok-items.ensures.items honest)
+    (rw (sym c.in_ok-items.ensures.next, c.as_slice-2.ensures) at c.mark_behind.ensures)
