@@ -8,4 +8,5 @@ pub mod DifferenceLemmas
 pub mod GoneLemmas
 pub mod MissingLemmas
 pub mod BatchLemmas
+pub mod PartLemmas
 pub mod MissingLaws

@@ -146,7 +146,10 @@ fn earlier<'a>(item: Option<&'a Item>, other: Option<&'a Item>) -> Option<&'a It
 }
 
 /// The key of the item, if there is one. The error is out of memory.
-fn sort_key_of(alloc: Global, item: Option<&Item>) -> Result<Option<OwnedKey>, AllocError>
+pub(crate) fn sort_key_of(
+    alloc: Global,
+    item: Option<&Item>,
+) -> Result<Option<OwnedKey>, AllocError>
     ensures { IfOk result (λ key. key ≡ option_map spec.sort_key_of (option_copied item.entry)) }
 {
     match item {

@@ -1,5 +1,5 @@
 //! Deposits: why one is refused, and the item that it makes.
-ghost use Rattle.std.specs.Prelude.{◌≡◌, ◌≤◌, ◌⊎◌, ◌&&◌, ◌==◌, not, None, Some, false, true, length, map, IfOk, IsTrue, OnErr, OnOk};
+ghost use Rattle.std.specs.Prelude.{◌≡◌, ◌≤◌, ◌⊎◌, ◌&&◌, ◌==◌, not, None, Some, false, true, is_some, length, map, IfOk, IsTrue, OnErr, OnOk};
 ghost use Rattle.std.specs.List.{list_all};
 ghost use Rattle.std.specs.Option.{option_copied};
 ghost use Rattle.oai_names.specs.Names.{is_among};
@@ -12,7 +12,8 @@ ghost use Rattle.oai_catalogue.specs.Store.{Spends};
 ghost use Rattle.oai_item.specs.Item.{IsStamp, has_record, live_item, record_named};
 ghost use Rattle.oai_item.specs.Givens.{IsNotedContent, field_texts, kept as as_kept, noted_given};
 ghost use Rattle.oai_item.specs.Elements.{is_about};
-ghost use Rattle.oai_item.specs.Known.{are_listed_in, has_format, has_listed_fields, is_given_in, is_of_format, may_have_about};
+ghost use Rattle.oai_item.specs.Formats.{format_named};
+ghost use Rattle.oai_item.specs.Known.{are_given_in, are_listed_in, has_format, has_listed_fields, is_given_in, is_of_format, may_have_about};
 ghost use Rattle.oai_item.specs.Membership.{reduced};
 ghost use Rattle.oai_holdings.specs.Accepted.{IsStampOfPut};
 ghost use Rattle.oai_holdings.specs.Calls.{fault_in, unstamped};
@@ -236,16 +237,17 @@ fn deposit_refusal(
     if !have_sets(sets, specs) {
         return Some(ChangeRefusal::UnknownSet);
     }
-    if !have_formats(config.formats(), records.as_slice()) {
+    let checks = check_records(config.formats(), records.walk());
+    if !checks.known {
         return Some(ChangeRefusal::UnknownFormat);
     }
     if !has_record(records.as_slice(), "oai_dc") {
         return Some(ChangeRefusal::NoDc);
     }
-    if !have_listed_fields(config.formats(), records.walk()) {
+    if !checks.listed {
         return Some(ChangeRefusal::UnknownField);
     }
-    if !are_of_formats(config.formats(), records.walk()) {
+    if !checks.of_format {
         return Some(ChangeRefusal::NotOfFormat);
     }
     None
@@ -284,15 +286,6 @@ pub(crate) fn have_sets(tree: &SetTree, specs: &[SetSpec]) -> bool
     specs.iter().all(|spec| tree.has(spec))
 }
 
-/// Whether the repository has the format of each record.
-fn have_formats(formats: &Formats, records: &[Record]) -> bool
-    ensures { result ≡ list_all (has_format formats.now) records.now }
-{
-    records
-        .iter()
-        .all(|record| formats.find_named(record.0.as_str()).is_some())
-}
-
 /// Whether there is a record with that prefix.
 fn has_record(records: &[Record], prefix: &str) -> bool
     ensures { result ≡ has_record prefix.now records.now }
@@ -308,28 +301,79 @@ fn record_named<'a>(records: &'a [Record], prefix: &str) -> Option<&'a Record>
     records.iter().find(|record| record.0.as_str() == prefix)
 }
 
-/// Whether each field of each list is one of its format's.
-fn have_listed_fields(formats: &Formats, mut records: GivenRecords<'_>) -> bool
-    ensures { result ≡ list_all (has_listed_fields formats.now) records.entry }
-{
-    while let Some(record) = records.next() {
-        if !has_listed_fields(formats, &record) {
-            return false;
-        }
-    }
-    true
+/// What holds of a record of a deposit, or of each.
+#[derive(Clone, Copy)]
+struct FormatChecks {
+    /// The repository has its format.
+    known: bool,
+    /// Each of its fields is one of its format's, if it is a list.
+    listed: bool,
+    /// It has the root of its format, or its format has fields, if it is a list; and something is given as the record if
+    /// something is given about it.
+    of_format: bool,
 }
 
-/// Whether each field of the record is one of its format's, if it is a list.
-fn has_listed_fields(formats: &Formats, given: &GivenRecord<'_>) -> bool
-    requires { IsNotedContent given.now.fields.now (option_copied given.now.root) }
-    ensures { result ≡ has_listed_fields formats.now
+/// What holds of each record. The format of each is looked up once.
+fn check_records(formats: &Formats, mut records: GivenRecords<'_>) -> FormatChecks
+    ensures known { result.known ≡ list_all (has_format formats.now) (map as_kept records.entry) }
+    ensures listed { result.listed ≡ list_all (has_listed_fields formats.now) records.entry }
+    ensures of_format { result.of_format ≡ list_all (is_of_format formats.now) records.entry }
+{
+    let mut checks = FormatChecks {
+        known: true,
+        listed: true,
+        of_format: true,
+    };
+    while let Some(record) = records.next() {
+        checks = both(checks, check_record(formats, &record));
+    }
+    checks
+}
+
+/// What both of these say holds.
+fn both(one: FormatChecks, other: FormatChecks) -> FormatChecks
+    ensures known { result.known ≡ (one.known && other.known) }
+    ensures listed { result.listed ≡ (one.listed && other.listed) }
+    ensures of_format { result.of_format ≡ (one.of_format && other.of_format) }
+{
+    FormatChecks {
+        known: one.known && other.known,
+        listed: one.listed && other.listed,
+        of_format: one.of_format && other.of_format,
+    }
+}
+
+/// What holds of the record.
+fn check_record(formats: &Formats, given: &GivenRecord<'_>) -> FormatChecks
+    requires content { IsNotedContent given.now.fields.now (option_copied given.now.root) }
+    requires about { list_all is_about given.now.about.now ≡ true }
+    ensures known { result.known ≡ is_some (format_named given.now.prefix.now formats.now) }
+    ensures listed { result.listed ≡ has_listed_fields formats.now
+        (given.now.prefix.now, noted_given given.now.fields.now (option_copied given.now.root), field_texts given.now.about.now) }
+    ensures of_format { result.of_format ≡ is_of_format formats.now
         (given.now.prefix.now, noted_given given.now.fields.now (option_copied given.now.root), field_texts given.now.about.now) }
 {
     match formats.find_named(given.prefix) {
-        Some(format) => given.root.is_some() || are_listed_in(format, given.fields),
-        None => true,
+        Some(format) => FormatChecks {
+            known: true,
+            listed: has_listed_fields(format, given),
+            of_format: is_of_format(format, given),
+        },
+        None => FormatChecks {
+            known: false,
+            listed: true,
+            of_format: may_have_about(given),
+        },
     }
+}
+
+/// Whether each field of the record is one of the format's, if it is a list.
+fn has_listed_fields(format: &Format, given: &GivenRecord<'_>) -> bool
+    requires { IsNotedContent given.now.fields.now (option_copied given.now.root) }
+    ensures { result ≡ are_given_in (Some format.now)
+        (noted_given given.now.fields.now (option_copied given.now.root)) }
+{
+    given.root.is_some() || are_listed_in(format, given.fields)
 }
 
 /// Whether each field is one of the format's.
@@ -348,34 +392,20 @@ pub(crate) fn is_listed_in(format: &Format, name: &str) -> bool
     !name.is_empty() && is_among(format.fields.as_slice(), name)
 }
 
-/// Whether each element has the root of its format, the format of each list has fields, and nothing is given about a
-/// record where nothing is given as the record.
-fn are_of_formats(formats: &Formats, mut records: GivenRecords<'_>) -> bool
-    ensures { result ≡ list_all (is_of_format formats.now) records.entry }
-{
-    while let Some(record) = records.next() {
-        if !is_of_format(formats, &record) {
-            return false;
-        }
-    }
-    true
-}
-
-/// Whether the record has the root of its format, or its format has fields, if it is a list, and something is given as the
-/// record if something is given about it.
-fn is_of_format(formats: &Formats, given: &GivenRecord<'_>) -> bool
+/// Whether the record has the root of the format, or the format has fields, if it is a list; and something is given as
+/// the record if something is given about it.
+fn is_of_format(format: &Format, given: &GivenRecord<'_>) -> bool
     requires content { IsNotedContent given.now.fields.now (option_copied given.now.root) }
     requires about { list_all is_about given.now.about.now ≡ true }
-    ensures { result ≡ is_of_format formats.now
-        (given.now.prefix.now, noted_given given.now.fields.now (option_copied given.now.root), field_texts given.now.about.now) }
+    ensures { result ≡ (is_given_in (Some format.now)
+        (noted_given given.now.fields.now (option_copied given.now.root))
+        && may_have_about
+        (noted_given given.now.fields.now (option_copied given.now.root)) (field_texts given.now.about.now)) }
 {
-    match formats.find_named(given.prefix) {
-        Some(format) => is_given_in(format, given) && may_have_about(given),
-        None => may_have_about(given),
-    }
+    is_given_in(format, given) && may_have_about(given)
 }
 
-/// The same of its format.
+/// Whether the record has the root of the format, or the format has fields, if it is a list.
 fn is_given_in(format: &Format, given: &GivenRecord<'_>) -> bool
     requires { IsNotedContent given.now.fields.now (option_copied given.now.root) }
     ensures { result ≡ is_given_in (Some format.now)

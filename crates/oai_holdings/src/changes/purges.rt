@@ -1,6 +1,7 @@
 //! Purges: removes tombstones.
-ghost use Rattle.std.specs.Prelude.{◌≡◌, ◌+◌, ◌++◌, ◌≤◌, if◌then◌else◌, nat_lt, None, true, drop, filter, length, take, IfErr, IfOk, IfSome, IsSome, IsTrue, OnOk};
+ghost use Rattle.std.specs.Prelude.{◌≡◌, ◌+◌, ◌++◌, ◌≤◌, if◌then◌else◌, nat_lt, None, true, filter, length, take, IfErr, IfOk, IfSome, IsSome, IsTrue, OnOk};
 ghost use Rattle.std.specs.List.{list_all};
+ghost use Rattle.std.specs.Option.{option_copied};
 ghost use Rattle.oai_time.specs.Bound.{IsWritableBound};
 ghost use Rattle.oai_time.specs.Stamp.{IsWritable};
 ghost use Rattle.oai_item.specs.declared.faults.Fault.TheVariants as fault;
@@ -11,10 +12,12 @@ ghost use Rattle.oai_holdings.specs.Calls.{fault_in};
 ghost use Rattle.oai_holdings.specs.Changes as spec;
 ghost use Rattle.oai_holdings.specs.Index.{has_writable_stamp, stored_items};
 ghost use Rattle.oai_holdings.specs.Entries.{Forgets};
+ghost use Rattle.oai_holdings.specs.Missing.{items_past};
 ghost use Rattle.oai_holdings.specs.Purges.{below, is_deleted, is_in_core};
 ghost use Rattle.oai_holdings.specs.Indexing.{IsDoneOn, Moves, StandsOn};
 
 use crate::changes::ChangeContext;
+use crate::differences::{OwnedKey, sort_key_of};
 use crate::item_index::ItemIndex;
 use crate::saves::asked_until;
 use oai_catalogue::{Filter, Versions};
@@ -110,37 +113,61 @@ pub(crate) fn deleted_below<V: Versions>(
 {
     let asked = asked_below(alloc, limit)?;
     let mut gone = Vec::new(alloc);
+    let mut behind = None;
     let mut start = 0;
     while start < most {
         let some = PART.min(most - start);
-        let part = read_some(store, v, &asked, start, some)?;
+        let part = read_some(store, v, &asked, behind.as_ref(), some)?;
+        let last = sort_key_of(alloc, part.as_slice().last())?;
         let next = after_part(start, some, part.as_slice(), most);
         add_deleted(&mut gone, part)?;
+        behind = last;
         start = next;
     }
     Ok(gone)
 }
 
-/// The items that the filter selects, in their order, after the first `skip`, at most `most` of them. Any fault but
-/// `TooManyPages` may come, and `Damaged` if the store returns more.
+/// The items that the filter selects, in their order, after the key, or from the first on, at most `most` of them. Any
+/// fault but `TooManyPages` may come, and `Damaged` if the store returns more.
 fn read_some<V: Versions>(
     store: &mut V,
     v: u64,
     asked: &Filter,
-    skip: usize,
+    behind: Option<&OwnedKey>,
     most: usize,
 ) -> Result<Sequence<Item>, Fault>
     requires { IsSome (V.lists store.old v) }
     ensures part { IfOk result (λ items. IsTrue (V.honest store.old) → items
-        ≡ take most (drop skip (selected asked.now (list_at (V.lists store.old) v)))) }
+        ≡ take most (items_past (option_copied behind.entry)
+        (selected asked.now (list_at (V.lists store.old) v)))) }
     ensures few { IfOk result (λ items. length items ≤ most) }
     ensures reads { OnlyReads V.Versions result store.old store.new }
 {
-    let items = store.part(v, asked, skip, most)?;
+    let items = read_part(store, v, asked, behind, most)?;
     if most < items.len() {
         return Err(Fault::Damaged);
     }
     Ok(items)
+}
+
+/// The same, if the store returns no more.
+fn read_part<V: Versions>(
+    store: &mut V,
+    v: u64,
+    asked: &Filter,
+    behind: Option<&OwnedKey>,
+    most: usize,
+) -> Result<Sequence<Item>, Fault>
+    requires { IsSome (V.lists store.old v) }
+    ensures part { IfOk result (λ items. IsTrue (V.honest store.old) → items
+        ≡ take most (items_past (option_copied behind.entry)
+        (selected asked.now (list_at (V.lists store.old) v)))) }
+    ensures reads { OnlyReads V.Versions result store.old store.new }
+{
+    match behind {
+        Some(key) => store.part_after(v, asked, key.stamp, &key.identifier, most),
+        None => store.part(v, asked, 0, most),
+    }
 }
 
 /// How many of `most` items are read after a request for `some` of them after the first `start` returned this part:

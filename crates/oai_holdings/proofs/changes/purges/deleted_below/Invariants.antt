@@ -1,7 +1,8 @@
-use Rattle.std.proofs.Common.{◌≡◌, ◌≤◌, ◌-◌, length, take, IsTrue}
+use Rattle.std.proofs.Common.{◌≡◌, ◌<◌, ◌≤◌, ◌-◌, length, take, drop, IsTrue}
 use Rattle.std.specs.Prelude.{filter}
 use Rattle.oai_item.specs.Selection.{selected}
 use Rattle.oai_catalogue.specs.Store.{list_at}
+use Rattle.oai_holdings.specs.Missing.{items_past}
 use Rattle.oai_holdings.specs.Purges.{below, is_deleted}
 use Rattle.oai_holdings.proofs.changes.purges.deleted_below.Given as goal
 
@@ -11,6 +12,7 @@ invariant-loop-start g l =
     let V = g.V.Versions in
     record {
       read : IsTrue (V.honest l.initial.store) → l.gone.items ≡ filter is_deleted (take l.start (selected (below l.limit) (list_at (V.lists l.initial.store) l.v)));
+      behind : IsTrue (V.honest l.initial.store) → l.start < l.most → items_past l.behind (selected (below l.limit) (list_at (V.lists l.initial.store) l.v)) ≡ drop l.start (selected (below l.limit) (list_at (V.lists l.initial.store) l.v));
       few : length l.gone.items ≤ l.start;
       within : l.start ≤ l.most;
       same : V.lists l.store ≡ V.lists l.initial.store;
