@@ -8,7 +8,7 @@ use Rattle.oai_front.specs.Performing.{Steps}
 use Rattle.oai_front.specs.Pipelining.{IsRemainder, IsRestLeft, answer_of_left, left_with}
 use Rattle.oai_front.specs.Queues.{IsTaken}
 use Rattle.oai_front.specs.declared.messages.Left.{Left}
-use Rattle.oai_front.specs.declared.messages.Left.TheVariants.{Waiting, Nothing, Refused}
+use Rattle.oai_front.specs.declared.messages.Left.TheVariants.{Waiting, Nothing, Unanswered}
 use Rattle.oai_front.proofs.QueueLemmas.{drop_written}
 use Rattle.oai_front.specs.declared.faults.PieceFault.{PieceFault}
 use Rattle.oai_front.specs.declared.faults.PieceFault.TheVariants.{NoSuchConnection, NoMemory, Unfinished}
@@ -42,7 +42,7 @@ taken_in step moment piece c d old new (Err NoSuchConnection) g = g
 pub is_left : {H : Type 0} (step : Steps H) (moment : ℤ) (old new : H) (bytes before after : List ℕ) (left : Left) → IsRemainder step moment old new bytes before after left → IsRestLeft bytes left
 is_left step moment old new bytes before after (Waiting begun kept) r = (r.1, r.2)
 is_left step moment old new bytes before after Nothing r = tt
-is_left step moment old new bytes before after (Refused begun kept) r = (r.1, r.2)
+is_left step moment old new bytes before after (Unanswered begun kept) r = (r.1, r.2)
 
 -- messages were performed, and the connection keeps what is left
 pub gone_over : {H : Type 0} (step : Steps H) (moment : ℤ) (number taken : ℕ) (bytes : List ℕ) (waiting written : List (List ℕ)) (stage : Stage) (old new : H) (left : Left)
@@ -52,6 +52,6 @@ gone_over step moment number taken bytes waiting written stage old new (Waiting 
     let w = r.0 in (waits (drop begun bytes), w.0, w.2, connection_of number (drop begun bytes) (drop begun bytes) _ _ stage refl (drop_written taken waiting written w.0 t w.1))
 gone_over step moment number taken bytes waiting written stage old new Nothing t r =
     let w = r.1 in (r.0, w.0, w.2, connection_closed number bytes [] (drop taken (concat waiting)) _ w.0 stage r.0 r.2 refl (drop_written taken waiting written w.0 t w.1))
-gone_over step moment number taken bytes waiting written stage old new (Refused begun kept) t r =
+gone_over step moment number taken bytes waiting written stage old new (Unanswered begun kept) t r =
     let w = r.0 in
     (drop begun bytes, w.0, w.2, r.3, connection_of number (drop begun bytes) (drop begun bytes) _ _ stage refl (drop_written taken waiting written w.0 t w.1))

@@ -21,7 +21,7 @@ use Rattle.oai_front.specs.declared.request_heads.TheConstants.{MAX_HEAD_BYTES}
 use Rattle.oai_front.specs.declared.framings.Framing.{Framing}
 use Rattle.oai_front.specs.declared.framings.Framing.TheVariants.{Body}
 use Rattle.oai_front.specs.declared.framings.Framing.TheVariants as plan
-use Rattle.oai_front.specs.declared.messages.Left.TheVariants.{Refused}
+use Rattle.oai_front.specs.declared.messages.Left.TheVariants.{Unanswered}
 use Rattle.oai_front.proofs.HeadLemmas.{behind_is, head_has_bytes, start_within}
 
 -- ---- what stands at the front
@@ -284,14 +284,14 @@ first_left step moment old bytes before known next h n =
 -- out of memory: the first message was not performed
 pub first_refused : {H : Type 0} (step : Steps H) (moment : ℤ) (old new : H) (bytes before after : List ℕ) (known : Option Head) (kept : Head)
     → IfSome known (IsHead bytes) → IsHead bytes kept → kept.size ≤ length (drop kept.start bytes) → new ≡ old → after ≡ before
-    → IsRemainder step moment old new bytes before after (Refused 0 (Some kept))
+    → IsRemainder step moment old new bytes before after (Unanswered 0 (Some kept))
 first_refused step moment old new bytes before after known kept h stands whole same e =
-    subst (λ (k : ℕ). IsRemainder step moment old new bytes before after (Refused k (Some kept))) (none_before bytes)
+    subst (λ (k : ℕ). IsRemainder step moment old new bytes before after (Unanswered k (Some kept))) (none_before bytes)
     (sofar_refused step moment old old new bytes before before after bytes known kept (sofar_none step moment old bytes before known h) stands whole same e)
 
 -- out of memory: the fault was not answered
 pub first_untold : {H : Type 0} (step : Steps H) (moment : ℤ) (old : H) (bytes before after : List ℕ) (known : Option Head) (status : Status)
-    → IfSome known (IsHead bytes) → IsFault bytes status → after ≡ before → IsRemainder step moment old old bytes before after (Refused 0 None)
+    → IfSome known (IsHead bytes) → IsFault bytes status → after ≡ before → IsRemainder step moment old old bytes before after (Unanswered 0 None)
 first_untold step moment old bytes before after known status h f e =
-    subst (λ (k : ℕ). IsRemainder step moment old old bytes before after (Refused k None)) (none_before bytes)
+    subst (λ (k : ℕ). IsRemainder step moment old old bytes before after (Unanswered k None)) (none_before bytes)
     (sofar_untold step moment old old bytes before before after bytes known status (sofar_none step moment old bytes before known h) f e)

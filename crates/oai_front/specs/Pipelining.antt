@@ -10,7 +10,7 @@ use Rattle.oai_front.specs.Performing.{Completes, Performs, Steps}
 use Rattle.oai_front.specs.declared.messages.Next.{Next}
 use Rattle.oai_front.specs.declared.messages.Next.TheVariants.{Unfinished, Faulty, Message}
 use Rattle.oai_front.specs.declared.messages.Left.{Left}
-use Rattle.oai_front.specs.declared.messages.Left.TheVariants.{Waiting, Nothing, Refused}
+use Rattle.oai_front.specs.declared.messages.Left.TheVariants.{Waiting, Nothing, Unanswered}
 use Rattle.oai_front.specs.declared.request_heads.Head.{Head}
 use Rattle.oai_front.specs.declared.faults.PieceFault.{PieceFault}
 use Rattle.oai_front.specs.declared.faults.PieceFault.TheVariants as fault
@@ -55,7 +55,7 @@ IsRemainder step moment old new bytes before after (Waiting begun kept) =
     × IfSome kept (IsHead (drop begun bytes))
 IsRemainder step moment old new bytes before after Nothing =
     (end : End) × WritesBehind before after (Completes step moment old new bytes end) × IsClosing end
-IsRemainder step moment old new bytes before after (Refused begun kept) =
+IsRemainder step moment old new bytes before after (Unanswered begun kept) =
     WritesBehind before after (Performs step moment old new bytes (drop begun bytes)) × (begun ≤ length bytes)
     × IfSome kept (IsHead (drop begun bytes))
     × HasWhole (drop begun bytes)
@@ -63,8 +63,8 @@ IsRemainder step moment old new bytes before after (Refused begun kept) =
 -- what is left after that many bytes, if this comes next
 abbrev pub left_at : ℕ → Next → Left
 left_at begun (Unfinished kept) = Waiting begun kept
-left_at begun (Faulty status) = Refused begun None
-left_at begun (Message head) = Refused begun (Some head)
+left_at begun (Faulty status) = Unanswered begun None
+left_at begun (Message head) = Unanswered begun (Some head)
 
 -- ---- what a connection keeps
 
@@ -72,19 +72,19 @@ left_at begun (Message head) = Refused begun (Some head)
 abbrev pub IsRestLeft : List ℕ → Left → Type 0
 IsRestLeft bytes (Waiting begun kept) = (begun ≤ length bytes) × IfSome kept (IsHead (drop begun bytes))
 IsRestLeft bytes Nothing = ⊤
-IsRestLeft bytes (Refused begun kept) = (begun ≤ length bytes) × IfSome kept (IsHead (drop begun bytes))
+IsRestLeft bytes (Unanswered begun kept) = (begun ≤ length bytes) × IfSome kept (IsHead (drop begun bytes))
 
 -- the connection of whose bytes that is left
 abbrev pub left_with : Connection → Left → Connection
 left_with c (Waiting begun kept) = record c { rest = drop begun c.rest }
 left_with c Nothing = record c { rest = []; stage = Closed }
-left_with c (Refused begun kept) = record c { rest = drop begun c.rest }
+left_with c (Unanswered begun kept) = record c { rest = drop begun c.rest }
 
 -- whether something complete is left
 abbrev pub answer_of_left : Left → Result Unit PieceFault
 answer_of_left (Waiting begun kept) = Ok tt
 answer_of_left Nothing = Ok tt
-answer_of_left (Refused begun kept) = Err fault.Unfinished
+answer_of_left (Unanswered begun kept) = Err fault.Unfinished
 
 -- ---- while they are performed
 

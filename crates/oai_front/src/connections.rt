@@ -233,7 +233,7 @@ impl Connection {
                 self.stage = Stage::Closed;
                 Ok(())
             }
-            Left::Refused(begun, head) => {
+            Left::Unanswered(begun, head) => {
                 self.start += begun;
                 self.head = head;
                 Err(PieceFault::Unfinished)

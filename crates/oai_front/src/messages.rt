@@ -36,7 +36,7 @@ pub enum Left {
     Nothing,
     /// After that many bytes, what was not answered: for lack of memory, or since another message was answered before it
     /// in the same turn. With its head if that is complete.
-    Refused(usize, Option<Head>),
+    Unanswered(usize, Option<Head>),
 }
 
 /// Performs the messages with which the bytes begin, in order, up to the first after which the connection is closed,
@@ -65,14 +65,14 @@ pub(crate) fn perform_all<H: Handler>(
             Next::Faulty(status) => {
                 return match put_fault(alloc, status, queue) {
                     Ok(()) => Left::Nothing,
-                    Err(_) => Left::Refused(bytes.len() - rest.len(), None),
+                    Err(_) => Left::Unanswered(bytes.len() - rest.len(), None),
                 };
             }
             Next::Message(head) => {
                 let exchange = exchange_of(rest, &head);
                 match perform_message(alloc, handler, moment, &exchange, head.last, queue) {
                     Ok(()) => {}
-                    Err(_) => return Left::Refused(bytes.len() - rest.len(), Some(head)),
+                    Err(_) => return Left::Unanswered(bytes.len() - rest.len(), Some(head)),
                 }
                 if head.last {
                     return Left::Nothing;
@@ -105,13 +105,13 @@ pub(crate) fn perform_first<H: Handler>(
         Next::Unfinished(head) => Left::Waiting(0, head),
         Next::Faulty(status) => match put_fault(alloc, status, queue) {
             Ok(()) => Left::Nothing,
-            Err(_) => Left::Refused(0, None),
+            Err(_) => Left::Unanswered(0, None),
         },
         Next::Message(head) => {
             let exchange = exchange_of(bytes, &head);
             match perform_message(alloc, handler, moment, &exchange, head.last, queue) {
                 Ok(()) => {}
-                Err(_) => return Left::Refused(0, Some(head)),
+                Err(_) => return Left::Unanswered(0, Some(head)),
             }
             if head.last {
                 return Left::Nothing;
@@ -128,8 +128,8 @@ fn left_at(begun: usize, next: Next) -> Left
 {
     match next {
         Next::Unfinished(head) => Left::Waiting(begun, head),
-        Next::Faulty(_) => Left::Refused(begun, None),
-        Next::Message(head) => Left::Refused(begun, Some(head)),
+        Next::Faulty(_) => Left::Unanswered(begun, None),
+        Next::Message(head) => Left::Unanswered(begun, Some(head)),
     }
 }
 

@@ -9,6 +9,7 @@ pub mod BrokenLemmas
 pub mod LineLemmas
 pub mod RoomLemmas
 pub mod TaskLemmas
+pub mod ProgressLemmas
 pub mod RedoLemmas
 pub mod AgainLemmas
 pub mod SavedLemmas

@@ -2,8 +2,8 @@
 ghost use Rattle.oai_deposit.specs.Lines.{line_of};
 ghost use Rattle.oai_host.specs.Bodies as spec;
 ghost use Rattle.oai_host.specs.Bodies.{lines_in};
-ghost use Rattle.oai_host.specs.DepositLines.{HasDone, FollowsLines, from_line};
-ghost use Rattle.oai_host.specs.Exchanged.{PerformsIn, PerformsLine};
+ghost use Rattle.oai_host.specs.DepositLines.{HasDone, FollowsLines, IsWritableOutcome, from_line, outcome_line};
+ghost use Rattle.oai_host.specs.Exchanged.{AnswersLine, PerformsIn, PerformsLine, RedoesIn};
 ghost use Rattle.oai_host.specs.Tasks.{depositing};
 ghost use Rattle.oai_host.specs.declared.deposits.TheConstants.{MAX_LINE};
 ghost use Rattle.oai_item.specs.Refusals.{in_line, refusal_line};
@@ -16,7 +16,7 @@ use itoa::Buffer;
 use oai_catalogue::Versions;
 use oai_deposit::{Change, LineFault, read_line};
 use oai_http::{Answer, len_before, put};
-use oai_item::{Fault, LineRefusal};
+use oai_item::{ChangeRefusal, Fault, LineRefusal};
 use oai_names::Sequence;
 use oai_repo::{Refusal, Repo};
 use oai_time::{Granularity, write_datestamp};
@@ -47,7 +47,7 @@ pub(crate) fn perform_lines<'a, V: Versions>(
     let mut told = Vec::new(alloc);
     let mut done = 0;
     while let Some((text, behind)) = next_line(rest) {
-        match perform_line(alloc, repo, store, moment, text, &mut told) {
+        match answer_line(alloc, repo, store, moment, text, &mut told) {
             Ok(()) => done += 1,
             Err(fault) => {
                 let answer = Answer::of_fault(alloc, fault, Some(done));
@@ -59,8 +59,31 @@ pub(crate) fn perform_lines<'a, V: Versions>(
     (Answer::with_body(Sequence::new(told)), body, done)
 }
 
+/// Replays the lines of a deposit at the moment, in seconds from 1970 on, and writes no answers. The error is the fault
+/// that ended it.
+pub(crate) fn redo_lines<V: Versions>(
+    alloc: Global,
+    repo: &mut Repo,
+    store: &mut V,
+    moment: i64,
+    body: &[u8],
+) -> Result<(), Fault>
+    requires owns { Owns (V.honest store.old) repo.old (V.lists store.old) }
+    ensures { RedoesIn V.Versions moment (depositing (lines_in body.now)) result repo.old store.old repo.new
+        store.new }
+{
+    let mut rest = body;
+    while let Some((text, behind)) = next_line(rest) {
+        match perform_line(alloc, repo, store, moment, text) {
+            Ok(_) => rest = behind,
+            Err(fault) => return Err(fault),
+        }
+    }
+    Ok(())
+}
+
 /// Performs a line and writes its answer, for which space is reserved first. A fault leaves everything unchanged.
-fn perform_line<V: Versions>(
+fn answer_line<V: Versions>(
     alloc: Global,
     repo: &mut Repo,
     store: &mut V,
@@ -69,58 +92,91 @@ fn perform_line<V: Versions>(
     told: &mut Vec<u8>,
 ) -> Result<(), Fault>
     requires owns { Owns (V.honest store.old) repo.old (V.lists store.old) }
-    ensures { PerformsLine V.Versions moment (line_of repo.old.config.forms text.now) result repo.old store.old
+    ensures { AnswersLine V.Versions moment (line_of repo.old.config.forms text.now) result repo.old store.old
         told.old.items repo.new store.new told.new.items }
 {
     told.reserve(MAX_LINE)?;
-    match read_line(alloc, repo.config().forms(), text) {
-        Ok(change) => perform_change(repo, store, moment, &change, told),
-        Err(LineFault::Refused(cause)) => {
-            refuse_line(repo, store, moment, cause, told);
+    match perform_line(alloc, repo, store, moment, text) {
+        Ok(outcome) => {
+            put_outcome(repo.config().granularity(), outcome, told);
             Ok(())
         }
+        Err(fault) => Err(fault),
+    }
+}
+
+/// What performing a line came to, if no fault ended it.
+#[derive(Clone, Copy)]
+pub(crate) enum LineOutcome {
+    /// It was accepted, and its answer has this datestamp.
+    Accepted(i64),
+    /// It was refused by itself.
+    LineRefused(LineRefusal),
+    /// Its change was refused.
+    ChangeRefused(ChangeRefusal),
+}
+
+/// Performs a line. A fault leaves everything unchanged.
+fn perform_line<V: Versions>(
+    alloc: Global,
+    repo: &mut Repo,
+    store: &mut V,
+    moment: i64,
+    text: &[u8],
+) -> Result<LineOutcome, Fault>
+    requires owns { Owns (V.honest store.old) repo.old (V.lists store.old) }
+    ensures { PerformsLine V.Versions moment (line_of repo.old.config.forms text.now) result repo.old store.old
+        repo.new store.new }
+{
+    match read_line(alloc, repo.config().forms(), text) {
+        Ok(change) => perform_change(repo, store, moment, &change),
+        Err(LineFault::Refused(cause)) => Ok(refuse_line(repo, store, moment, cause)),
         Err(LineFault::NoMemory) => Err(Fault::NoMemory),
     }
 }
 
-/// Performs a change and writes its answer into the reserved space.
-#[tactic(auto, unfolding(oai_repo::specs::Machine::outcome_output))]
+/// Performs a change.
 fn perform_change<V: Versions>(
     repo: &mut Repo,
     store: &mut V,
     moment: i64,
     change: &Change,
-    told: &mut Vec<u8>,
-) -> Result<(), Fault>
-    requires room { vec_len told.old + MAX_LINE ≤ vec_capacity told.old }
+) -> Result<LineOutcome, Fault>
     requires owns { Owns (V.honest store.old) repo.old (V.lists store.old) }
-    ensures { PerformsLine V.Versions moment (Ok change.now) result repo.old store.old told.old.items
-        repo.new store.new told.new.items }
+    ensures { PerformsLine V.Versions moment (Ok change.now) result repo.old store.old repo.new store.new }
 {
     match repo.change(store, moment, change) {
-        Ok(stamp) => put_stamp(repo.config().granularity(), stamp, told),
-        Err(Refusal::Refused(cause)) => put_line(cause.answer(), told),
-        Err(Refusal::Fault(fault)) => return Err(fault),
+        Ok(stamp) => Ok(LineOutcome::Accepted(stamp)),
+        Err(Refusal::Refused(cause)) => Ok(LineOutcome::ChangeRefused(cause)),
+        Err(Refusal::Fault(fault)) => Err(fault),
     }
-    Ok(())
 }
 
-/// Moves the clock for a line that is refused by itself and writes its answer into the reserved space.
-#[tactic(auto, unfolding(oai_repo::specs::Machine::outcome_output, oai_repo::specs::Machine::act))]
+/// Moves the clock for a line that is refused by itself.
 fn refuse_line<V: Versions>(
     repo: &mut Repo,
     store: &mut V,
     moment: i64,
     cause: LineRefusal,
-    told: &mut Vec<u8>,
-)
-    requires room { vec_len told.old + MAX_LINE ≤ vec_capacity told.old }
+) -> LineOutcome
     requires owns { Owns (V.honest store.old) repo.old (V.lists store.old) }
-    ensures { PerformsLine V.Versions moment (Err cause) (Ok tt) repo.old store.old told.old.items
-        repo.new store.new told.new.items }
+    ensures { PerformsLine V.Versions moment (Err cause) (Ok result) repo.old store.old repo.new store.new }
 {
     repo.advance(store, moment);
-    put_cause(cause, told);
+    LineOutcome::LineRefused(cause)
+}
+
+/// Writes the answer to a line that came to this, into the reserved space.
+fn put_outcome(granularity: Granularity, outcome: LineOutcome, out: &mut Vec<u8>)
+    requires writable { IsWritableOutcome outcome }
+    requires room { vec_len out.old + MAX_LINE ≤ vec_capacity out.old }
+    ensures { out.new.items ≡ out.old.items ++ outcome_line granularity outcome }
+{
+    match outcome {
+        LineOutcome::Accepted(stamp) => put_stamp(granularity, stamp, out),
+        LineOutcome::LineRefused(cause) => put_cause(cause, out),
+        LineOutcome::ChangeRefused(cause) => put_line(cause.answer(), out),
+    }
 }
 
 /// Writes the line that reports the cause, and a line end.

@@ -14,7 +14,7 @@ ghost use Rattle.std.specs.Option.{option_copied};
 ghost use Rattle.std.specs.Prelude.{IfOk, IsTrue, MatchResult, None, length, max, ℤ, ◌≡◌, ◌≤◌};
 
 use crate::deposits::perform_lines;
-use crate::records::{Recorded, arguments_to_replay, lines_to_replay};
+use crate::records::{RepoAnswer, arguments_to_replay, lines_to_replay};
 use oai_catalogue::Versions;
 use oai_http::{Answer, Endpoint, Exchange, Status, is_form};
 use oai_repo::{Replied, Reply, Repo};
@@ -29,7 +29,7 @@ pub(crate) fn perform_exchange<'a, V: Versions>(
     moment: i64,
     endpoint: Endpoint,
     exchange: &Exchange<'a>,
-) -> Recorded<'a>
+) -> RepoAnswer<'a>
     requires owns { Owns (V.honest store.old) repo.old (V.lists store.old) }
     ensures performed { PerformsIn V.Versions moment (task_in endpoint (call_of moment exchange.now))
         result.answer repo.old store.old repo.new store.new }
@@ -54,10 +54,10 @@ pub(crate) fn perform_exchange<'a, V: Versions>(
 }
 
 /// The answer with that status to an exchange for which nothing is performed.
-fn refused<'a>(alloc: Global, status: Status) -> Recorded<'a>
+fn refused<'a>(alloc: Global, status: Status) -> RepoAnswer<'a>
     ensures { result ≡ record { answer = answered status; bytes = None } }
 {
-    Recorded {
+    RepoAnswer {
         answer: Answer::of_status(alloc, status),
         bytes: None,
     }
@@ -97,7 +97,7 @@ fn perform_request<'a, V: Versions>(
     store: &mut V,
     moment: i64,
     arguments: &'a [u8],
-) -> Recorded<'a>
+) -> RepoAnswer<'a>
     requires owns { Owns (V.honest store.old) repo.old (V.lists store.old) }
     ensures performed { PerformsIn V.Versions moment (spec.asking arguments.now) result.answer repo.old
         store.old repo.new store.new }
@@ -108,7 +108,7 @@ fn perform_request<'a, V: Versions>(
 {
     match repo.ask(store, moment, arguments) {
         Ok(replied) => recorded(alloc, replied, arguments),
-        Err(fault) => Recorded {
+        Err(fault) => RepoAnswer {
             answer: Answer::of_fault(alloc, fault, None),
             bytes: None,
         },
@@ -116,7 +116,7 @@ fn perform_request<'a, V: Versions>(
 }
 
 /// The answer with the reply to a request, and what of its arguments has to be replayed.
-fn recorded<'a>(alloc: Global, replied: Replied, arguments: &'a [u8]) -> Recorded<'a>
+fn recorded<'a>(alloc: Global, replied: Replied, arguments: &'a [u8]) -> RepoAnswer<'a>
     ensures answer { result.answer ≡ answer_of (output_of_reply replied.reply) }
     ensures bytes { option_copied result.bytes ≡ arguments_to_replay replied.replay arguments.now }
 {
@@ -125,7 +125,7 @@ fn recorded<'a>(alloc: Global, replied: Replied, arguments: &'a [u8]) -> Recorde
         Reply::Page(page) => Answer::with_body(page),
         Reply::Later(seconds) => Answer::to_wait(alloc, seconds),
     };
-    Recorded { answer, bytes }
+    RepoAnswer { answer, bytes }
 }
 
 /// Performs the lines of a deposit at the moment, in seconds from 1970 on.
@@ -135,7 +135,7 @@ fn perform_deposit<'a, V: Versions>(
     store: &mut V,
     moment: i64,
     body: &'a [u8],
-) -> Recorded<'a>
+) -> RepoAnswer<'a>
     requires owns { Owns (V.honest store.old) repo.old (V.lists store.old) }
     ensures performed { PerformsIn V.Versions moment (spec.depositing (lines_in body.now)) result.answer
         repo.old store.old repo.new store.new }
@@ -145,7 +145,7 @@ fn perform_deposit<'a, V: Versions>(
     ensures size { AreNoLonger body.now (option_copied result.bytes) }
 {
     let (answer, lines, count) = perform_lines(alloc, repo, store, moment, body);
-    Recorded {
+    RepoAnswer {
         answer,
         bytes: lines_to_replay(lines, count),
     }

@@ -20,7 +20,7 @@ ghost use Rattle.std.specs.Option.{IfNone, option_copied};
 ghost use Rattle.std.specs.Prelude.{IfErr, IfOk, IfSome, IsTrue, OnErr, OnOk, [], false, if◌then◌else◌, length, map, true, ◌++◌, ◌+◌, ◌<◌, ◌≡◌, ◌≤◌};
 
 use crate::host_snapshots::HostSnapshots;
-use crate::records::Recorded;
+use crate::records::RepoAnswer;
 use crate::repositories::Repositories;
 use crate::routes::Routes;
 use oai_catalogue::Versions;
@@ -29,7 +29,7 @@ use oai_figures::{Exposition, Figures};
 use oai_http::{Answer, Call, Endpoint, Exchange, Handler, Status, Target};
 use oai_item::Fault;
 use oai_names::Sequence;
-use oai_replay::{Done, Part, Performed, Replayed, SaveFault, Sink};
+use oai_replay::{Part, Performed, RecordedAnswer, Replayed, SaveFault, Sink};
 use std::alloc::{AllocError, Global};
 use std::marker::Model;
 
@@ -105,7 +105,7 @@ impl<V: Versions + Drop> Host<V> {
     pub fn exchange(&mut self, moment: i64, exchange: &Exchange<'_>) -> Answer
         ensures { IsExchanged (call_of moment exchange.now) result self.old self.new }
     {
-        let Done {
+        let RecordedAnswer {
             answer,
             performed: _,
         } = self.exchange_recorded(moment, exchange);
@@ -127,18 +127,18 @@ impl<V: Versions + Drop> Host<V> {
     }
 
     /// Performs an exchange as `exchange` does, and returns with the answer what of it has to be replayed.
-    fn exchange_recorded<'a>(&mut self, moment: i64, exchange: &Exchange<'a>) -> Done<'a>
+    fn exchange_recorded<'a>(&mut self, moment: i64, exchange: &Exchange<'a>) -> RecordedAnswer<'a>
         ensures { IsRecorded moment exchange.now result.answer result.performed self.old self.new }
     {
         match find(&self.routes, &self.repositories, &exchange.target) {
             Some((endpoint, place, name)) => {
-                let Recorded { answer, bytes } = self
+                let RepoAnswer { answer, bytes } = self
                     .repositories
                     .exchange_at(&mut self.store, place, endpoint, moment, exchange);
                 let performed = performed_at(endpoint, name, bytes);
-                Done { answer, performed }
+                RecordedAnswer { answer, performed }
             }
-            None => Done {
+            None => RecordedAnswer {
                 answer: Answer::of_status(self.alloc, status_of(&exchange.target)),
                 performed: None,
             },
@@ -350,7 +350,11 @@ impl<V: Versions + Drop> Replayed for Host<V> {
 
     ghost same_restored = { emptied_restored };
 
-    fn exchange_recorded<'a>(&mut self, moment: i64, exchange: &Exchange<'a>) -> Done<'a> {
+    fn exchange_recorded<'a>(
+        &mut self,
+        moment: i64,
+        exchange: &Exchange<'a>,
+    ) -> RecordedAnswer<'a> {
         self.exchange_recorded(moment, exchange)
     }
 

@@ -1,5 +1,4 @@
 //! What of an exchange has to be replayed, and its replay.
-ghost use Rattle.oai_host.specs.Answers.{failure_in};
 ghost use Rattle.oai_host.specs.Bodies.{lines_in};
 ghost use Rattle.oai_host.specs.Exchanged.{RedoesIn};
 ghost use Rattle.oai_host.specs.Redone.{arguments_to_replay, lines_to_replay, task_again};
@@ -8,16 +7,17 @@ ghost use Rattle.oai_repo.specs.Fields.{Owns};
 ghost use Rattle.std.specs.Option.{option_copied};
 ghost use Rattle.std.specs.Prelude.{length, ◌≡◌};
 
-use crate::deposits::perform_lines;
+use crate::deposits::redo_lines;
 use oai_catalogue::Versions;
 use oai_http::{Answer, Endpoint};
 use oai_item::Fault;
 use oai_repo::{Replay, Repo};
 use std::alloc::Global;
 
-/// An answer, and the bytes that replay what was performed for it: the arguments of a request, or the lines of a deposit.
+/// The answer of a repository, and the bytes that replay what was performed for it: the arguments of a request, or the
+/// lines of a deposit.
 #[derive(Drop)]
-pub(crate) struct Recorded<'a> {
+pub(crate) struct RepoAnswer<'a> {
     /// The answer.
     pub(crate) answer: Answer,
     /// The bytes; `None` if nothing has to be replayed.
@@ -60,10 +60,7 @@ pub(crate) fn redo<V: Versions>(
 {
     match endpoint {
         Endpoint::Requests => pass_request(repo, store, moment, bytes),
-        Endpoint::Deposits => {
-            let (answer, _, _) = perform_lines(alloc, repo, store, moment, bytes);
-            fault_of(&answer)
-        }
+        Endpoint::Deposits => redo_lines(alloc, repo, store, moment, bytes),
     }
 }
 
@@ -80,14 +77,4 @@ fn pass_request<V: Versions>(
         store.new }
 {
     repo.pass(store, moment, arguments)
-}
-
-/// Ok, or why the exchange with that answer failed.
-fn fault_of(answer: &Answer) -> Result<(), Fault>
-    ensures { result ≡ failure_in answer.now }
-{
-    match answer.fault {
-        None => Ok(()),
-        Some(fault) => Err(fault),
-    }
 }

@@ -20,7 +20,7 @@ ghost use Rattle.std.specs.Prelude.{IsTrue, List, OnErr, OnOk, Some, [], false, 
 ghost use Rattle.std.specs.Str.{bytes_eq};
 
 use crate::dispatch::perform_exchange;
-use crate::records::{Recorded, redo};
+use crate::records::{RepoAnswer, redo};
 use crate::restores::restore;
 use crate::saves::save;
 use oai_catalogue::Versions;
@@ -145,7 +145,7 @@ impl Repositories {
         endpoint: Endpoint,
         moment: i64,
         exchange: &Exchange<'a>,
-    ) -> Recorded<'a>
+    ) -> RepoAnswer<'a>
         requires place { IsRepoPlace self.old place endpoint exchange.now.target }
         requires repos { AreNamedRepos (V.honest store.old) self.old (V.lists store.old) }
         ensures steps { AreSteps (call_of moment exchange.now) result.answer

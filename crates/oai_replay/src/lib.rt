@@ -6,4 +6,4 @@ mod parts;
 mod replays;
 
 pub use parts::{Part, PartKind, SaveFault, Sink, SinkFault};
-pub use replays::{Done, Performed, Replayed};
+pub use replays::{Performed, RecordedAnswer, Replayed};

@@ -23,7 +23,7 @@ pub struct Performed<'a> {
 
 /// An answer, and what was performed for it; `None` if nothing was that changes the state.
 #[derive(Debug, Drop)]
-pub struct Done<'a> {
+pub struct RecordedAnswer<'a> {
     /// The answer.
     pub answer: Answer,
     /// What to replay so that the handler gets to its present state.
@@ -53,7 +53,7 @@ pub trait Replayed: Handler {
     /// Performs a message as `exchange` does, and returns with the answer what of it has to be replayed: a request; a
     /// deposit of its first lines, as many as were done; or nothing if nothing was done, as by a request that failed.
     /// The message left the state that the replay leaves. A checkpoint that is written stays one of the same state.
-    fn exchange_recorded<'a>(&mut self, moment: i64, exchange: &Exchange<'a>) -> Done<'a>
+    fn exchange_recorded<'a>(&mut self, moment: i64, exchange: &Exchange<'a>) -> RecordedAnswer<'a>
         ensures step { Self.step self.old moment (asked_by exchange.now) result.answer self.new }
         ensures left { IsTrue (is_honest self.old)
             → kept self.new ≡ left_again redone (kept self.old) moment result.performed }

@@ -1,4 +1,4 @@
--- What is written is a line.
+-- The clock is moved, and the cause is the answer.
 use Rattle.std.proofs.Common.{◌++◌, ◌∷◌, [], List, ℕ, FitsSigned, w64, refl, sym, ap}
 use Rattle.std.proofs.lemmas.Int.{to_z-of_z}
 use Rattle.oai_item.specs.Refusals.{in_line, refusal_line}
@@ -12,13 +12,15 @@ unfolding outcome_output act
 returns g c =
     let fits : FitsSigned w64 c.args.moment = c.ranges.moment in
     let text : List ℕ = refusal_line (in_line c.args.cause) ++ 10 ∷ [] in
-    let state = simp to_z-of_z at c.advance.ensures.moved in record {
-      ok = record {
-        text = text;
-        told = c.put_cause.ensures;
-        line = record { so = record { told = refl; state = state }; exact = λ _. ap (λ (s : RepoState). (text, s)) (sym state) };
-      };
+    let state = simp to_z-of_z at c.advance.ensures.moved in
+    let store = spends_none g.V.Versions c.args.store.now c.advance.new.store c.advance.ensures.store in record {
+      ok = record { so = record { told = refl; state = state }; exact = λ _. ap (λ (s : RepoState). (text, s)) (sym state) };
+      writable = tt;
       err = tt;
       kept = c.advance.ensures.keeps;
-      store = spends_none g.V.Versions c.args.store.now c.advance.new.store c.advance.ensures.store;
+      store = record {
+        room = record { enough = tt; used = store.room.used };
+        device = record { count = store.device.count; device = tt };
+        honesty = record { same = store.honesty.same; damaged = tt };
+      };
     }

@@ -21,19 +21,19 @@ invariant_of-self c =
     let left = rw (← c.self.view_is, c.in-Waiting.is) at c.requires in
     record { start = start_left i.start c.in-Waiting.begun i.bytes.items v.start left.0; head = head_left i.start c.in-Waiting.begun i.bytes.items _ left.1; filled = v.filled; taken = v.taken }
 
-pub invariant_of-self-in-Refused : goal.invariant_of-self-in-Refused
-invariant_of-self-in-Refused c =
+pub invariant_of-self-in-Unanswered : goal.invariant_of-self-in-Unanswered
+invariant_of-self-in-Unanswered c =
     let i = c.self.inside in
     let v = c.self.invariant in
-    let left = rw (← c.self.view_is, c.in-Refused.is) at c.requires in
-    record { start = start_left i.start c.in-Refused.begun i.bytes.items v.start left.0; head = head_left i.start c.in-Refused.begun i.bytes.items _ left.1; filled = v.filled; taken = v.taken }
+    let left = rw (← c.self.view_is, c.in-Unanswered.is) at c.requires in
+    record { start = start_left i.start c.in-Unanswered.begun i.bytes.items v.start left.0; head = head_left i.start c.in-Unanswered.begun i.bytes.items _ left.1; filled = v.filled; taken = v.taken }
 
 pub returns-in-Waiting-clause-left : goal.returns-in-Waiting-clause-left
 returns-in-Waiting-clause-left c =
     let i = c.self.inside in
     rw (← c.self.view_is, c.in-Waiting.is) (ap (λ (xs : List ℕ). made i.number xs (drop i.taken (concat i.queue.items)) i.stage) (sym (drop-drop c.in-Waiting.begun i.start i.bytes.items)))
 
-pub returns-in-Refused-clause-left : goal.returns-in-Refused-clause-left
-returns-in-Refused-clause-left c =
+pub returns-in-Unanswered-clause-left : goal.returns-in-Unanswered-clause-left
+returns-in-Unanswered-clause-left c =
     let i = c.self.inside in
-    rw (← c.self.view_is, c.in-Refused.is) (ap (λ (xs : List ℕ). made i.number xs (drop i.taken (concat i.queue.items)) i.stage) (sym (drop-drop c.in-Refused.begun i.start i.bytes.items)))
+    rw (← c.self.view_is, c.in-Unanswered.is) (ap (λ (xs : List ℕ). made i.number xs (drop i.taken (concat i.queue.items)) i.stage) (sym (drop-drop c.in-Unanswered.begun i.start i.bytes.items)))
