@@ -8,6 +8,8 @@ use Rattle.oai_http.specs.declared.exchanges.Answer.{Answer}
 use Rattle.oai_replay.specs.declared.replays.Performed.{Performed}
 use Rattle.oai_journal.specs.Records.{Entry}
 use Rattle.oai_journal.specs.declared.journals.Journal as journal
+use Rattle.oai_journal.specs.declared.tails.Tail.{Tail}
+use Rattle.oai_replay.specs.Parts.{PartState}
 use Rattle.oai_durable.specs.Journaled.{IsExchange, Parts, Replaying, unperformed_answer}
 use Rattle.oai_durable.specs.Records.{log_entries_of, redone_all}
 use Rattle.oai_durable.proofs.RecordLemmas.{left_redone, redone_append}
@@ -19,8 +21,9 @@ none_is_some x is = cc
 pub refused_kept : {H J : Type 0} (h : Replaying H) (j : journal.Ghosts J) (before : Parts H J) (moment : ℤ) (asked : Asked) (answer : Answer) (after : J)
     → answer ≡ unperformed_answer asked.target
     → ((entries : List Entry) (durable : ℕ) → j.holds before.journal entries durable → j.holds after entries durable)
+    → ((tail : Tail) (read : List Entry) → j.stands before.journal tail read → j.stands after tail read)
     → IsExchange h j before moment asked answer (record { handler = before.handler; journal = after })
-refused_kept h j before moment asked answer after told same =
+refused_kept h j before moment asked answer after told same tails =
     let fault : answer.fault ≡ Some NoMemory = ap (λ (a : Answer). a.fault) told in
     record {
       tried = inr (refl, told);
@@ -32,6 +35,8 @@ refused_kept h j before moment asked answer after told same =
         told = λ honest whole. none_is_some NoMemory (sym fault ∙ whole);
         left = λ honest whole. none_is_some NoMemory (sym fault ∙ whole);
       };
+      saving = λ state saved saves. saves;
+      tails = tails;
     }
 
 -- the handler performed a message, and its record was added, if there is one
@@ -42,8 +47,10 @@ pub performed_kept : {H J : Type 0} (h : Replaying H) (j : journal.Ghosts J) (be
     → (IsTrue (h.is_honest before.handler) → answer.fault ≡ None → answer ≡ h.reply (h.kept before.handler) (call_at moment asked))
     → h.is_honest after.handler ≡ h.is_honest before.handler
     → ((entries : List Entry) (durable : ℕ) → j.holds before.journal entries durable → j.holds after.journal (entries ++ log_entries_of moment performed) durable)
+    → ((state : h.Kept) (saved : List PartState) → h.saves before.handler state saved → h.saves after.handler state saved)
+    → ((tail : Tail) (read : List Entry) → j.stands before.journal tail read → j.stands after.journal tail read)
     → IsExchange h j before moment asked answer after
-performed_kept h j before moment asked answer performed after step left whole reply honesty holds = record {
+performed_kept h j before moment asked answer performed after step left whole reply honesty holds saving tails = record {
   tried = inl step;
   honesty = honesty;
   kept = λ begun entries durable held.
@@ -58,6 +65,8 @@ performed_kept h j before moment asked answer performed after step left whole re
         told = λ honest none. reply honest none ∙ ap (λ (k : h.Kept). h.reply k (call_at moment asked)) (held.kept honest);
         left = λ honest none. sym (is honest) ∙ whole honest none ∙ ap (λ (k : h.Kept). h.leaving.redone k (call_at moment asked)) (held.kept honest);
       };
+  saving = saving;
+  tails = tails;
 } where
   few : (moment : ℤ) (p : Option Performed) → length (log_entries_of moment p) ≤ 1
   few moment None = grind (arith)

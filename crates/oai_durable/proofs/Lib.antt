@@ -6,5 +6,6 @@ pub mod ServedLemmas
 pub mod CheckpointLemmas
 pub mod StandLemmas
 pub mod MoveLemmas
+pub mod OnlineLemmas
 pub mod StoodLemmas
 pub mod SwitchLemmas

@@ -12,7 +12,7 @@ use Rattle.oai_journal.specs.declared.recovery.RecoveryFault.TheVariants.{Damage
 use Rattle.oai_durable.specs.Records.{Leaving, left_by_entry}
 use Rattle.oai_durable.specs.Recovered.{HasRedone, TellsDamage, is_of_journal}
 use Rattle.oai_durable.specs.declared.recovery.RecoverFault.{RecoverFault}
-use Rattle.oai_durable.specs.declared.recovery.RecoverFault.TheVariants.{Journal, Kind, Performing}
+use Rattle.oai_durable.specs.declared.recovery.RecoverFault.TheVariants.{Journal, Performing, UnknownKind}
 use Rattle.oai_durable.proofs.RecordLemmas.{redone_append}
 
 pub next_redone : {H K D : Type 0} (kept : H → K) (is_honest : H → Bool) (leaving : Leaving K) (seen : D → List ℕ) (may_leave : D → List ℕ → Type 0)
@@ -42,5 +42,5 @@ tells_own file (Stopped cause) its = tt
 -- what is not of the journal reports none
 pub tells_nothing : (file : List ℕ) (cause : RecoverFault) → is_of_journal cause ≡ false → TellsDamage file cause
 tells_nothing file (Journal cause) own = absurd (false≢true (sym own))
-tells_nothing file (Kind number) own = tt
+tells_nothing file (UnknownKind number) own = tt
 tells_nothing file (Performing number cause) own = tt

@@ -11,10 +11,13 @@ use Rattle.oai_http.specs.declared.targets.Endpoint.{Endpoint}
 use Rattle.oai_http.specs.declared.targets.Endpoint.TheVariants.{Deposits, Requests}
 use Rattle.oai_journal.specs.Records.{Entry}
 use Rattle.oai_journal.specs.declared.journals.Journal as journal
+use Rattle.oai_journal.specs.declared.tails.Tail.{Tail}
+use Rattle.oai_replay.specs.Parts.{PartState}
 use Rattle.oai_durable.specs.Records.{Leaving, redone_all}
 
 -- the operations of a handler whose exchanges can be replayed: what may be answered, its state, whether its device
--- returns what was written to it, the state after calls and parts, and the answer to a call
+-- returns what was written to it, the state after calls and parts, the answer to a call, and whether a checkpoint of a
+-- state is written, of which some parts are saved
 pub record Replaying (H : Type 0) : Type 1 where
   pub step : H → ℤ → Asked → Answer → H → Type 0
   pub Kept : Type 0
@@ -22,6 +25,35 @@ pub record Replaying (H : Type 0) : Type 1 where
   pub is_honest : H → Bool
   pub leaving : Leaving Kept
   pub reply : Kept → Call → Answer
+  pub saves : H → Kept → List PartState → Type 0
+
+-- what the traits `Handler` and `Replayed` say of a handler
+abbrev pub Promised : Type 0 → Type 1
+Promised H = record {
+  step : H → ℤ → Asked → Answer → H → Type 0;
+  Kept : Type 0;
+  kept : H → Kept;
+  is_honest : H → Bool;
+  redone : Kept → Call → Kept;
+  reply : Kept → Call → Answer;
+  saves : H → Kept → List PartState → Type 0;
+  restored : Kept → PartState → Kept;
+  parts : Kept → List PartState;
+  ended : ℕ → Kept → Kept;
+  emptied : Kept → Kept;
+}
+
+-- the handler of which they say it, as its journal replays it
+abbrev pub promised : {H : Type 0} → Promised H → Replaying H
+promised p = record {
+  step = p.step;
+  Kept = p.Kept;
+  kept = p.kept;
+  is_honest = p.is_honest;
+  leaving = record { redone = p.redone; restored = p.restored };
+  reply = p.reply;
+  saves = p.saves;
+}
 
 -- the handler, and the journal
 pub record Parts (H J : Type 0) : Type 0 where
@@ -62,14 +94,19 @@ pub record IsKept {H J : Type 0} (h : Replaying H) (j : journal.Ghosts J) (begun
   pub left : IsTrue (h.is_honest before.handler) → answer.fault ≡ None
       → redone_all h.leaving begun (entries ++ own) ≡ h.leaving.redone (redone_all h.leaving begun entries) (call_at moment asked)
 
--- what an exchange does, whatever records precede it
+-- what an exchange does, whatever records precede it. A checkpoint that is written stays one of the same state, and each
+-- tail of the journal stays where it stands
 pub record IsExchange {H J : Type 0} (h : Replaying H) (j : journal.Ghosts J) (before : Parts H J) (moment : ℤ) (asked : Asked) (answer : Answer) (after : Parts H J) : Type 0 where
   pub tried : IsTried h before moment asked answer after
   pub honesty : h.is_honest after.handler ≡ h.is_honest before.handler
   pub kept : (begun : h.Kept) (entries : List Entry) (durable : ℕ) → IsHeld h j begun before entries durable → IsKept h j begun entries durable before moment asked answer after
+  pub saving : (state : h.Kept) (saved : List PartState) → h.saves before.handler state saved → h.saves after.handler state saved
+  pub tails : (tail : Tail) (read : List Entry) → j.stands before.journal tail read → j.stands after.journal tail read
 
--- settling makes all records durable, or fails and leaves them; the handler is unchanged
+-- settling makes all records durable, and leaves each tail where it stands; or it fails and leaves the records. The
+-- handler is unchanged
 pub record IsSettled {H J : Type 0} (j : journal.Ghosts J) (before : Parts H J) (result : Result (Unit {0}) SettleFault) (after : Parts H J) : Type 0 where
   pub handler : after.handler ≡ before.handler
   pub ok : OnOk result ((entries : List Entry) (durable : ℕ) → j.holds before.journal entries durable → j.holds after.journal entries (length entries))
   pub err : OnErr result ((entries : List Entry) (durable : ℕ) → j.holds before.journal entries durable → j.holds after.journal entries durable)
+  pub tails : OnOk result ((entries : List Entry) (durable : ℕ) → j.holds before.journal entries durable → (tail : Tail) (read : List Entry) → j.stands before.journal tail read → j.stands after.journal tail read)

@@ -2,7 +2,9 @@ pub mod Records
 pub mod Journaled
 pub mod Recovered
 pub mod Lives
+pub mod Either
 pub mod Moves
+pub mod OnlineCheckpoints
 pub mod Stood
 pub mod Switches
 pub mod Served

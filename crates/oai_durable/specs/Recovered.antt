@@ -7,7 +7,7 @@ use Rattle.oai_journal.specs.Recoveries.{IsDamagedAt}
 use Rattle.oai_journal.specs.declared.recovery.Recovery.{Recovery}
 use Rattle.oai_journal.specs.declared.recovery.RecoveryFault.TheVariants.{Damaged, Stopped}
 use Rattle.oai_durable.specs.declared.recovery.RecoverFault.{RecoverFault}
-use Rattle.oai_durable.specs.declared.recovery.RecoverFault.TheVariants.{Journal, Kind, Performing}
+use Rattle.oai_durable.specs.declared.recovery.RecoverFault.TheVariants.{Journal, Performing, UnknownKind}
 use Rattle.oai_durable.specs.Records.{Leaving, redone_all}
 
 -- these records were read, and the handler replayed them from that beginning
@@ -27,12 +27,12 @@ pub record IsRecovered {H K D : Type 0} (kept : H → K) (is_honest : H → Bool
 -- the journal could not be read on
 abbrev pub is_of_journal : RecoverFault → Bool
 is_of_journal (Journal cause) = true
-is_of_journal (Kind number) = false
+is_of_journal (UnknownKind number) = false
 is_of_journal (Performing number cause) = false
 
 -- a cause reports damage only at a byte where the file is damaged, or where one of its commit bytes was changed
 abbrev pub TellsDamage : List ℕ → RecoverFault → Type 0
 TellsDamage file (Journal (Damaged at)) = IsDamagedAt file at ⊎ IsChangedAt file at
 TellsDamage file (Journal (Stopped cause)) = Unit {0}
-TellsDamage file (Kind number) = Unit {0}
+TellsDamage file (UnknownKind number) = Unit {0}
 TellsDamage file (Performing number cause) = Unit {0}

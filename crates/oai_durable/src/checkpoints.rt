@@ -33,8 +33,8 @@ pub enum CheckpointFault {
 
 /// A journal that takes parts as log records, and commits them in groups.
 #[derive(Drop)]
-struct JournalSink<J> {
-    journal: J,
+pub(crate) struct JournalSink<J> {
+    pub(crate) journal: J,
     /// The bytes of the records that were added since the last commit.
     waiting: usize,
     /// Why no further part was taken.
@@ -56,6 +56,26 @@ impl<J: Journal> Sink for JournalSink<J> {
 }
 
 impl<J: Journal> JournalSink<J> {
+    /// The journal, which has no record behind its first one.
+    pub(crate) fn new(journal: J) -> JournalSink<J>
+        ensures { result.journal ≡ journal }
+    {
+        JournalSink {
+            journal,
+            waiting: 0,
+            fault: JournalFault::Failed,
+        }
+    }
+
+    /// Why a checkpoint that was passed to it could not be saved.
+    pub(crate) fn cause(&self, fault: SaveFault) -> CheckpointFault {
+        match fault {
+            SaveFault::Reading(fault) => CheckpointFault::Reading(fault),
+            SaveFault::Numbers => CheckpointFault::Numbers,
+            SaveFault::Sink(_) => CheckpointFault::Journal(self.fault),
+        }
+    }
+
     /// Adds the part as a record, after a commit if enough bytes wait for one.
     fn take(&mut self, part: &Part<'_>) -> Result<(), JournalFault>
         ensures { OnOk result ((parts : List PartState) → HasSaved J.Journal self.old.journal parts
@@ -115,16 +135,10 @@ pub fn checkpoint<H: Replayed, J: Journal>(
     ensures same { H.kept handler.new ≡ H.kept handler.old }
     ensures honesty { H.is_honest handler.new ≡ H.is_honest handler.old }
 {
-    let mut sink = JournalSink {
-        journal,
-        waiting: 0,
-        fault: JournalFault::Failed,
-    };
+    let mut sink = JournalSink::new(journal);
     match handler.save(raise, &mut sink) {
         Ok(()) => committed(sink.journal),
-        Err(SaveFault::Reading(fault)) => Err(CheckpointFault::Reading(fault)),
-        Err(SaveFault::Numbers) => Err(CheckpointFault::Numbers),
-        Err(SaveFault::Sink(_)) => Err(CheckpointFault::Journal(sink.fault)),
+        Err(fault) => Err(sink.cause(fault)),
     }
 }
 

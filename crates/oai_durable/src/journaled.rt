@@ -3,6 +3,7 @@ ghost use Rattle.oai_durable.specs.Journaled as spec;
 ghost use Rattle.oai_durable.specs.Records.{most_in};
 ghost use Rattle.oai_journal.specs.Records.{Entry};
 ghost use Rattle.oai_journal.specs.declared.records.TheConstants.{MAX_BODY};
+ghost use Rattle.oai_journal.specs.declared.tails.Tail.{Tail};
 ghost use Rattle.std.specs.Prelude.{◌≡◌, ◌≤◌, ℕ, List, OnOk};
 
 use crate::records::add;
@@ -19,9 +20,9 @@ use std::marker::Model;
 /// settled (group commit).
 #[derive(Drop)]
 pub struct Journaled<H, J> {
-    alloc: Global,
-    handler: H,
-    journal: J,
+    pub(crate) alloc: Global,
+    pub(crate) handler: H,
+    pub(crate) journal: J,
     /// How many records the journal has behind its first one.
     records: u64,
 }
@@ -59,16 +60,9 @@ impl<H: Replayed, J: Journal> Journaled<H, J> {
 }
 
 impl<H: Replayed, J: Journal> Handler for Journaled<H, J> {
-    ghost use Rattle.oai_durable.specs.Journaled.{IsExchange};
+    ghost use Rattle.oai_durable.specs.Journaled.{IsExchange, promised};
 
-    ghost step = { IsExchange (record {
-      step = H.step;
-      Kept = H.Kept;
-      kept = H.kept;
-      is_honest = H.is_honest;
-      leaving = record { redone = H.redone; restored = H.restored };
-      reply = H.reply;
-    }) J.Journal };
+    ghost step = { IsExchange (promised H.Replayed) J.Journal };
 
     fn exchange(&mut self, moment: i64, exchange: &Exchange<'_>) -> Answer {
         match make_room(&mut self.journal, exchange) {
@@ -105,6 +99,7 @@ fn make_room<J: Journal>(journal: &mut J, exchange: &Exchange<'_>) -> Result<(),
     ensures size { OnOk result (most_in exchange.now ≤ MAX_BODY) }
     ensures same { (entries : List Entry) (durable : ℕ) → J.holds journal.old entries durable
         → J.holds journal.new entries durable }
+    ensures tails { (tail : Tail) (read : List Entry) → J.stands journal.old tail read → J.stands journal.new tail read }
 {
     let most = exchange.target.bytes().len().max(exchange.body.len());
     if most > MAX_BODY {

@@ -2,7 +2,8 @@
 ghost use Rattle.oai_durable.specs.Checkpoints.{AreStages, IsHistory, JournalStage};
 ghost use Rattle.oai_durable.specs.Lives.{AreAmong, AreLives, Life, answered_in};
 ghost use Rattle.oai_durable.specs.Moves.{AreLikeLives, AreMovedLives, Move};
-ghost use Rattle.oai_durable.specs.Journaled.{IsExchange, IsHeld, IsSettled, Parts, Replaying};
+ghost use Rattle.oai_durable.specs.Journaled.{IsExchange, IsHeld, IsSettled, Parts, Replaying, promised};
+ghost use Rattle.oai_durable.specs.OnlineCheckpoints.{IsWriting, LeavesSame, Writing};
 ghost use Rattle.oai_durable.specs.Records.{redone_all};
 ghost use Rattle.oai_durable.specs.Recovered.{TellsDamage};
 ghost use Rattle.oai_durable.specs.Stood.{IsHeldBy, IsKeptBy, IsLeftLike, StandInFor};
@@ -22,7 +23,7 @@ ghost use Rattle.oai_serving.specs.declared.faults.ServeFault.{ServeFault as Fau
 ghost use Rattle.oai_http.specs.Exchanges.{Asked};
 ghost use Rattle.oai_http.specs.declared.exchanges.Answer.{Answer};
 ghost use Rattle.oai_http.specs.declared.handlers.SettleFault.{SettleFault};
-ghost use Rattle.std.specs.Prelude.{◌≡◌, [], ℕ, ℤ, IsTrue, List, Result, Ok, Err, length};
+ghost use Rattle.std.specs.Prelude.{◌≡◌, [], ◌++◌, ℕ, ℤ, IsTrue, List, Result, Ok, Err, length};
 
 use oai_journal::Journal;
 use oai_replay::Replayed;
@@ -44,14 +45,7 @@ pub fn restart_law<H: Replayed>()
 pub fn life_law<H: Replayed, J: Journal>()
     ensures { (begun : H.Kept) (found : List Entry) (first : Parts H J) (rounds : List (List Served)) (held : List Served)
         (left : List Entry)
-        → IsLived (record {
-          step = H.step;
-          Kept = H.Kept;
-          kept = H.kept;
-          is_honest = H.is_honest;
-          leaving = record { redone = H.redone; restored = H.restored };
-          reply = H.reply;
-        }) J.Journal begun found first rounds held left
+        → IsLived (promised H.Replayed) J.Journal begun found first rounds held left
         → LivesAs (record { redone = H.redone; restored = H.restored }) H.reply begun found (served_in rounds) held left }
 {}
 
@@ -61,23 +55,9 @@ pub fn life_law<H: Replayed, J: Journal>()
 pub fn service_law<S: Stream, H: Replayed, J: Journal>()
     ensures { (begun : H.Kept) (found : List Entry) (known later : Known S) (old new : World S (Parts H J))
         (result : Result Unit Fault) (left : List Entry)
-        → IsService (IsExchange (record {
-          step = H.step;
-          Kept = H.Kept;
-          kept = H.kept;
-          is_honest = H.is_honest;
-          leaving = record { redone = H.redone; restored = H.restored };
-          reply = H.reply;
-        }) J.Journal) (IsSettled J.Journal) S.contents S.remaining known later old
+        → IsService (IsExchange (promised H.Replayed) J.Journal) (IsSettled J.Journal) S.contents S.remaining known later old
         result new
-        → IsHeld (record {
-          step = H.step;
-          Kept = H.Kept;
-          kept = H.kept;
-          is_honest = H.is_honest;
-          leaving = record { redone = H.redone; restored = H.restored };
-          reply = H.reply;
-        }) J.Journal begun old.handler found (length found)
+        → IsHeld (promised H.Replayed) J.Journal begun old.handler found (length found)
         → IsTrue (H.is_honest old.handler.handler)
         → J.may_leave new.handler.journal left
         → IsRemembered S.contents S.remaining (record { redone = H.redone; restored = H.restored }) H.reply begun found known later old new left }
@@ -123,51 +103,47 @@ pub fn moved_law<H: Replayed>()
 /// file stands; settling makes all of them durable, or fails and leaves them. What a crash leaves of the file stands
 /// for what a crash would have left of them: all durable ones, and the first of the others.
 pub fn stood_law<H: Replayed, J: Journal>()
-    ensures exchange { (let h : Replaying H = record {
-      step = H.step;
-      Kept = H.Kept;
-      kept = H.kept;
-      is_honest = H.is_honest;
-      leaving = record { redone = H.redone; restored = H.restored };
-      reply = H.reply;
-    } in (begun : H.Kept) (entries : List Entry) (durable : ℕ) (before after : Parts H J) (moment : ℤ) (asked : Asked)
-        (answer : Answer)
+    ensures exchange { (let h : Replaying H = promised H.Replayed in (begun : H.Kept) (entries : List Entry)
+        (durable : ℕ) (before after : Parts H J) (moment : ℤ) (asked : Asked) (answer : Answer)
         → IsHeldBy h J.Journal begun before entries durable
         → IsExchange h J.Journal before moment asked answer after
         → IsKeptBy h J.Journal begun entries durable before moment asked answer after) }
-    ensures settled { (let h : Replaying H = record {
-      step = H.step;
-      Kept = H.Kept;
-      kept = H.kept;
-      is_honest = H.is_honest;
-      leaving = record { redone = H.redone; restored = H.restored };
-      reply = H.reply;
-    } in (begun : H.Kept) (entries : List Entry) (durable : ℕ) (before after : Parts H J)
+    ensures settled { (let h : Replaying H = promised H.Replayed in (begun : H.Kept) (entries : List Entry)
+        (durable : ℕ) (before after : Parts H J)
         → IsHeldBy h J.Journal begun before entries durable
         → IsSettled J.Journal before (Ok tt) after
         → IsHeldBy h J.Journal begun after entries (length entries)) }
-    ensures unsettled { (let h : Replaying H = record {
-      step = H.step;
-      Kept = H.Kept;
-      kept = H.kept;
-      is_honest = H.is_honest;
-      leaving = record { redone = H.redone; restored = H.restored };
-      reply = H.reply;
-    } in (begun : H.Kept) (entries : List Entry) (durable : ℕ) (before after : Parts H J) (fault : SettleFault)
+    ensures unsettled { (let h : Replaying H = promised H.Replayed in (begun : H.Kept) (entries : List Entry)
+        (durable : ℕ) (before after : Parts H J) (fault : SettleFault)
         → IsHeldBy h J.Journal begun before entries durable
         → IsSettled J.Journal before (Err fault) after
         → IsHeldBy h J.Journal begun after entries durable) }
-    ensures crash { (let h : Replaying H = record {
-      step = H.step;
-      Kept = H.Kept;
-      kept = H.kept;
-      is_honest = H.is_honest;
-      leaving = record { redone = H.redone; restored = H.restored };
-      reply = H.reply;
-    } in (begun : H.Kept) (entries : List Entry) (durable : ℕ) (parts : Parts H J) (left : List Entry)
+    ensures crash { (let h : Replaying H = promised H.Replayed in (begun : H.Kept) (entries : List Entry)
+        (durable : ℕ) (parts : Parts H J) (left : List Entry)
         → IsHeldBy h J.Journal begun parts entries durable
         → J.may_leave parts.journal left
         → IsLeftLike h.leaving begun entries durable left) }
+{}
+
+/// A checkpoint that is written while exchanges go on stays one of the records, of those too that exchanges log, and
+/// settling makes durable. Once it is written, its journal may take the place of the other: it stands for all records.
+pub fn online_checkpoint_law<H: Replayed, J: Journal, K: Journal>()
+    ensures exchange { (let h : Replaying H = promised H.Replayed in (begun : H.Kept) (entries own : List Entry)
+        (durable : ℕ) (before after : Parts H J) (moment : ℤ) (asked : Asked) (answer : Answer) (w : Writing K)
+        → IsExchange h J.Journal before moment asked answer after
+        → IsWriting h J.Journal K.Journal H.emptied begun before entries durable w
+        → IsWriting h J.Journal K.Journal H.emptied begun after (entries ++ own) durable w) }
+    ensures settled { (let h : Replaying H = promised H.Replayed in (begun : H.Kept) (entries : List Entry)
+        (durable : ℕ) (before after : Parts H J) (w : Writing K)
+        → IsHeld h J.Journal begun before entries durable
+        → IsSettled J.Journal before (Ok tt) after
+        → IsWriting h J.Journal K.Journal H.emptied begun before entries durable w
+        → IsWriting h J.Journal K.Journal H.emptied begun after entries (length entries) w) }
+    ensures stands { (let h : Replaying H = promised H.Replayed in (begun : H.Kept) (entries : List Entry)
+        (durable : ℕ) (parts : Parts H J) (new : K)
+        → IsHeld h J.Journal begun parts entries durable
+        → LeavesSame K.Journal h.leaving begun entries new
+        → IsHeldBy h K.Journal begun (record { handler = parts.handler; journal = new }) entries (length entries)) }
 {}
 
 /// At each moment of a switch, from one journal to another that leaves the same state, all records of both being

@@ -3,14 +3,19 @@
 #![tactic(auto)]
 
 mod checkpoints;
+mod either;
 mod journaled;
 mod laws;
+mod online_checkpoints;
 mod records;
 mod recovery;
 
 pub use checkpoints::{CheckpointFault, checkpoint};
+pub use either::EitherJournal;
 pub use journaled::Journaled;
 pub use laws::{
-    life_law, moved_law, recovery_law, restart_law, service_law, stages_law, stood_law, switch_law,
+    life_law, moved_law, online_checkpoint_law, recovery_law, restart_law, service_law, stages_law,
+    stood_law, switch_law,
 };
+pub use online_checkpoints::OnlineCheckpoint;
 pub use recovery::{Progress, RecoverFault, recover, resume};

@@ -5,6 +5,7 @@ ghost use Rattle.oai_replay.specs.Parts.{as_part};
 ghost use Rattle.oai_replay.specs.Redone.{call_again, is_short_name};
 ghost use Rattle.oai_journal.specs.Records.{Entry};
 ghost use Rattle.oai_journal.specs.declared.records.TheConstants.{MAX_BODY};
+ghost use Rattle.oai_journal.specs.declared.tails.Tail.{Tail};
 ghost use Rattle.std.specs.Option.{IfNone};
 ghost use Rattle.std.specs.Prelude.{◌≡◌, ◌≤◌, ◌++◌, ◌∷◌, [], ℕ, Some, IfSome, IsTrue, List, None, length};
 
@@ -30,8 +31,9 @@ pub(crate) fn add<J: Journal>(journal: &mut J, moment: i64, performed: &Performe
     requires name { IsTrue (is_short_name performed.now.name.now) }
     requires size { length performed.now.bytes.now ≤ MAX_BODY }
     requires room { J.has_room journal.old (length performed.now.bytes.now) }
-    ensures { (entries : List Entry) (durable : ℕ) → J.holds journal.old entries durable
+    ensures added { (entries : List Entry) (durable : ℕ) → J.holds journal.old entries durable
         → J.holds journal.new (entries ++ spec.log_entry_of moment performed.now ∷ []) durable }
+    ensures tails { (tail : Tail) (read : List Entry) → J.stands journal.old tail read → J.stands journal.new tail read }
 {
     journal.append(&record_of(moment, performed));
 }

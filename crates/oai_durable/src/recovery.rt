@@ -1,5 +1,5 @@
 //! Replays the records of a journal: crash recovery.
-ghost use Rattle.oai_durable.specs.Journaled.{IsHeld};
+ghost use Rattle.oai_durable.specs.Journaled.{IsHeld, promised};
 ghost use Rattle.oai_durable.specs.Records.{left_by_entry};
 ghost use Rattle.oai_durable.specs.Recovered.{HasRedone, IsRecovered, TellsDamage, is_of_journal};
 ghost use Rattle.oai_journal.specs.Changes.{IsUndamaged};
@@ -24,7 +24,7 @@ pub enum RecoverFault {
     Journal(RecoveryFault),
     /// The record has a kind that is neither an exchange nor a part.
     #[error("record {0}: it is neither an exchange nor a part")]
-    Kind(u64),
+    UnknownKind(u64),
     /// A fault ended it.
     #[error("record {0}: performing it fails: {1}")]
     Performing(u64, Fault),
@@ -66,7 +66,7 @@ pub fn recover<H: Replayed, D: Disk + Drop, P: Progress>(
             Err(fault) => return Err(fault),
         }
     }
-    Err(RecoverFault::Kind(u64::MAX))
+    Err(RecoverFault::UnknownKind(u64::MAX))
 }
 
 /// The handler with the journal whose records it replayed, that many behind the first one; `None` before all of them
@@ -79,14 +79,7 @@ pub fn resume<H: Replayed + Drop, D: Disk + Drop>(
 ) -> Option<Journaled<H, FileJournal<D>>>
     ensures { IfSome result (λ journaled. (begun : H.Kept) (first : Entry) (entries : List Entry)
         → HasRedone H.kept H.is_honest (record { redone = H.redone; restored = H.restored }) D.Disk.seen D.Disk.may_leave begun handler recovery first entries
-        → IsHeld (record {
-          step = H.step;
-          Kept = H.Kept;
-          kept = H.kept;
-          is_honest = H.is_honest;
-          leaving = record { redone = H.redone; restored = H.restored };
-          reply = H.reply;
-        }) ⟦<FileJournal<D> as Journal>⟧ begun journaled entries (length entries)) }
+        → IsHeld (promised H.Replayed) ⟦<FileJournal<D> as Journal>⟧ begun journaled entries (length entries)) }
 {
     match recovery.into_journal() {
         Some(journal) => Some(Journaled::new(alloc, handler, journal, records)),
@@ -143,7 +136,7 @@ fn redo_last<H: Replayed, D: Disk + Drop, P: Progress>(
     ensures honesty { H.is_honest handler.new ≡ H.is_honest handler.old }
 {
     let Some(entry) = recovery.record() else {
-        return Err(RecoverFault::Kind(number));
+        return Err(RecoverFault::UnknownKind(number));
     };
     match redo_entry(handler, &entry, number) {
         Ok(()) => {
@@ -169,7 +162,7 @@ fn redo_entry<H: Replayed>(
         Some(part) => handler.restore(&part),
         None => match performed_in(entry) {
             Some(performed) => handler.redo(entry.moment, &performed),
-            None => return Err(RecoverFault::Kind(number)),
+            None => return Err(RecoverFault::UnknownKind(number)),
         },
     };
     match done {

@@ -12,4 +12,4 @@ returns-in-Ok-clause-saved g c =
       ended = g.H.Replayed.ended;
       emptied = g.H.Replayed.emptied;
     }) g.J.Journal (g.H.Replayed.kept c.args.handler.now) c.args.raise c.args.journal c.save.new.sink.journal c.committed.result
-    c.in-Ok.ensures.whole (λ honest before. c.in-Ok.ensures.saved honest [] before) c.committed.ensures
+    c.in-Ok.ensures.whole (λ honest before. c.in-Ok.ensures.saved honest [] (rw c.new-sink.ensures before)) c.committed.ensures

@@ -13,10 +13,19 @@ returns-in-Some g c =
     let left = simp to_z-of_z at is.left in
     let whole = simp to_z-of_z at is.whole in
     let reply = simp to_z-of_z at is.reply in
-    let added = simp to_z-of_z at c.add.ensures in
-    rw (← c.self.view_is) (performed_kept _ g.J.Journal _ c.args.moment (asked_by c.args.exchange.now) c.exchange_recorded-done.result.answer c.exchange_recorded-done.result.performed _
+    let added = simp to_z-of_z at c.add.ensures.added in
+    rw (← c.self.view_is) (performed_kept (record {
+      step = g.H.Handler.step;
+      Kept = g.H.Replayed.Kept;
+      kept = g.H.Replayed.kept;
+      is_honest = g.H.Replayed.is_honest;
+      leaving = record { redone = g.H.Replayed.redone; restored = g.H.Replayed.restored };
+      reply = g.H.Replayed.reply;
+      saves = g.H.Replayed.saves;
+    }) g.J.Journal _ c.args.moment (asked_by c.args.exchange.now) c.exchange_recorded-done.result.answer c.exchange_recorded-done.result.performed _
     step left whole reply is.honesty
-    (λ entries durable held. rw c.in-Some.is (added entries durable (c.make_room.ensures.same entries durable held))))
+    (λ entries durable held. rw c.in-Some.is (added entries durable (c.make_room.ensures.same entries durable held)))
+    is.saving (λ tail read stands. c.add.ensures.tails tail read (c.make_room.ensures.tails tail read stands)))
 
 pub returns-in_default : goal.returns-in_default
 returns-in_default g c =
@@ -26,6 +35,15 @@ returns-in_default g c =
     let left = simp to_z-of_z at is.left in
     let whole = simp to_z-of_z at is.whole in
     let reply = simp to_z-of_z at is.reply in
-    rw (← c.self.view_is) (performed_kept _ g.J.Journal _ c.args.moment (asked_by c.args.exchange.now) c.exchange_recorded-done.result.answer c.exchange_recorded-done.result.performed _
+    rw (← c.self.view_is) (performed_kept (record {
+      step = g.H.Handler.step;
+      Kept = g.H.Replayed.Kept;
+      kept = g.H.Replayed.kept;
+      is_honest = g.H.Replayed.is_honest;
+      leaving = record { redone = g.H.Replayed.redone; restored = g.H.Replayed.restored };
+      reply = g.H.Replayed.reply;
+      saves = g.H.Replayed.saves;
+    }) g.J.Journal _ c.args.moment (asked_by c.args.exchange.now) c.exchange_recorded-done.result.answer c.exchange_recorded-done.result.performed _
     step left whole reply is.honesty
-    (λ entries durable held. rw (c.in_default.is, append-nil entries) (c.make_room.ensures.same entries durable held)))
+    (λ entries durable held. rw (c.in_default.is, append-nil entries) (c.make_room.ensures.same entries durable held))
+    is.saving c.make_room.ensures.tails)
