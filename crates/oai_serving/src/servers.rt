@@ -98,7 +98,7 @@ impl<S: Stream + Drop, H: Settled> Server<S, H> {
 
     /// A round: waits until something becomes ready, at most a second, accepts connections, reads each readable one
     /// once, and performs what came; then the handler settles; and then the output is written. If the handler does not
-    /// settle, nothing is written.
+    /// settle, nothing is written. Both clocks are read once, after the wait, the monotonic one first.
     pub fn round<K: Sockets<S>, C: Clock>(
         &mut self,
         sockets: &mut K,
@@ -110,10 +110,10 @@ impl<S: Stream + Drop, H: Settled> Server<S, H> {
         let Ok(count) = sockets.wait(self.patience()) else {
             return Err(ServeFault::Wait);
         };
-        let Ok(moment) = moment_of(clock) else {
+        let Ok(second) = second_of(clock) else {
             return Err(ServeFault::Clock);
         };
-        let Ok(second) = second_of(clock) else {
+        let Ok(moment) = moment_of(clock) else {
             return Err(ServeFault::Clock);
         };
         self.note_all(sockets, count);
