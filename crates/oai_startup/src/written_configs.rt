@@ -13,7 +13,8 @@ use std::alloc::Global;
 use std::marker::Model;
 
 /// A configuration, of repositories whose records may be elements, and the text that it was read from: a journal has the
-/// text, and a host is made of the configuration. It is parsed once.
+/// text, and a host is made of the configuration. For a second host, or one whose records are lists of fields alone, the
+/// text is parsed again.
 #[derive(Drop)]
 pub struct WrittenConfig {
     text: Vec<u8>,

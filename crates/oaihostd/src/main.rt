@@ -17,7 +17,7 @@ use configurations::{Failure, read_checked};
 use elements::run_xml;
 use keys::{read_rings, run_keys};
 use oai_archive::{ReadFile, ServerStop, VERSION, dump_repository, verify_journal};
-use oai_arguments::{Called, Serving, read_arguments};
+use oai_command_line::{Called, Serving, read_arguments};
 use oai_daemon::{outcome_of, serve};
 use oai_recovery::{HostPlace, checkpoint_folder};
 use oai_reports::report_of;
