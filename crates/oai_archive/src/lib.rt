@@ -22,4 +22,4 @@ pub use laws::same_config_law;
 pub use read_files::ReadFile;
 pub use recoveries::{stop_of_checkpoint, stop_of_recovery};
 pub use stop::{Aspect, Difference, Second, ServerStop, fault_word};
-pub use verify::verify_journal;
+pub use verify::{verify_journal, write_verified};

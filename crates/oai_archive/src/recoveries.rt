@@ -24,7 +24,7 @@ impl Progress for Counted {
 pub fn stop_of_recovery(fault: RecoverFault) -> ServerStop {
     match fault {
         RecoverFault::Journal(fault) => stop_of_reading(fault),
-        RecoverFault::Kind(_) => ServerStop::NotOurs,
+        RecoverFault::UnknownKind(_) => ServerStop::NotOurs,
         RecoverFault::Performing(number, fault) => ServerStop::Performing(number, fault),
     }
 }

@@ -102,8 +102,13 @@ fn check_program<D: Disk + Drop>(recovery: &Recovery<D>) -> Result<(), ServerSto
     }
 }
 
-/// Writes the line for a journal of that many records and bytes.
-fn write_verified<W: Write>(records: u64, bytes: usize, writer: &mut W) -> Result<(), ServerStop> {
+/// Writes `ok`, the number of records after the first one, and the number of bytes of a journal, as a line. The error is
+/// `OutputFault`.
+pub fn write_verified<W: Write>(
+    records: u64,
+    bytes: usize,
+    writer: &mut W,
+) -> Result<(), ServerStop> {
     if writeln!(writer, "ok {records} {bytes}").is_err() {
         return Err(ServerStop::Common(Stop::OutputFault));
     }

@@ -10,7 +10,7 @@ use std::time::Duration;
 const MAX_GAIN: u64 = 86_400;
 
 /// The system's clock, which cannot be read once it has jumped ahead: it gained more than a day, between two readings
-/// of it, on the monotonic clock.
+/// of it, on the monotonic clock, which a server reads before it.
 #[derive(Drop)]
 pub(crate) struct GuardedClock<'a, C> {
     clock: &'a C,
@@ -48,7 +48,7 @@ impl<C: Clock> Clock for GuardedClock<'_, C> {
 
     fn since_1970(&self) -> io::Result<Duration> {
         let time = self.clock.since_1970()?;
-        let steady = self.clock.monotonic()?.as_secs();
+        let steady = self.tally.second();
         let shown = time.as_secs();
         if has_jumped(self.last.get(), (shown, steady)) {
             self.jumped.set(Some(shown));

@@ -3,7 +3,7 @@ use crate::tallies::Tally;
 use oai_figures::{Exposition, Figures};
 use oai_host::Config;
 use oai_http::{Endpoint, Status, Target};
-use oai_recovery::Startup;
+use oai_recovery::StartupFigures;
 use std::alloc::{AllocError, Global};
 use std::rc::Rc;
 
@@ -36,7 +36,7 @@ struct AnswerCounts {
 /// What a server counts, and what it knows of its startup.
 #[derive(Drop)]
 pub(crate) struct Counts {
-    startup: Startup,
+    startup: StartupFigures,
     tally: Rc<Tally>,
     answers: AnswerCounts,
     deposits: Vec<DepositCounts>,
@@ -90,7 +90,7 @@ impl Counts {
             })?;
         }
         Ok(Counts {
-            startup: Startup::new(),
+            startup: StartupFigures::new(),
             tally,
             answers: AnswerCounts::new(),
             deposits,
@@ -99,7 +99,7 @@ impl Counts {
     }
 
     /// The same after that startup.
-    pub(crate) fn after(mut self, startup: Startup) -> Counts {
+    pub(crate) fn after(mut self, startup: StartupFigures) -> Counts {
         self.startup = startup;
         self
     }

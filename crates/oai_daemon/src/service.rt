@@ -4,6 +4,7 @@ ghost use Rattle.oai_daemon.specs.Lives.{HasLived};
 ghost use Rattle.oai_recovery.specs.Renewals.{HasRenewed, is_checkpoint};
 ghost use Rattle.oai_recovery.specs.ServedDisks.{file_of};
 ghost use Rattle.oai_daemon.specs.Served.{HasResumed, HasServed};
+ghost use Rattle.oai_durable.specs.Journaled.{promised};
 ghost use Rattle.oai_keys.specs.Guards.{unguarded};
 ghost use Rattle.oai_serving.specs.Accepted.{PassesNone, known_of};
 ghost use Rattle.oai_serving.specs.Wrappers.{world_behind};
@@ -106,10 +107,9 @@ pub fn serve<'a, P: Place, C: Clock>(
     ensures renewed { IfOk result (λ ended. IsTrue (is_checkpoint ended.origin)
         → HasRenewed P.Disk.Disk.seen P.Disk.Disk.is_clean ⟦<FileJournal<P::NewDisk> as Journal>⟧ P.is_honest 0) }
 {
-    let (text, config) = written.into_parts();
-    let counts = Counts::new(alloc, &config, second_of(clock))?;
+    let counts = Counts::new(alloc, written.config(), second_of(clock))?;
     let listening = open(place, counts)?;
-    let started = start(alloc, place, clock, &text, config)?;
+    let started = start(alloc, place, clock, written)?;
     serve_over(alloc, place, clock, started, rings, listening)
 }
 
@@ -135,14 +135,7 @@ fn serve_over<'a, P: Place, H: Replayed + Figures + Drop, C: Clock>(
     Ended<P::Link, P::Port, Watched<'a, Guarded<Journaled<H, FileJournal<P::Disk>>>, P>>,
     ServerStop,
 >
-    ensures resumed { IfOk result (λ ended. HasResumed (record {
-      step = H.step;
-      Kept = H.Kept;
-      kept = H.kept;
-      is_honest = H.is_honest;
-      leaving = record { redone = H.redone; restored = H.restored };
-      reply = H.reply;
-    }) ⟦<FileJournal<P::Disk> as Journal>⟧ P.Disk.Disk.seen P.Disk.Disk.may_leave
+    ensures resumed { IfOk result (λ ended. HasResumed (promised H.Replayed) ⟦<FileJournal<P::Disk> as Journal>⟧ P.Disk.Disk.seen P.Disk.Disk.may_leave
         P.Link.Stream.contents P.Link.Stream.remaining started.handler started.recovery rings
         (known_of (P.Port.Sockets.accepted listening.port) (P.Port.Sockets.gone listening.port))
         (known_of (P.Port.Sockets.accepted ended.port) (P.Port.Sockets.gone ended.port)) ended.result (world_behind unguarded ended.server)) }

@@ -6,6 +6,7 @@ use Rattle.oai_host.specs.Exchanged.{IsHandled}
 use Rattle.oai_host.specs.Hosts.{HostState, Repository}
 use Rattle.oai_host.specs.Redone.{redone_repositories, reply_all}
 use Rattle.oai_host.specs.Saved.{emptied_in, ended_in, parts_in, restored_in}
+use Rattle.oai_host.specs.Unsaved.{AreSavedBy}
 
 -- the states of the repositories: after calls and parts, the answer to a call, their parts, their state after all lists
 -- ended, and their initial state
@@ -27,4 +28,5 @@ archived = record {
   is_honest = λ host. host.honest;
   leaving = archive.leaving;
   reply = archive.reply;
+  saves = λ host. AreSavedBy host.unsaved;
 }

@@ -5,7 +5,7 @@ ghost use Rattle.std.specs.Prelude.{OnOk};
 use crate::places::Place;
 use crate::renewals::{Renewal, renew};
 use crate::starts::keep_checkpoint;
-use oai_archive::{ServerStop, begin_reading, verify_journal};
+use oai_archive::{ServerStop, begin_reading, write_verified};
 use oai_journal::{FileJournal, Journal};
 use oai_startup::WrittenConfig;
 use std::alloc::Global;
@@ -44,7 +44,7 @@ pub fn checkpoint_folder<P: Place, C: Clock, W: Write>(
     let mut old = begin_reading(alloc, place.read_journal()?)?;
     drop(renew(alloc, place, clock, &renewal, &mut old)?);
     drop(old);
-    keep_checkpoint(alloc, place, clock, &text, config)?;
-    verify_journal(alloc, place.read_journal()?, writer)?;
+    let kept = keep_checkpoint(alloc, place, clock, &text, config)?;
+    write_verified(kept.records, kept.recovery.position(), writer)?;
     Ok(())
 }

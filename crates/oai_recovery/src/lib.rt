@@ -26,4 +26,4 @@ pub use origins::Origin;
 pub use places::Place;
 pub use served_disks::ServedDisk;
 pub use starts::{Started, start};
-pub use startups::Startup;
+pub use startups::StartupFigures;

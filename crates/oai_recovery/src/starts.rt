@@ -16,14 +16,14 @@ use crate::origins::Origin;
 use crate::places::Place;
 use crate::recoveries::recover_all;
 use crate::renewals::save;
-use crate::startups::Startup;
+use crate::startups::StartupFigures;
 use oai_archive::ServerStop;
 use oai_host::{Config, Host};
 use oai_item::Forms;
 use oai_journal::{FileJournal, Journal, Recovery};
 use oai_paged::PagedVersions;
 use oai_replay::Replayed;
-use oai_startup::{config_in, host_on};
+use oai_startup::{WrittenConfig, config_in, host_on};
 use sqlite_disk::Disk;
 use std::alloc::Global;
 use std::rt::Clock;
@@ -38,36 +38,35 @@ pub struct Started<D: Disk, H> {
     /// How many there are after the first one.
     pub records: u64,
     /// What its figures say.
-    pub startup: Startup,
+    pub startup: StartupFigures,
     /// Where the journal comes from.
     pub origin: Origin,
 }
 
-/// The host of the configuration, which was read from the text, in the state that the journal of the place gives. If
-/// there is none, it is begun; one with another configuration, and one that is long while no list is open, is replaced
-/// by a checkpoint, and the host is the one that read that back. The records have the forms of the journal's version, by
-/// which the configuration is read once more if they are lists of fields alone. The journal is read once.
+/// The host of the configuration, in the state that the journal of the place gives. If there is none, it is begun; one
+/// with another configuration, and one that is long while no list is open, is replaced by a checkpoint, and the host is
+/// the one that read that back. The records have the forms of the journal's version. The text of the configuration is
+/// parsed once more if these are lists of fields alone, and for the host that reads a long journal's checkpoint. The
+/// journal is read once.
 pub fn start<P: Place, C: Clock>(
     alloc: Global,
     place: &mut P,
     clock: &C,
-    text: &[u8],
-    config: Config,
+    written: WrittenConfig,
 ) -> Result<Started<P::Disk, Host<PagedVersions<P::Pages>>>, ServerStop>
-    requires read { IsRead Elements text.now (Ok config) }
-    requires rules { HaveRules config }
     ensures started { IfOk result (λ started. HasStarted P.Disk.Disk.seen P.Disk.Disk.may_leave P.Disk.Disk.is_clean
-        (file_of P.held P.held_begun started.origin) text.now started.origin started.records started.handler started.recovery) }
+        (file_of P.held P.held_begun started.origin) written.text started.origin started.records started.handler started.recovery) }
     ensures renewed { IfOk result (λ started. IsTrue (is_checkpoint started.origin)
         → HasRenewed P.Disk.Disk.seen P.Disk.Disk.is_clean ⟦<FileJournal<P::NewDisk> as Journal>⟧ P.is_honest 0) }
 {
+    let (text, config) = written.into_parts();
     let lifetime = longest_lifetime(&config);
-    let prepared = prepare(alloc, place, clock, text, &config)?;
+    let prepared = prepare(alloc, place, clock, &text, &config)?;
     let forms = prepared.forms;
-    let started = start_at(alloc, place, clock, text, config, prepared)?;
+    let started = start_at(alloc, place, clock, &text, config, prepared)?;
     let dates = started.startup.replay.dates;
     if is_due(clock, started.origin, &dates, lifetime)? {
-        return shorten(alloc, place, clock, text, started);
+        return shorten(alloc, place, clock, &text, started);
     }
     tell_forms(place, forms);
     Ok(started)
@@ -180,7 +179,7 @@ fn start_by<P: Place, H: Replayed + Drop, C: Clock>(
         handler,
         recovery,
         records: replay.records,
-        startup: Startup { replay, checkpoint },
+        startup: StartupFigures { replay, checkpoint },
         origin,
     })
 }
@@ -194,21 +193,21 @@ fn moment_in<D: Disk + Drop>(recovery: &Recovery<D>) -> i64 {
 }
 
 /// Replaces the journal of the place by the checkpoint beside it, which has the configuration, read from the text, once
-/// it was read back.
+/// it was read back; returns what read it.
 pub(crate) fn keep_checkpoint<P: Place, C: Clock>(
     alloc: Global,
     place: &mut P,
     clock: &C,
     text: &[u8],
     config: Config,
-) -> Result<(), ServerStop>
+) -> Result<Started<P::Disk, Host<PagedVersions<P::Pages>>>, ServerStop>
     ensures { OnOk result (HasReadBack P.Disk.Disk.seen P.Disk.Disk.may_leave P.Disk.Disk.is_clean P.held_begun text.now
         (map begun config.repositories)) }
 {
     let checkpoint = prepare_begun(alloc, place, text, Origin::Shortened)?;
     let host = host_in(alloc, place, config)?;
     match start_by(alloc, place, clock, text, checkpoint, host) {
-        Ok(_) => Ok(()),
+        Ok(started) => Ok(started),
         Err(stop) => Err(stop),
     }
 }

@@ -4,7 +4,7 @@ use oai_figures::{Exposition, Figures};
 
 /// What a server knows of its startup.
 #[derive(Clone, Copy, Debug)]
-pub struct Startup {
+pub struct StartupFigures {
     /// What was replayed.
     pub(crate) replay: RecoveryFigures,
     /// When the journal was begun, or written as a checkpoint, in seconds from 1970 on.
@@ -24,10 +24,10 @@ pub(crate) struct RecoveryFigures {
     pub(crate) dates: Dates,
 }
 
-impl Startup {
+impl StartupFigures {
     /// Of a server that has not begun.
-    pub fn new() -> Startup {
-        Startup {
+    pub fn new() -> StartupFigures {
+        StartupFigures {
             replay: RecoveryFigures {
                 records: 0,
                 seconds: 0,
@@ -39,7 +39,7 @@ impl Startup {
     }
 }
 
-impl Figures for Startup {
+impl Figures for StartupFigures {
     fn report(&self, page: &mut Exposition) {
         page.add("up", "1 while the server serves.", 1);
         let moment = to_second(self.replay.moment);

@@ -10,5 +10,5 @@ returns g c = record {
   };
   config = c.into_parts-text.result.1;
   read = rw c.into_parts-text.ensures.text at c.into_parts-text.ensures.read;
-  back = rw (c.deref-2.ensures.value, c.into_parts-text.ensures.text) at c.in_ok-keep_checkpoint.ensures;
+  back = rw (c.deref-2.ensures.value, c.into_parts-text.ensures.text) at c.in_ok-kept.ensures;
 }
