@@ -89,6 +89,8 @@ deed_exchange kept stood durable (done_whole entry) fit = record {
     told = λ so none. ap (λ (rs : List Repository). host.reply_all rs (call_in entry)) (held.kept refl);
     left = λ so none. redone_append begun entries (entry ∷ []) ∙ left_call (redone_all leaving begun entries) entry fit.1;
   };
+  saving = λ state saved saves. saves;
+  tails = λ tail read stands. stands;
 }
 deed_exchange kept stood durable (done_once call entry) fit = record {
   tried = inl (subst (λ (rs : List Repository). IsExchanged call (failed NoMemory (Some 1)) (sound_host kept) (sound_host rs)) (sym (left_call kept entry fit.1)) (once_exchanged call (call_in entry) kept fit.2 fit.0));
@@ -100,6 +102,8 @@ deed_exchange kept stood durable (done_once call entry) fit = record {
     told = λ so none. cc;
     left = λ so none. cc;
   };
+  saving = λ state saved saves. saves;
+  tails = λ tail read stands. stands;
 }
 
 -- ---- messages
@@ -405,7 +409,7 @@ settle_deeds kept entries (deed ∷ deeds) fit =
     let names : names_in now ≡ names_in kept = names_after kept entry (deed_kind (names_in kept) deed fit.0) in
     let performed : Parts HostState Memory = parts_at now stand (length entries) in
     let settled : Parts HostState Memory = parts_at now stand (length stand) in
-    let settles : IsSettled in_memory performed (Ok tt) settled = record { handler = refl; ok = λ es durable h. (h.0, ap length h.0); err = tt } in
+    let settles : IsSettled in_memory performed (Ok tt) settled = record { handler = refl; ok = λ es durable h. (h.0, ap length h.0); err = tt; tails = λ es durable h tail read stands. stands } in
     let rest = settle_deeds now stand deeds (subst (λ (ns : List (List ℕ)). AllByRecursion (IsFit ns) deeds) (sym names) fit.1) in (
       settled,
       (performed, (performed, inr (deed_apart (names_in kept) kept deed fit.0, inl (admitted (exchanged_at kept deed).asked, deed_exchange kept entries (length entries) deed fit.0)), refl), settles),

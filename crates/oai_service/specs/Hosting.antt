@@ -7,12 +7,13 @@ use Rattle.oai_replay.specs.Parts.{PartState}
 use Rattle.oai_http.specs.declared.exchanges.Answer.{Answer}
 use Rattle.oai_http.specs.declared.exchanges.Call.{Call}
 use Rattle.oai_durable.specs.Checkpoints.{Saving}
-use Rattle.oai_durable.specs.Journaled.{Replaying}
+use Rattle.oai_durable.specs.Journaled.{Promised, Replaying}
 use Rattle.oai_durable.specs.Records.{Leaving}
 use Rattle.oai_host.specs.Exchanged.{IsHandled}
 use Rattle.oai_host.specs.Hosts.{HostState, Repository}
 use Rattle.oai_host.specs.Redone.{redone_repositories, reply_all}
 use Rattle.oai_host.specs.Saved.{emptied_in, ended_in, parts_in, restored_in}
+use Rattle.oai_host.specs.Unsaved.{AreSavedBy}
 
 -- the state of repositories after calls and parts
 abbrev pub leaving : Leaving (List Repository)
@@ -28,6 +29,7 @@ hosting {H} view = record {
   is_honest = λ handler. (view handler).honest;
   leaving = leaving;
   reply = reply_all;
+  saves = λ handler. AreSavedBy (view handler).unsaved;
 }
 
 -- and how it is saved
@@ -38,34 +40,7 @@ saving = record { leaving = leaving; reply = reply_all; parts = parts_in; ended 
 abbrev pub AreNumbered : List Repository → Type 0
 AreNumbered repositories = AllByRecursion (λ (repository : Repository). repository.state.open_lists.next ≤ LAST_NUMBER) repositories
 
--- what the traits `Handler` and `Replayed` say of a handler
-abbrev pub Promised : Type 0 → Type 1
-Promised H = record {
-  step : H → ℤ → Asked → Answer → H → Type 0;
-  Kept : Type 0;
-  kept : H → Kept;
-  is_honest : H → Bool;
-  redone : Kept → Call → Kept;
-  reply : Kept → Call → Answer;
-  saves : H → Kept → List PartState → Type 0;
-  restored : Kept → PartState → Kept;
-  parts : Kept → List PartState;
-  ended : ℕ → Kept → Kept;
-  emptied : Kept → Kept;
-}
-
--- the handler of which they say it, as its journal replays it
-abbrev pub promised : {H : Type 0} → Promised H → Replaying H
-promised p = record {
-  step = p.step;
-  Kept = p.Kept;
-  kept = p.kept;
-  is_honest = p.is_honest;
-  leaving = record { redone = p.redone; restored = p.restored };
-  reply = p.reply;
-}
-
--- and how it is saved
+-- how a handler is saved of which they say it
 abbrev pub promised_saving : {H : Type 0} → (p : Promised H) → Saving p.Kept
 promised_saving p = record {
   leaving = record { redone = p.redone; restored = p.restored };
