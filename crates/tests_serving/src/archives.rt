@@ -7,7 +7,7 @@ use oai_item::Forms;
 use oai_journal::{FileJournal, Kind, LogRecord, Recovery};
 use oai_paged::{PagedVersions, VersionsOver};
 use oai_pool::Pool;
-use sqlite_disk::Memory;
+use sqlite_disk::{Disk, Memory};
 use std::alloc::Global;
 use std::panic::Expect;
 use std::process::Abort;
@@ -71,12 +71,16 @@ pub(crate) fn host_on<D: PageDevice + Drop>(
     Host::new(alloc, config, VersionsOver::new(alloc, pool)).expect(rt, "Host::new")
 }
 
-/// A journal of no records.
-fn empty_journal(rt: &impl Abort, alloc: Global) -> FileJournal<Memory> {
+/// A journal of no records on the disk.
+pub(crate) fn empty_journal_on<D: Disk + Drop>(
+    rt: &impl Abort,
+    alloc: Global,
+    disk: D,
+) -> FileJournal<D> {
     let first = first();
     assert!(rt; first.is_fit());
     assert!(rt; first.kind.is_first());
-    FileJournal::create(alloc, Memory::new(alloc), &first).expect(rt, "create")
+    FileJournal::create(alloc, disk, &first).expect(rt, "create")
 }
 
 /// An archive that begins over the device.
@@ -87,7 +91,8 @@ pub(crate) fn begun_on<D: PageDevice + Drop>(
     setting: Setting,
 ) -> Archive<D> {
     let host = host_on(rt, alloc, device, setting);
-    Journaled::new(alloc, host, empty_journal(rt, alloc), 0)
+    let journal = empty_journal_on(rt, alloc, Memory::new(alloc));
+    Journaled::new(alloc, host, journal, 0)
 }
 
 /// An archive that begins over pages in memory.

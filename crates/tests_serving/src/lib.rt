@@ -33,6 +33,8 @@ mod lives;
 #[cfg(test)]
 mod memory;
 #[cfg(test)]
+mod online_checkpoints;
+#[cfg(test)]
 mod pieces;
 #[cfg(test)]
 mod received;

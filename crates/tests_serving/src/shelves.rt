@@ -1,7 +1,7 @@
 //! A handler of a few parts, which keeps what it restores as bytes.
 use oai_http::{Answer, Exchange, Handler, Status};
 use oai_item::Fault;
-use oai_replay::{Done, Part, PartKind, Performed, Replayed, SaveFault, Sink};
+use oai_replay::{Part, PartKind, Performed, RecordedAnswer, Replayed, SaveFault, Sink};
 use std::alloc::Global;
 
 /// A handler that saves these parts and then the fault, if there is one, and notes what it restores.
@@ -91,8 +91,12 @@ impl Replayed for Shelf<'_> {
 
     ghost reply = { λ kept call. answered NotFound };
 
-    fn exchange_recorded<'a>(&mut self, moment: i64, exchange: &Exchange<'a>) -> Done<'a> {
-        Done {
+    fn exchange_recorded<'a>(
+        &mut self,
+        moment: i64,
+        exchange: &Exchange<'a>,
+    ) -> RecordedAnswer<'a> {
+        RecordedAnswer {
             answer: self.exchange(moment, exchange),
             performed: None,
         }

@@ -91,7 +91,7 @@ fn page(rt: HostRuntime) {
     assert_eq!(&rt; str::from_utf8(&written), Ok(answers()));
 }
 
-/// A clock whose seconds since some moment gain 450 with each reading; the time stands.
+/// A clock whose seconds since some moment gain 900 with each reading; the time stands.
 #[derive(Drop)]
 struct Running {
     shown: Cell<u64>,
@@ -100,7 +100,7 @@ struct Running {
 impl Clock for Running {
     fn monotonic(&self) -> io::Result<Duration> {
         let shown = self.shown.get();
-        self.shown.set(shown.saturating_add(450));
+        self.shown.set(shown.saturating_add(900));
         Ok(Duration::from_secs(shown))
     }
 
@@ -109,7 +109,7 @@ impl Clock for Running {
     }
 }
 
-/// Each round reads the clock twice, so it takes 900 seconds: the first line comes in the third, the second in the seventh.
+/// Each round reads the clock once, so it takes 900 seconds: the first line comes in the second, the second in the sixth.
 #[test]
 fn lines(rt: HostRuntime) {
     let clock = Running {
@@ -124,7 +124,7 @@ fn lines(rt: HostRuntime) {
     );
     assert_eq!(&rt;
         place.figures.as_str(),
-        "up 1, start_time_seconds 1704067200, recovery_seconds 450, recovered_records 0, \
+        "up 1, start_time_seconds 1704067200, recovery_seconds 900, recovered_records 0, \
 checkpoint_time_seconds 1704067200, checkpoint_bytes 0, connections 0, connections_total 0, \
 requests_total{status=\"200\"} 0, requests_total{status=\"400\"} 0, requests_total{status=\"401\"} 0, \
 requests_total{status=\"404\"} 0, requests_total{status=\"405\"} 0, requests_total{status=\"415\"} 0, \
