@@ -3,6 +3,7 @@ pub mod KeptLemmas
 pub mod RedoneLemmas
 pub mod LifeLemmas
 pub mod ServedLemmas
+pub mod BesideLemmas
 pub mod CheckpointLemmas
 pub mod StandLemmas
 pub mod MoveLemmas

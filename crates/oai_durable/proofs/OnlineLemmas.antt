@@ -199,6 +199,32 @@ writing_over {H} {J} {K} h j k emptied begun now entries durable w next more cal
       };
     }
 
+-- the new journal is read back
+pub writing_read : {H J K : Type 0} (h : Replaying H) (j : journal.Ghosts J) (k : journal.Ghosts K) (emptied : h.Kept → h.Kept) (begun : h.Kept) (now : Parts H J)
+    (entries : List Entry) (durable : ℕ) (w next : Writing K) (more unread : Bool)
+    → more ≡ false → next.tail ≡ w.tail → next.whole ≡ w.whole
+    → ((es : List Entry) (lasting : ℕ) → k.holds w.journal es lasting → k.holds next.journal es lasting)
+    → IsWritingOn h j k emptied begun now entries durable w more → IsWritingOn h j k emptied begun now entries durable next unread
+writing_read h j k emptied begun now entries durable w next more unread none same_tail same_whole same is =
+    let at = is.writing in
+    record {
+      writing = record {
+        first = at.first;
+        saved = at.saved;
+        copied = at.copied;
+        behind = at.behind;
+        are = at.are;
+        enough = at.enough;
+        stands = subst (λ (t : Tail). j.stands now.journal t (at.first ++ at.copied)) (sym same_tail) at.stands;
+        lasting = at.lasting;
+        holds = same (records_of_parts at.saved ++ at.copied) at.lasting at.holds;
+        new = subst (λ (b : Bool). AreInNew h emptied now.handler (redone_all h.leaving begun at.first) at.saved at.copied b) (sym same_whole) at.new;
+      };
+      over = λ over all.
+          let leaves = is.over none all in
+          record { file = leaves.file; holds = same leaves.file (length leaves.file) leaves.holds; leaves = leaves.leaves };
+    }
+
 -- ---- beside exchanges
 
 in_new_after : {H : Type 0} (h : Replaying H) (emptied : h.Kept → h.Kept) (before now : H) (state : h.Kept) (saved : List PartState) (copied : List Entry) (whole : Bool)

@@ -9,3 +9,4 @@ pub mod Stood
 pub mod Switches
 pub mod Served
 pub mod Checkpoints
+pub mod Checkpointed

@@ -37,6 +37,8 @@ pub(crate) struct JournalSink<J> {
     pub(crate) journal: J,
     /// The bytes of the records that were added since the last commit.
     waiting: usize,
+    /// How many records it has behind its first one.
+    pub(crate) records: u64,
     /// Why no further part was taken.
     fault: JournalFault,
 }
@@ -63,6 +65,7 @@ impl<J: Journal> JournalSink<J> {
         JournalSink {
             journal,
             waiting: 0,
+            records: 0,
             fault: JournalFault::Failed,
         }
     }
@@ -85,6 +88,7 @@ impl<J: Journal> JournalSink<J> {
         add_part(&mut self.journal, part)?;
         let bytes = part.bytes.len().saturating_add(HEAD_BYTES);
         self.waiting = self.waiting.saturating_add(bytes);
+        self.records = self.records.saturating_add(1);
         Ok(())
     }
 }

@@ -4,15 +4,17 @@ ghost use Rattle.oai_durable.specs.Records.{most_in};
 ghost use Rattle.oai_journal.specs.Records.{Entry};
 ghost use Rattle.oai_journal.specs.declared.records.TheConstants.{MAX_BODY};
 ghost use Rattle.oai_journal.specs.declared.tails.Tail.{Tail};
+ghost use Rattle.oai_durable.specs.declared.either.EitherJournal.TheVariants.{First};
 ghost use Rattle.std.specs.Prelude.{◌≡◌, ◌≤◌, ℕ, List, OnOk};
 
+use crate::either::EitherJournal;
+use crate::folders::Measured;
 use crate::records::add;
 use oai_figures::{Exposition, Figures};
 use oai_http::{Answer, Endpoint, Exchange, Handler, SettleFault, Settled, Target};
 use oai_item::Fault;
-use oai_journal::{FileJournal, Journal, JournalFault, MAX_BODY};
+use oai_journal::{Journal, JournalFault, MAX_BODY};
 use oai_replay::Replayed;
-use sqlite_disk::Disk;
 use std::alloc::Global;
 use std::marker::Model;
 
@@ -24,7 +26,7 @@ pub struct Journaled<H, J> {
     pub(crate) handler: H,
     pub(crate) journal: J,
     /// How many records the journal has behind its first one.
-    records: u64,
+    pub(crate) records: u64,
 }
 
 impl<H, J> Model for Journaled<H, J> {
@@ -45,6 +47,42 @@ impl<H: Replayed, J: Journal> Journaled<H, J> {
             alloc,
             handler,
             journal,
+            records,
+        }
+    }
+
+    /// The same with another journal, which has that many records behind its first one; its own is dropped.
+    pub(crate) fn replace(&mut self, journal: J, records: u64)
+        ensures handler { self.new.handler ≡ self.old.handler }
+        ensures journal { self.new.journal ≡ journal }
+    {
+        self.journal = journal;
+        self.records = records;
+    }
+
+    /// The length of the journal in bytes.
+    pub(crate) fn bytes(&self) -> usize
+    where
+        J: Measured,
+    {
+        self.journal.bytes()
+    }
+
+    /// The same with its journal as one of two kinds.
+    pub(crate) fn either<K: Journal>(self) -> Journaled<H, EitherJournal<J, K>>
+        ensures handler { result.handler ≡ self.handler }
+        ensures journal { result.journal ≡ First self.journal }
+    {
+        let Journaled {
+            alloc,
+            handler,
+            journal,
+            records,
+        } = self;
+        Journaled {
+            alloc,
+            handler,
+            journal: EitherJournal::First(journal),
             records,
         }
     }
@@ -124,11 +162,11 @@ impl<H: Replayed, J: Journal> Settled for Journaled<H, J> {
     }
 }
 
-impl<H: Figures, D: Disk + Drop> Figures for Journaled<H, FileJournal<D>> {
+impl<H: Figures, J: Measured> Figures for Journaled<H, J> {
     fn report(&self, page: &mut Exposition) {
         let records = "Log records of the journal behind its first one.";
         page.add("journal_records", records, self.records);
-        let bytes = self.journal.len() as u64;
+        let bytes = self.journal.bytes() as u64;
         page.add("journal_bytes", "Length of the journal in bytes.", bytes);
         self.handler.report(page);
     }

@@ -1,4 +1,5 @@
 //! What holds of every list of lives; a life is one run of a server. Theorems, each an empty function.
+ghost use Rattle.oai_durable.specs.Checkpointed.{Checkpointed, IsExchangeBeside, IsHeldBeside, IsKeptBeside, IsSettledBeside, IsSettlingSound, MayLeaveBeside};
 ghost use Rattle.oai_durable.specs.Checkpoints.{AreStages, IsHistory, JournalStage};
 ghost use Rattle.oai_durable.specs.Lives.{AreAmong, AreLives, Life, answered_in};
 ghost use Rattle.oai_durable.specs.Moves.{AreLikeLives, AreMovedLives, Move};
@@ -9,6 +10,8 @@ ghost use Rattle.oai_durable.specs.Recovered.{TellsDamage};
 ghost use Rattle.oai_durable.specs.Stood.{IsHeldBy, IsKeptBy, IsLeftLike, StandInFor};
 ghost use Rattle.oai_durable.specs.Switches.{FolderLeaves, StandsForAll, SwitchPhase};
 ghost use Rattle.oai_durable.specs.Served.{IsLived, IsRemembered, LivesAs};
+ghost use Rattle.oai_durable.specs.declared.either.EitherJournal.{EitherJournal as Either};
+ghost use Rattle.oai_durable.specs.declared.either.EitherJournal.TheVariants.{Second};
 ghost use Rattle.oai_durable.specs.declared.recovery.RecoverFault.{RecoverFault};
 ghost use Rattle.oai_durable.specs.declared.recovery.RecoverFault.TheVariants as cause;
 ghost use Rattle.oai_front.specs.Runs.{Served};
@@ -23,8 +26,9 @@ ghost use Rattle.oai_serving.specs.declared.faults.ServeFault.{ServeFault as Fau
 ghost use Rattle.oai_http.specs.Exchanges.{Asked};
 ghost use Rattle.oai_http.specs.declared.exchanges.Answer.{Answer};
 ghost use Rattle.oai_http.specs.declared.handlers.SettleFault.{SettleFault};
-ghost use Rattle.std.specs.Prelude.{◌≡◌, [], ◌++◌, ℕ, ℤ, IsTrue, List, Result, Ok, Err, length};
+ghost use Rattle.std.specs.Prelude.{◌≡◌, ◌≤◌, [], ◌++◌, ℕ, ℤ, IsTrue, List, Result, Ok, Err, length};
 
+use crate::either::EitherJournal;
 use oai_journal::Journal;
 use oai_replay::Replayed;
 use oai_serving::Stream;
@@ -144,6 +148,38 @@ pub fn online_checkpoint_law<H: Replayed, J: Journal, K: Journal>()
         → IsHeld h J.Journal begun parts entries durable
         → LeavesSame K.Journal h.leaving begun entries new
         → IsHeldBy h K.Journal begun (record { handler = parts.handler; journal = new }) entries (length entries)) }
+{}
+
+/// A handler whose journal stays short keeps all records, though its file has a checkpoint in place of the first ones: an
+/// exchange has its place behind them, and its own record follows; settling makes all of them durable, whatever becomes
+/// of the checkpoint; and what a crash leaves, of the journal or of a new one that may be in its place, also where
+/// settling failed, stands for what it would have left of them: all durable ones, and the first of the others. Provided
+/// that what was read for a checkpoint was right: the store is honest, and each read returned what the disk has.
+pub fn checkpointed_law<H: Replayed, J: Journal, K: Journal>()
+    ensures exchange { (let h : Replaying H = promised H.Replayed in (begun : H.Kept) (entries : List Entry)
+        (durable : ℕ) (before after : Checkpointed H (Either J K) K) (moment : ℤ) (asked : Asked) (answer : Answer)
+        → IsHeldBeside h ⟦<EitherJournal<J, K> as Journal>⟧ K.Journal H.emptied begun before entries durable
+        → IsExchangeBeside h ⟦<EitherJournal<J, K> as Journal>⟧ before moment asked answer after
+        → IsKeptBeside h ⟦<EitherJournal<J, K> as Journal>⟧ K.Journal H.emptied begun entries durable before moment asked answer after) }
+    ensures settled { (let h : Replaying H = promised H.Replayed in (begun : H.Kept) (entries : List Entry)
+        (durable : ℕ) (before after : Checkpointed H (Either J K) K) → H.emptied begun ≡ begun
+        → IsHeldBeside h ⟦<EitherJournal<J, K> as Journal>⟧ K.Journal H.emptied begun before entries durable
+        → (settles : IsSettledBeside h ⟦<EitherJournal<J, K> as Journal>⟧ K.Journal H.emptied Second before (Ok tt) after)
+        → IsSettlingSound h ⟦<EitherJournal<J, K> as Journal>⟧ K.Journal H.emptied Second before (Ok tt) after settles
+        → IsHeldBeside h ⟦<EitherJournal<J, K> as Journal>⟧ K.Journal H.emptied begun after entries (length entries)) }
+    ensures unsettled { (let h : Replaying H = promised H.Replayed in (begun : H.Kept) (entries : List Entry)
+        (durable : ℕ) (before after : Checkpointed H (Either J K) K) (fault : SettleFault) (left : List Entry)
+        → H.emptied begun ≡ begun → durable ≤ length entries
+        → IsHeldBeside h ⟦<EitherJournal<J, K> as Journal>⟧ K.Journal H.emptied begun before entries durable
+        → (settles : IsSettledBeside h ⟦<EitherJournal<J, K> as Journal>⟧ K.Journal H.emptied Second before (Err fault) after)
+        → IsSettlingSound h ⟦<EitherJournal<J, K> as Journal>⟧ K.Journal H.emptied Second before (Err fault) after settles
+        → MayLeaveBeside ⟦<EitherJournal<J, K> as Journal>⟧ K.Journal after left
+        → IsLeftLike h.leaving begun entries durable left) }
+    ensures crash { (let h : Replaying H = promised H.Replayed in (begun : H.Kept) (entries : List Entry)
+        (durable : ℕ) (now : Checkpointed H (Either J K) K) (left : List Entry)
+        → IsHeldBeside h ⟦<EitherJournal<J, K> as Journal>⟧ K.Journal H.emptied begun now entries durable
+        → MayLeaveBeside ⟦<EitherJournal<J, K> as Journal>⟧ K.Journal now left
+        → IsLeftLike h.leaving begun entries durable left) }
 {}
 
 /// At each moment of a switch, from one journal to another that leaves the same state, all records of both being

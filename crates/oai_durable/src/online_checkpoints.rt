@@ -6,9 +6,12 @@ ghost use Rattle.std.specs.Prelude.{◌≡◌, [], ℕ, IfOk, IsTrue, List, OnOk
 
 use crate::checkpoints::{CheckpointFault, JournalSink};
 use crate::journaled::Journaled;
-use oai_journal::{Journal, Tail, copy_some};
+use oai_journal::{Journal, JournalFault, Tail, copy_some};
 use oai_replay::Replayed;
 use std::marker::Model;
+
+/// The bytes of records that are read back in a step: 1 MiB.
+const READ_BYTES: usize = 1_048_576;
 
 /// A checkpoint that is written into a new journal while exchanges go on: first the parts of the state when it began,
 /// then the records behind it.
@@ -19,6 +22,8 @@ pub struct OnlineCheckpoint<K> {
     tail: Tail,
     /// Whether all parts are in the new journal.
     whole: bool,
+    /// Up to where the new journal was read back.
+    reread: Tail,
 }
 
 impl<K> Model for OnlineCheckpoint<K> {
@@ -37,6 +42,11 @@ impl<K: Journal> OnlineCheckpoint<K> {
         self.sink.journal
     }
 
+    /// How many records it has behind its first one.
+    pub fn records(&self) -> u64 {
+        self.sink.records
+    }
+
     /// Makes the records of the new journal durable.
     fn commit(&mut self) -> Result<(), CheckpointFault>
         ensures durable { OnOk result ((entries : List Entry) (lasting : ℕ) → K.holds self.old.journal entries lasting
@@ -49,6 +59,43 @@ impl<K: Journal> OnlineCheckpoint<K> {
             Err(fault) => Err(CheckpointFault::Journal(fault)),
         }
     }
+
+    /// Reads the next records of the new journal back, each of which has to be as it was written; returns whether more may
+    /// be left.
+    fn read_back(&mut self) -> Result<bool, CheckpointFault>
+        ensures same { (entries : List Entry) (lasting : ℕ) → K.holds self.old.journal entries lasting
+            → K.holds self.new.journal entries lasting }
+        ensures tail { self.new.tail ≡ self.old.tail }
+        ensures whole { self.new.whole ≡ self.old.whole }
+    {
+        match read_some(&mut self.sink.journal, &mut self.reread, READ_BYTES) {
+            Ok(more) => Ok(more),
+            Err(fault) => Err(CheckpointFault::Journal(fault)),
+        }
+    }
+}
+
+/// Reads the durable records of the journal behind the tail, until they have that many bytes; returns whether more may be
+/// left. The errors: Failed if the disk fails, or returns something else than a record; NoRoom if out of memory.
+fn read_some<K: Journal>(
+    journal: &mut K,
+    tail: &mut Tail,
+    bytes: usize,
+) -> Result<bool, JournalFault>
+    ensures { (entries : List Entry) (durable : ℕ) → K.holds journal.old entries durable → K.holds journal.new entries durable }
+{
+    let mut read = 0usize;
+    while read < bytes {
+        if !journal.read_next(tail)? {
+            return Ok(false);
+        }
+        let size = match tail.record() {
+            Some(record) => record.body.len(),
+            None => 0,
+        };
+        read = read.saturating_add(size).saturating_add(1);
+    }
+    Ok(true)
 }
 
 impl<H: Replayed, J: Journal> Journaled<H, J> {
@@ -57,7 +104,7 @@ impl<H: Replayed, J: Journal> Journaled<H, J> {
     /// failed; then none is begun.
     pub fn begin_checkpoint<K: Journal>(
         &mut self,
-        journal: K,
+        mut journal: K,
     ) -> Result<OnlineCheckpoint<K>, CheckpointFault>
         ensures begun { IfOk result (λ checkpoint. IsTrue (H.is_honest self.old.handler) → (begun : H.Kept)
             (entries : List Entry) (lasting : ℕ)
@@ -69,6 +116,10 @@ impl<H: Replayed, J: Journal> Journaled<H, J> {
             → IsHeld (promised H.Replayed) J.Journal begun self.new entries durable }
         ensures honesty { H.is_honest self.new.handler ≡ H.is_honest self.old.handler }
     {
+        let reread = match journal.tail(self.alloc) {
+            Ok(reread) => reread,
+            Err(fault) => return Err(CheckpointFault::Journal(fault)),
+        };
         if let Err(fault) = self.handler.begin_saving() {
             return Err(CheckpointFault::Reading(fault));
         }
@@ -77,6 +128,7 @@ impl<H: Replayed, J: Journal> Journaled<H, J> {
                 sink: JournalSink::new(journal),
                 tail,
                 whole: false,
+                reread,
             }),
             Err(fault) => {
                 self.handler.stop_saving();
@@ -86,8 +138,9 @@ impl<H: Replayed, J: Journal> Journaled<H, J> {
     }
 
     /// Writes the next records of the checkpoint, and makes them durable: parts of the state, or once all of these are
-    /// written, durable records behind them, until they have that many bytes. Returns whether more may be left. If not, and
-    /// all records are durable, those of the new journal leave the same state. The errors: `Reading`; `Journal`, of either
+    /// written, durable records behind them, until they have that many bytes. Where none is left, the next records of the
+    /// new journal are read back. Returns whether more may be left. If not, and all records are durable, those of the new
+    /// journal leave the same state. The errors: `Reading`; `Journal`, of either
     /// journal. After one the checkpoint can only be given up.
     pub fn write_checkpoint<K: Journal>(
         &mut self,
@@ -112,7 +165,11 @@ impl<H: Replayed, J: Journal> Journaled<H, J> {
         }
         let more = self.copy_records(checkpoint, bytes)?;
         checkpoint.commit()?;
-        Ok(more)
+        if more {
+            return Ok(true);
+        }
+        let unread = checkpoint.read_back()?;
+        Ok(unread)
     }
 
     /// Writes the next parts of the state, if some are left; otherwise all are written.
