@@ -64,7 +64,12 @@ pub struct Serving<'a> {
     pub address: IpAddr,
     /// Whether it reports neither progress nor notices.
     pub is_quiet: bool,
+    /// By how many bytes the journal may be longer than twice what it was after its last checkpoint.
+    pub max_tail: usize,
 }
+
+/// By how many bytes it may be longer if the words do not say it: 64 MiB.
+const MAX_TAIL: usize = 67_108_864;
 
 /// What the words call the program for: its name, a command and the command's arguments. The error says what is wrong
 /// with them, or it is the help or the version that they ask for.
@@ -120,6 +125,12 @@ fn to_serve<'a>(alloc: Global, given: &ArgMatches<'a>) -> Result<Called<'a>, Err
     let Some(address) = address_in(given.get_str("listen")) else {
         return Err(wrong(alloc, "the ADDRESS of --listen is no IP address"));
     };
+    let Some(max_tail) = bytes_in(given.get_str("checkpoint-after")) else {
+        return Err(wrong(
+            alloc,
+            "the BYTES of --checkpoint-after is no number below 2^64",
+        ));
+    };
     Ok(Called::Serve(Serving {
         config: text_of(given, "CONFIG"),
         port,
@@ -127,6 +138,7 @@ fn to_serve<'a>(alloc: Global, given: &ArgMatches<'a>) -> Result<Called<'a>, Err
         keys: given.get_str("KEYS"),
         address,
         is_quiet: given.get_flag("quiet"),
+        max_tail,
     }))
 }
 
@@ -141,6 +153,15 @@ fn port_in(text: &str) -> Option<u16> {
         return None;
     }
     text.parse().ok()
+}
+
+/// The number of bytes in the text: decimal digits alone; 64 MiB if there is none.
+fn bytes_in(text: Option<&str>) -> Option<usize> {
+    match text {
+        Some(text) if text.starts_with('+') => None,
+        Some(text) => text.parse().ok(),
+        None => Some(MAX_TAIL),
+    }
 }
 
 /// The address in the text, 127.0.0.1 if there is none.

@@ -50,6 +50,7 @@ pub(crate) fn serve<'a>(alloc: Global) -> Result<Command<'a>, AllocError> {
     let serve = with(serve, served_folder(alloc));
     let serve = with(serve, keys_file(alloc));
     let serve = with(serve, listen(alloc));
+    let serve = with(serve, checkpoint_after(alloc));
     with(serve, quiet(alloc))
 }
 
@@ -147,6 +148,17 @@ fn listen<'a>(alloc: Global) -> Arg<'a> {
         .long("listen")
         .value_name("ADDRESS")
         .help("Listen at this IP address, and not at 127.0.0.1")
+}
+
+/// The option for how long the journal may become before a checkpoint.
+fn checkpoint_after<'a>(alloc: Global) -> Arg<'a> {
+    Arg::new(alloc, "checkpoint-after")
+        .long("checkpoint-after")
+        .value_name("BYTES")
+        .help(
+            "Write a checkpoint once the journal is this much longer than twice what it was after the last one; 64 MiB if \
+not given",
+        )
 }
 
 /// The option for the repository of deposit lines.
