@@ -1,5 +1,5 @@
 -- A life, made of a start and the service behind it.
-use Rattle.std.proofs.Common.{◌≡◌, ◌∙◌, inl, inr, ℕ, ℤ, Bool, IfOk, IfSome, IsTrue, List, [], ◌∷◌, Option, Some, Result, Ok, Err, ap, arith, length, map, refl, subst, sym}
+use Rattle.std.proofs.Common.{◌≡◌, ◌∙◌, inl, inr, ℕ, ℤ, Bool, IfOk, IfSome, IsTrue, List, [], ◌∷◌, Option, None, Some, Result, Ok, Err, ap, arith, length, map, refl, subst, sym}
 use Rattle.oai_host.specs.Hosts.{HostState, begun}
 use Rattle.oai_serving.specs.Accepted.{Known, PassesNone, known_of}
 use Rattle.oai_serving.specs.Rounds.{IsService, Settles, World}
@@ -15,12 +15,16 @@ use Rattle.oai_keys.specs.Guards.{Guard, Guards, IsGuardSettled, IsGuarded, ungu
 use Rattle.oai_keys.specs.declared.rings.Ring.{Ring}
 use Rattle.oai_keys.proofs.GuardLemmas.{HasRings, guard_wraps}
 use Rattle.oai_serving.proofs.WrapperLemmas as wrapper
-use Rattle.oai_durable.specs.Journaled.{IsExchange, IsHeld, IsSettled, Parts, Replaying}
+use Rattle.oai_durable.specs.Checkpointed.{Checkpointed, IsExchangeBeside, IsSettledBeside}
+use Rattle.oai_durable.specs.Journaled.{IsHeld, Parts, Replaying}
+use Rattle.oai_durable.specs.Records.{redone_all}
+use Rattle.oai_durable.specs.declared.either.EitherJournal.{EitherJournal}
+use Rattle.oai_durable.specs.declared.either.EitherJournal.TheVariants.{First, Second}
 use Rattle.oai_durable.specs.Recovered.{HasRedone}
-use Rattle.oai_recovery.specs.Archives.{archived}
+use Rattle.oai_recovery.specs.Archives.{archive, archived}
 use Rattle.oai_daemon.specs.Lives.{BeginsWithAll, HasLived}
 use Rattle.oai_recovery.specs.ServedDisks.{file_of}
-use Rattle.oai_daemon.specs.Served.{HasResumed, HasServed}
+use Rattle.oai_daemon.specs.Served.{HasResumed, HasServed, Logged, OneJournal}
 use Rattle.oai_recovery.specs.Starts.{HasStarted}
 use Rattle.oai_daemon.specs.Watches.{Watches}
 use Rattle.oai_http.specs.Exchanges.{Asked}
@@ -33,13 +37,13 @@ nothing_in : {X : Type 0} (xs : List X) → length xs ≡ 0 → xs ≡ []
 nothing_in [] none = refl
 nothing_in (x ∷ xs) none = absurd (omega (arith, none))
 
-pub lived : {S D : Type 0} (j : journal.Ghosts (FileJournal D)) (seen : D → List ℕ) (may_leave : D → List ℕ → Type 0) (is_clean : D → Bool) (contents remaining : S → Option (List ℕ))
+pub lived : {S D E : Type 0} (j : journal.Ghosts (OneJournal D E)) (k : journal.Ghosts (FileJournal E)) (seen : D → List ℕ) (may_leave : D → List ℕ → Type 0) (is_clean : D → Bool) (contents remaining : S → Option (List ℕ))
     (held : Option (List ℕ)) (text : List ℕ) (rings : List Ring) (origin : Origin) (count : ℕ) (host : HostState) (recovery : Recovery D)
-    (known later : Known S) (result : Result (Unit {0}) ServeFault) (new : World S (Parts HostState (FileJournal D)))
+    (known later : Known S) (result : Result (Unit {0}) ServeFault) (new : World S (Logged HostState D E))
     → PassesNone known → HasStarted seen may_leave is_clean held text origin count host recovery
-    → HasResumed archived j seen may_leave contents remaining host recovery rings known later result new
-    → HasLived j seen is_clean contents remaining held text rings origin later result new
-lived {S} {D} j seen may_leave is_clean contents remaining held text rings origin count host recovery known later result new none started resumed =
+    → HasResumed archived j k archive.emptied seen may_leave contents remaining host recovery rings known later result new
+    → HasLived j k seen is_clean contents remaining held text rings origin later result new
+lived {S} {D} {E} j k seen may_leave is_clean contents remaining held text rings origin count host recovery known later result new none started resumed =
     let served = resumed.served in
     let replayed = started.replayed in
     record {
@@ -60,9 +64,11 @@ lived {S} {D} j seen may_leave is_clean contents remaining held text rings origi
             own = all.1;
             found = recovered.entries;
             all = recovered.undamaged;
-            held = subst (λ (parts : Parts HostState (FileJournal D)). IsHeld archived j (map begun started.config.repositories) parts recovered.entries (length recovered.entries)) (sym served.handles)
+            held = subst (λ (first : Logged HostState D E). IsHeld archived j (map begun started.config.repositories) first.parts recovered.entries (length recovered.entries)) (sym served.handles)
                 (resumed.begins (map begun started.config.repositories) all.0 recovered.entries recovered.has);
             fresh = λ is. nothing_in recovered.entries (recovered.many ∙ replayed.fresh is);
+            writing = ap (λ (first : Logged HostState D E). first.writing) served.handles ∙ resumed.writing;
+            unsynced = ap (λ (first : Logged HostState D E). first.unsynced) served.handles ∙ resumed.unsynced;
           };
       unlinked = served.unlinked;
       none = served.none;
@@ -70,17 +76,17 @@ lived {S} {D} j seen may_leave is_clean contents remaining held text rings origi
     }
 
 -- where the service came to be, it is a life
-pub lived_over : {S D A E : Type 0} (j : journal.Ghosts (FileJournal D)) (seen : D → List ℕ) (may_leave : D → List ℕ → Type 0) (is_clean : D → Bool)
+pub lived_over : {S D E A X : Type 0} (j : journal.Ghosts (OneJournal D E)) (k : journal.Ghosts (FileJournal E)) (seen : D → List ℕ) (may_leave : D → List ℕ → Type 0) (is_clean : D → Bool)
     (contents remaining : S → Option (List ℕ)) (held : Origin → Option (List ℕ)) (text : List ℕ) (rings : List Ring) (origin : Origin) (count : ℕ) (host : HostState) (recovery : Recovery D) (known : Known S)
-    (came : A → Origin) (later : A → Known S) (ended : A → Result (Unit {0}) ServeFault) (new : A → World S (Parts HostState (FileJournal D))) (result : Result A E)
+    (came : A → Origin) (later : A → Known S) (ended : A → Result (Unit {0}) ServeFault) (new : A → World S (Logged HostState D E)) (result : Result A X)
     → PassesNone known → HasStarted seen may_leave is_clean (held origin) text origin count host recovery
-    → IfOk result (λ (a : A). HasResumed archived j seen may_leave contents remaining host recovery rings known (later a) (ended a) (new a))
+    → IfOk result (λ (a : A). HasResumed archived j k archive.emptied seen may_leave contents remaining host recovery rings known (later a) (ended a) (new a))
     → IfOk result (λ (a : A). came a ≡ origin)
-    → IfOk result (λ (a : A). HasLived j seen is_clean contents remaining (held (came a)) text rings (came a) (later a) (ended a) (new a))
-lived_over j seen may_leave is_clean contents remaining held text rings origin count host recovery known came later ended new (Ok a) none started resumed same =
-    subst (λ (o : Origin). HasLived j seen is_clean contents remaining (held o) text rings o (later a) (ended a) (new a)) (sym same)
-    (lived j seen may_leave is_clean contents remaining (held origin) text rings origin count host recovery known (later a) (ended a) (new a) none started resumed)
-lived_over j seen may_leave is_clean contents remaining held text rings origin count host recovery known came later ended new (Err e) none started nothing same = nothing
+    → IfOk result (λ (a : A). HasLived j k seen is_clean contents remaining (held (came a)) text rings (came a) (later a) (ended a) (new a))
+lived_over j k seen may_leave is_clean contents remaining held text rings origin count host recovery known came later ended new (Ok a) none started resumed same =
+    subst (λ (o : Origin). HasLived j k seen is_clean contents remaining (held o) text rings o (later a) (ended a) (new a)) (sym same)
+    (lived j k seen may_leave is_clean contents remaining (held origin) text rings origin count host recovery known (later a) (ended a) (new a) none started resumed)
+lived_over j k seen may_leave is_clean contents remaining held text rings origin count host recovery known came later ended new (Err e) none started nothing same = nothing
 
 -- where the bytes of both files are known, those that were read are of the one of its origin
 of_its_file : (found begun bytes : List ℕ) (origin : Origin) → IfSome (file_of (Some found) (Some begun) origin) (λ (file : List ℕ). bytes ≡ file) → bytes ≡ file_of found begun origin
@@ -89,11 +95,11 @@ of_its_file found begun bytes origin.Begun is = is
 of_its_file found begun bytes origin.Shortened is = is
 of_its_file found begun bytes origin.Reconfigured is = is
 
-pub begins_with_file : {S D : Type 0} (j : journal.Ghosts (FileJournal D)) (seen : D → List ℕ) (is_clean : D → Bool) (contents remaining : S → Option (List ℕ)) (found begun text : List ℕ) (rings : List Ring) (origin : Origin)
-    (later : Known S) (result : Result (Unit {0}) ServeFault) (new : World S (Parts HostState (FileJournal D)))
-    (life : HasLived j seen is_clean contents remaining (file_of (Some found) (Some begun) origin) text rings origin later result new)
+pub begins_with_file : {S D E : Type 0} (j : journal.Ghosts (OneJournal D E)) (k : journal.Ghosts (FileJournal E)) (seen : D → List ℕ) (is_clean : D → Bool) (contents remaining : S → Option (List ℕ)) (found begun text : List ℕ) (rings : List Ring) (origin : Origin)
+    (later : Known S) (result : Result (Unit {0}) ServeFault) (new : World S (Logged HostState D E))
+    (life : HasLived j k seen is_clean contents remaining (file_of (Some found) (Some begun) origin) text rings origin later result new)
     → IsTrue (is_clean (disk_of life.recovery)) → BeginsWithAll j (file_of found begun origin) life.forms text origin life.config life.old.handler
-begins_with_file j seen is_clean contents remaining found begun text rings origin later result new life clean =
+begins_with_file j k seen is_clean contents remaining found begun text rings origin later result new life clean =
     subst (λ (bytes : List ℕ). BeginsWithAll j bytes life.forms text origin life.config life.old.handler)
     (of_its_file found begun (seen (disk_of life.recovery)) origin life.file) (life.begins clean)
 
@@ -141,30 +147,46 @@ served_behind {S} {H} rings step settled contents remaining handler guard known 
       contents remaining known later life.old result new (ap (λ (g : Guard H). g.rings) life.handles ∙ keys) life.serves).1;
 }
 
--- the handler with its journal served behind keys
-pub resumed : {S H D : Type 0} (h : Replaying H) (j : journal.Ghosts (FileJournal D)) (seen : D → List ℕ) (may_leave : D → List ℕ → Type 0) (contents remaining : S → Option (List ℕ))
-    (handler : H) (recovery : Recovery D) (rings : List Ring) (known later : Known S) (result : Result (Unit {0}) ServeFault) (new : World S (Guard (Parts H (FileJournal D))))
-    (parts : Parts H (FileJournal D)) (guard served : Guard (Parts H (FileJournal D))) → guard.handler ≡ parts → guard.rings ≡ rings → served ≡ guard
-    → ((begun : h.Kept) (first : Entry) (entries : List Entry) → HasRedone h.kept h.is_honest h.leaving seen may_leave begun handler recovery first entries
-    → IsHeld h j begun parts entries (length entries))
-    → HasServed (Watches (IsGuarded (IsExchange h j))) (IsGuardSettled (IsSettled j)) contents remaining served known later result new
-    → HasResumed h j seen may_leave contents remaining handler recovery rings known later result (world_behind unguarded new)
-resumed {S} {H} {D} h j seen may_leave contents remaining handler recovery rings known later result new parts guard served same keys watched begins life = record {
-  parts = parts;
-  begins = begins;
-  served = served_behind rings (IsExchange h j) (IsSettled j) contents remaining parts served known later result new
-      (ap (λ (g : Guard (Parts H (FileJournal D))). g.handler) watched ∙ same) (ap (λ (g : Guard (Parts H (FileJournal D))). g.rings) watched ∙ keys) life;
+-- a journal is one of the first of two kinds
+first_held : {H J K : Type 0} (h : Replaying H) (j : journal.Ghosts J) (one : journal.Ghosts (EitherJournal J K)) (begun : h.Kept) (journaled : Parts H J) (parts : Parts H (EitherJournal J K))
+    (entries : List Entry) (durable : ℕ) → ((journal : J) → j.holds journal entries durable → one.holds (First journal) entries durable)
+    → parts.handler ≡ journaled.handler → parts.journal ≡ First journaled.journal → IsHeld h j begun journaled entries durable → IsHeld h one begun parts entries durable
+first_held {H} {J} {K} h j one begun journaled parts entries durable is handler journal held = record {
+  records = subst (λ (x : EitherJournal J K). one.holds x entries durable) (sym journal) (is journaled.journal held.records);
+  kept = subst (λ (x : H). IsTrue (h.is_honest x) → h.kept x ≡ redone_all h.leaving begun entries) (sym handler) held.kept;
 }
 
--- where it served
-pub resumed_over : {S H D A E : Type 0} (h : Replaying H) (j : journal.Ghosts (FileJournal D)) (seen : D → List ℕ) (may_leave : D → List ℕ → Type 0) (contents remaining : S → Option (List ℕ))
-    (handler : H) (recovery : Recovery D) (rings : List Ring) (known : Known S)
-    (later : A → Known S) (ended : A → Result (Unit {0}) ServeFault) (new : A → World S (Guard (Parts H (FileJournal D))))
-    (parts : Parts H (FileJournal D)) (guard served : Guard (Parts H (FileJournal D))) (result : Result A E) → guard.handler ≡ parts → guard.rings ≡ rings → served ≡ guard
-    → ((begun : h.Kept) (first : Entry) (entries : List Entry) → HasRedone h.kept h.is_honest h.leaving seen may_leave begun handler recovery first entries
-    → IsHeld h j begun parts entries (length entries))
-    → IfOk result (λ (a : A). HasServed (Watches (IsGuarded (IsExchange h j))) (IsGuardSettled (IsSettled j)) contents remaining served known (later a) (ended a) (new a))
-    → IfOk result (λ (a : A). HasResumed h j seen may_leave contents remaining handler recovery rings known (later a) (ended a) (world_behind unguarded (new a)))
-resumed_over h j seen may_leave contents remaining handler recovery rings known later ended new parts guard served (Ok a) same keys watched begins life =
-    resumed h j seen may_leave contents remaining handler recovery rings known (later a) (ended a) (new a) parts guard served same keys watched begins life
-resumed_over h j seen may_leave contents remaining handler recovery rings known later ended new parts guard served (Err e) same keys watched begins none = none
+-- what is made of a handler with its journal, in which no checkpoint is written
+pub record IsMadeOf {H J K : Type 0} (journaled : Parts H J) (first : Checkpointed H (EitherJournal J K) K) : Type 0 where
+  pub handler : first.parts.handler ≡ journaled.handler
+  pub journal : first.parts.journal ≡ First journaled.journal
+  pub writing : first.writing ≡ None
+  pub unsynced : first.unsynced ≡ None
+
+-- the handler with its journal served behind keys
+module _ {S H D E : Type 0} (h : Replaying H) (i : journal.Ghosts (FileJournal D)) (j : journal.Ghosts (OneJournal D E)) (k : journal.Ghosts (FileJournal E)) (emptied : h.Kept → h.Kept)
+    (seen : D → List ℕ) (may_leave : D → List ℕ → Type 0) (contents remaining : S → Option (List ℕ)) (handler : H) (recovery : Recovery D) (rings : List Ring)
+    (is : (journal : FileJournal D) (entries : List Entry) (durable : ℕ) → i.holds journal entries durable → j.holds (First journal) entries durable)
+    (journaled : Parts H (FileJournal D)) (first : Logged H D E) (made : IsMadeOf journaled first)
+    (guard served : Guard (Logged H D E)) (same : guard.handler ≡ first) (keys : guard.rings ≡ rings) (watched : served ≡ guard)
+    (begins : (begun : h.Kept) (entry : Entry) (entries : List Entry) → HasRedone h.kept h.is_honest h.leaving seen may_leave begun handler recovery entry entries
+    → IsHeld h i begun journaled entries (length entries)) where
+  resumed : (known later : Known S) (result : Result (Unit {0}) ServeFault) (new : World S (Guard (Logged H D E)))
+      → HasServed (Watches (IsGuarded (IsExchangeBeside h j))) (IsGuardSettled (IsSettledBeside h j k emptied Second)) contents remaining served known later result new
+      → HasResumed h j k emptied seen may_leave contents remaining handler recovery rings known later result (world_behind unguarded new)
+  resumed known later result new life = record {
+    first = first;
+    begins = λ begun entry entries redone. first_held h i j begun journaled first.parts entries (length entries) (λ journal. is journal entries (length entries))
+        made.handler made.journal (begins begun entry entries redone);
+    writing = made.writing;
+    unsynced = made.unsynced;
+    served = served_behind rings (IsExchangeBeside h j) (IsSettledBeside h j k emptied Second) contents remaining first served known later result new
+        (ap (λ (g : Guard (Logged H D E)). g.handler) watched ∙ same) (ap (λ (g : Guard (Logged H D E)). g.rings) watched ∙ keys) life;
+  }
+
+  -- where it served
+  pub resumed_over : {A X : Type 0} (known : Known S) (later : A → Known S) (ended : A → Result (Unit {0}) ServeFault) (new : A → World S (Guard (Logged H D E))) (result : Result A X)
+      → IfOk result (λ (a : A). HasServed (Watches (IsGuarded (IsExchangeBeside h j))) (IsGuardSettled (IsSettledBeside h j k emptied Second)) contents remaining served known (later a) (ended a) (new a))
+      → IfOk result (λ (a : A). HasResumed h j k emptied seen may_leave contents remaining handler recovery rings known (later a) (ended a) (world_behind unguarded (new a)))
+  resumed_over known later ended new (Ok a) life = resumed known (later a) (ended a) (new a) life
+  resumed_over known later ended new (Err e) none = none

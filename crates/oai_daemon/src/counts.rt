@@ -147,7 +147,11 @@ impl DepositCounts {
 
 impl Figures for Counts {
     fn report(&self, page: &mut Exposition) {
-        self.startup.report(page);
+        let startup = match self.tally.checkpoint() {
+            Some((moment, bytes)) => self.startup.replaced(moment, bytes),
+            None => self.startup,
+        };
+        startup.report(page);
         page.add(
             "connections",
             "Connections that are open.",

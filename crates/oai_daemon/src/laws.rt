@@ -2,11 +2,11 @@
 //! the file of its journal: theorems, by empty functions.
 ghost use Rattle.oai_recovery.specs.Archives.{archive};
 ghost use Rattle.oai_daemon.specs.Lives.{BeginsWithAll, HasLived};
+ghost use Rattle.oai_daemon.specs.Served.{Logged};
 ghost use Rattle.oai_recovery.specs.Renewals.{IsRenewed, state_before};
 ghost use Rattle.oai_recovery.specs.ServedDisks.{file_of};
 ghost use Rattle.oai_recovery.specs.declared.origins.Origin.{Origin as From};
 ghost use Rattle.oai_durable.specs.Checkpoints.{AreStages, IsCheckpoint, IsHistory, JournalStage};
-ghost use Rattle.oai_durable.specs.Journaled.{Parts};
 ghost use Rattle.oai_host.specs.Hosts.{HostState, Repository};
 ghost use Rattle.oai_host.specs.Saved.{emptied_in};
 ghost use Rattle.oai_journal.specs.Files.{IsJournalFile};
@@ -20,8 +20,9 @@ ghost use Rattle.oai_serving.specs.Rounds.{World};
 ghost use Rattle.oai_serving.specs.declared.faults.ServeFault.{ServeFault as Fault};
 ghost use Rattle.std.specs.Prelude.{◌≡◌, [], ℕ, IsTrue, List, Result, Some};
 
+use oai_durable::EitherJournal;
 use oai_journal::{FileJournal, Journal};
-use oai_recovery::ServedDisk;
+use oai_recovery::{Fresh, ServedDisk};
 use oai_serving::Stream;
 use sqlite_disk::Disk;
 use sqlite_std_file::{FileFrom, Start};
@@ -42,11 +43,12 @@ pub fn archive_law()
 /// was begun: provided that the file returned what was written to it as the journal was read, the life began with all log
 /// records in it. A theorem, proved by an empty function.
 pub fn whole_file_law<L: Stream, S: Start, T: Start>()
-    ensures { (text : List ℕ) (rings : List Held) (origin : From) (later : Known L) (result : Result Unit Fault) (new : World L (Parts HostState (Filed _)))
-        (lived : HasLived ⟦<FileJournal<ServedDisk<FileFrom<S>, FileFrom<T>>> as Journal>⟧ ⟦<ServedDisk<FileFrom<S>, FileFrom<T>> as Disk>⟧.seen
+    ensures { (text : List ℕ) (rings : List Held) (origin : From) (later : Known L) (result : Result Unit Fault) (new : World L (Logged HostState _ _))
+        (lived : HasLived ⟦<EitherJournal<FileJournal<ServedDisk<FileFrom<S>, FileFrom<T>>>, FileJournal<FileFrom<Fresh>>> as Journal>⟧
+        ⟦<FileJournal<FileFrom<Fresh>> as Journal>⟧ ⟦<ServedDisk<FileFrom<S>, FileFrom<T>> as Disk>⟧.seen
         ⟦<ServedDisk<FileFrom<S>, FileFrom<T>> as Disk>⟧.is_clean L.contents L.remaining
         (file_of (Some S.Start.db) (Some T.Start.db) origin) text rings origin later result new)
         → IsTrue (⟦<ServedDisk<FileFrom<S>, FileFrom<T>> as Disk>⟧.is_clean (disk_of lived.recovery))
-        → BeginsWithAll ⟦<FileJournal<ServedDisk<FileFrom<S>, FileFrom<T>>> as Journal>⟧ (file_of S.Start.db T.Start.db origin)
+        → BeginsWithAll ⟦<EitherJournal<FileJournal<ServedDisk<FileFrom<S>, FileFrom<T>>>, FileJournal<FileFrom<Fresh>>> as Journal>⟧ (file_of S.Start.db T.Start.db origin)
         lived.forms text origin lived.config lived.old.handler }
 {}

@@ -4,11 +4,13 @@
 
 mod clocks;
 mod counts;
+mod folders;
 mod laws;
 mod service;
 mod tallies;
 mod watched;
 
+pub use folders::NotedFolder;
 pub use laws::{archive_law, whole_file_law};
 pub use service::{Ended, Hosting, outcome_of, serve};
 pub use watched::Watched;

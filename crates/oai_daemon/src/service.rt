@@ -12,10 +12,11 @@ ghost use Rattle.std.specs.Prelude.{◌≡◌, IfOk, IsTrue, MatchResult};
 
 use crate::clocks::GuardedClock;
 use crate::counts::Counts;
+use crate::folders::NotedFolder;
 use crate::tallies::{CountedPort, Tally};
 use crate::watched::Watched;
 use oai_archive::ServerStop;
-use oai_durable::{Journaled, resume};
+use oai_durable::{Checkpointed, EitherJournal, resume};
 use oai_figures::Figures;
 use oai_host::Host;
 use oai_http::Settled;
@@ -78,22 +79,32 @@ pub fn outcome_of<S: Drop, K: Drop, H: Drop>(
     }
 }
 
-/// The handler of a place's server: a host over the pages of the place, whose exchanges are logged in its journal,
-/// behind the keys of depositors; its faults are reported to the place.
-pub type Hosting<'a, P> = Watched<
+/// A handler whose exchanges are logged in the journal of a place, and which writes checkpoints in its folder, behind the
+/// keys of depositors; its faults are reported to the place.
+pub type Logging<'a, P, H> = Watched<
     'a,
-    Guarded<Journaled<Host<PagedVersions<<P as Place>::Pages>>, FileJournal<<P as Place>::Disk>>>,
+    Guarded<
+        Checkpointed<
+            H,
+            FileJournal<<P as Place>::Disk>,
+            FileJournal<<P as Place>::NewDisk>,
+            NotedFolder<<P as Place>::Folder>,
+        >,
+    >,
     P,
 >;
 
+/// The handler of a place's server: a host over the pages of the place.
+pub type Hosting<'a, P> = Logging<'a, P, Host<PagedVersions<<P as Place>::Pages>>>;
+
 /// Serves the repositories of the configuration, in the state that the journal of the place gives, until it is killed or
 /// cannot continue. Deposits into those that `rings` names need one of their keys. What is performed is logged in the
-/// journal, and synced, before it is answered. The error is why it stopped before it served; the value is what its service
-/// ended with.
+/// journal, and synced, before it is answered. Once the journal is long a checkpoint takes its place, beside exchanges. The
+/// error is why it stopped before it served; the value is what its service ended with.
 ///
 /// A startup goes in this order, and stops at the first fault: the folder, the port, the journal that is found and its
 /// first record, the pages, all other records, and the report of where the server listens. A journal with another
-/// configuration, and one that is long while no list is open, is replaced by a checkpoint before that.
+/// configuration, and one of version 1 that is long while no list is open, is replaced by a checkpoint before that.
 pub fn serve<'a, P: Place, C: Clock>(
     alloc: Global,
     place: &'a mut P,
@@ -101,8 +112,8 @@ pub fn serve<'a, P: Place, C: Clock>(
     written: WrittenConfig,
     rings: Sequence<Ring>,
 ) -> Result<Ended<P::Link, P::Port, Hosting<'a, P>>, ServerStop>
-    ensures lived { IfOk result (λ ended. HasLived ⟦<FileJournal<P::Disk> as Journal>⟧ P.Disk.Disk.seen P.Disk.Disk.is_clean
-        P.Link.Stream.contents P.Link.Stream.remaining (file_of P.held P.held_begun ended.origin) written.text rings ended.origin
+    ensures lived { IfOk result (λ ended. HasLived ⟦<EitherJournal<FileJournal<P::Disk>, FileJournal<P::NewDisk>> as Journal>⟧
+        ⟦<FileJournal<P::NewDisk> as Journal>⟧ P.Disk.Disk.seen P.Disk.Disk.is_clean P.Link.Stream.contents P.Link.Stream.remaining (file_of P.held P.held_begun ended.origin) written.text rings ended.origin
         (known_of (P.Port.Sockets.accepted ended.port) (P.Port.Sockets.gone ended.port)) ended.result (world_behind unguarded ended.server)) }
     ensures renewed { IfOk result (λ ended. IsTrue (is_checkpoint ended.origin)
         → HasRenewed P.Disk.Disk.seen P.Disk.Disk.is_clean ⟦<FileJournal<P::NewDisk> as Journal>⟧ P.is_honest 0) }
@@ -131,12 +142,10 @@ fn serve_over<'a, P: Place, H: Replayed + Figures + Drop, C: Clock>(
     started: Started<P::Disk, H>,
     rings: Sequence<Ring>,
     listening: Listening<P::Port>,
-) -> Result<
-    Ended<P::Link, P::Port, Watched<'a, Guarded<Journaled<H, FileJournal<P::Disk>>>, P>>,
-    ServerStop,
->
-    ensures resumed { IfOk result (λ ended. HasResumed (promised H.Replayed) ⟦<FileJournal<P::Disk> as Journal>⟧ P.Disk.Disk.seen P.Disk.Disk.may_leave
-        P.Link.Stream.contents P.Link.Stream.remaining started.handler started.recovery rings
+) -> Result<Ended<P::Link, P::Port, Logging<'a, P, H>>, ServerStop>
+    ensures resumed { IfOk result (λ ended. HasResumed (promised H.Replayed)
+        ⟦<EitherJournal<FileJournal<P::Disk>, FileJournal<P::NewDisk>> as Journal>⟧ ⟦<FileJournal<P::NewDisk> as Journal>⟧
+        H.emptied P.Disk.Disk.seen P.Disk.Disk.may_leave P.Link.Stream.contents P.Link.Stream.remaining started.handler started.recovery rings
         (known_of (P.Port.Sockets.accepted listening.port) (P.Port.Sockets.gone listening.port))
         (known_of (P.Port.Sockets.accepted ended.port) (P.Port.Sockets.gone ended.port)) ended.result (world_behind unguarded ended.server)) }
     ensures origin { IfOk result (λ ended. ended.origin ≡ started.origin) }
@@ -147,13 +156,17 @@ fn serve_over<'a, P: Place, H: Replayed + Figures + Drop, C: Clock>(
         records,
         startup,
         origin,
+        forms,
+        text,
     } = started;
     let Listening { port, counts } = listening;
     let Some(journaled) = resume(alloc, handler, recovery, records) else {
         return Err(ServerStop::Common(Stop::InputFault));
     };
+    let folder = NotedFolder::new(place.folder(text, forms)?, counts.tally()?);
     place.announce(&port)?;
-    let guarded = Guarded::new(alloc, journaled, rings);
+    let checkpointed = Checkpointed::new(journaled, folder);
+    let guarded = Guarded::new(alloc, checkpointed, rings);
     let tally = counts.tally()?;
     let watched = Watched::new(alloc, guarded, place, counts.after(startup));
     serve_at(alloc, clock, origin, watched, port, tally)

@@ -1,4 +1,4 @@
-//! What the event loop counts of connections, and the second that it read last.
+//! What the event loop counts of connections, the second that it read last, and whether a checkpoint is written.
 ghost use Rattle.std.specs.Prelude.{◌≡◌};
 
 use oai_serving::{Readiness, Sockets, Stream};
@@ -7,21 +7,27 @@ use std::io;
 use std::rc::Rc;
 use std::time::Duration;
 
-/// Connections that were accepted, and closed; and the second of a monotonic clock that was read last.
+/// Connections that were accepted, and closed; the second of a monotonic clock that was read last; and whether a
+/// checkpoint is written.
 #[derive(Drop)]
 pub(crate) struct Tally {
     accepted: Cell<u64>,
     closed: Cell<u64>,
     second: Cell<u64>,
+    busy: Cell<bool>,
+    /// The moment and the bytes of the last one that was written.
+    checkpoint: Cell<Option<(i64, usize)>>,
 }
 
 impl Tally {
-    /// No connection, in that second.
+    /// No connection, in that second, and no checkpoint.
     pub(crate) fn new(second: u64) -> Tally {
         Tally {
             accepted: Cell::new(0),
             closed: Cell::new(0),
             second: Cell::new(second),
+            busy: Cell::new(false),
+            checkpoint: Cell::new(None),
         }
     }
 
@@ -33,6 +39,21 @@ impl Tally {
     /// The second that was noted last.
     pub(crate) fn second(&self) -> u64 {
         self.second.get()
+    }
+
+    /// Notes whether a checkpoint is written.
+    pub(crate) fn note_busy(&self, is_busy: bool) {
+        self.busy.set(is_busy);
+    }
+
+    /// Notes a checkpoint that was written, by its moment and its bytes.
+    pub(crate) fn note_checkpoint(&self, moment: i64, bytes: usize) {
+        self.checkpoint.set(Some((moment, bytes)));
+    }
+
+    /// The moment and the bytes of the checkpoint that was written last.
+    pub(crate) fn checkpoint(&self) -> Option<(i64, usize)> {
+        self.checkpoint.get()
     }
 
     /// How many connections were accepted.
@@ -56,7 +77,7 @@ impl Tally {
     }
 }
 
-/// A port whose connections are counted.
+/// A port whose connections are counted. While a checkpoint is written it does not wait for them.
 #[derive(Drop)]
 pub(crate) struct CountedPort<K> {
     port: K,
@@ -85,6 +106,9 @@ impl<S: Stream, K: Sockets<S>> Sockets<S> for CountedPort<K> {
     ghost gone = { λ counted. K.gone counted.port };
 
     fn wait(&mut self, most: Duration) -> io::Result<usize> {
+        if self.tally.busy.get() {
+            return self.port.wait(Duration::ZERO);
+        }
         self.port.wait(most)
     }
 

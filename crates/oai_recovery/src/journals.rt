@@ -21,9 +21,9 @@ use sqlite_disk::Disk;
 use std::alloc::Global;
 use std::rt::Clock;
 
-/// A startup replaces a journal by a checkpoint if it is longer than twice its last checkpoint and this many bytes: 64
-/// MiB.
-const MAX_TAIL: usize = 67_108_864;
+/// A startup replaces a journal of version 1 by a checkpoint if it is longer than twice its last checkpoint and this many
+/// bytes: 64 MiB. A server replaces one of version 2 beside exchanges (`Folder::max_tail`).
+pub(crate) const MAX_TAIL: usize = 67_108_864;
 
 /// A journal with which a server starts, whose first record is read.
 #[derive(Drop)]
@@ -138,15 +138,16 @@ pub(crate) fn prepare_begun<P: Place>(
     })
 }
 
-/// Whether the journal that was found, of which that is known, is long, and no list can still be open that stays open for
-/// so many seconds at most.
+/// Whether the journal that was found, of which that is known, is of version 1 and long, and no list can still be open
+/// that stays open for so many seconds at most. One of version 2 becomes short while it is served.
 pub(crate) fn is_due<C: Clock>(
     clock: &C,
     origin: Origin,
+    forms: Forms,
     dates: &Dates,
     lifetime: i64,
 ) -> Result<bool, ServerStop> {
-    if origin != Origin::Found {
+    if origin != Origin::Found || forms != Forms::Fields {
         return Ok(false);
     }
     if dates.position <= dates.saved.saturating_mul(2).saturating_add(MAX_TAIL) {

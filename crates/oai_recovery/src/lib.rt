@@ -2,8 +2,11 @@
 //! they leave. Files, ports and streams are those of a `Place`; `HostPlace` has the system's.
 #![tactic(auto)]
 
+mod begun_checkpoints;
 mod checkpoints;
 mod dates;
+mod folder_files;
+mod host_folders;
 mod host_places;
 mod journals;
 mod laws;
@@ -17,7 +20,10 @@ mod served_disks;
 mod starts;
 mod startups;
 
+pub use begun_checkpoints::begin_checkpoint;
 pub use checkpoints::checkpoint_folder;
+pub use folder_files::Fresh;
+pub use host_folders::HostFolder;
 pub use host_places::HostPlace;
 pub use laws::checkpoint_law;
 pub use moments::{second_of, to_moment};

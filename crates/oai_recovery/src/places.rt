@@ -7,7 +7,9 @@ ghost use Rattle.std.specs.Prelude.{◌≡◌, ℕ, Bool, false, IfOk, IfSome, I
 use crate::notices::Notice;
 use oai_archive::ServerStop;
 use oai_device::PageDevice;
-use oai_journal::Recovery;
+use oai_durable::Folder;
+use oai_item::Forms;
+use oai_journal::{FileJournal, Recovery};
 use oai_serving::{Sockets, Stream};
 use sqlite_disk::Disk;
 
@@ -29,6 +31,8 @@ pub trait Place {
     type Link: Stream + Drop;
     /// What accepts connections.
     type Port: Sockets<Self::Link> + Drop;
+    /// The folder, in which checkpoints are written while a server serves.
+    type Folder: Folder<FileJournal<Self::NewDisk>> + Drop;
 
     /// The bytes of the file of the folder's journal, as it is opened to be served, if they are known.
     ghost held: { Option (List ℕ) } = { None };
@@ -83,4 +87,8 @@ pub trait Place {
 
     /// The disk of the folder's journal, to be read, for a checkpoint without a server.
     fn read_journal(&mut self) -> Result<Self::OldDisk, ServerStop>;
+
+    /// The folder, in which checkpoints with the configuration in the text are written while a server serves; none over
+    /// a journal whose records are lists of fields alone. The error is `NoMemory`.
+    fn folder(&mut self, text: Vec<u8>, forms: Forms) -> Result<Self::Folder, ServerStop>;
 }

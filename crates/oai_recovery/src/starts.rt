@@ -41,13 +41,17 @@ pub struct Started<D: Disk, H> {
     pub startup: StartupFigures,
     /// Where the journal comes from.
     pub origin: Origin,
+    /// Which forms its records may have.
+    pub forms: Forms,
+    /// A copy of the bytes of its configuration.
+    pub text: Vec<u8>,
 }
 
 /// The host of the configuration, in the state that the journal of the place gives. If there is none, it is begun; one
-/// with another configuration, and one that is long while no list is open, is replaced by a checkpoint, and the host is
-/// the one that read that back. The records have the forms of the journal's version. The text of the configuration is
-/// parsed once more if these are lists of fields alone, and for the host that reads a long journal's checkpoint. The
-/// journal is read once.
+/// with another configuration, and one of version 1 that is long while no list is open, is replaced by a checkpoint, and
+/// the host is the one that read that back. The records have the forms of the journal's version. The text of the
+/// configuration is parsed once more if these are lists of fields alone, and for the host that reads a long journal's
+/// checkpoint. The journal is read once. One of version 2 that is long is replaced while a server serves (`Folder`).
 pub fn start<P: Place, C: Clock>(
     alloc: Global,
     place: &mut P,
@@ -65,7 +69,7 @@ pub fn start<P: Place, C: Clock>(
     let forms = prepared.forms;
     let started = start_at(alloc, place, clock, &text, config, prepared)?;
     let dates = started.startup.replay.dates;
-    if is_due(clock, started.origin, &dates, lifetime)? {
+    if is_due(clock, started.origin, forms, &dates, lifetime)? {
         return shorten(alloc, place, clock, &text, started);
     }
     tell_forms(place, forms);
@@ -170,8 +174,9 @@ fn start_by<P: Place, H: Replayed + Drop, C: Clock>(
     let Prepared {
         mut recovery,
         origin,
-        ..
+        forms,
     } = prepared;
+    let copy = copy_of(alloc, text)?;
     let checkpoint = moment_in(&recovery);
     let replay = recover_all(alloc, place, clock, origin, &mut handler, &mut recovery)?;
     keep(place, origin, replay.records, &recovery)?;
@@ -181,7 +186,16 @@ fn start_by<P: Place, H: Replayed + Drop, C: Clock>(
         records: replay.records,
         startup: StartupFigures { replay, checkpoint },
         origin,
+        forms,
+        text: copy,
     })
+}
+
+/// A copy of the bytes.
+fn copy_of(alloc: Global, bytes: &[u8]) -> Result<Vec<u8>, ServerStop> {
+    let mut copy = Vec::new(alloc);
+    copy.extend_from_slice(bytes)?;
+    Ok(copy)
 }
 
 /// The moment of the record that was read last; 0 if there is none.

@@ -37,6 +37,13 @@ impl StartupFigures {
             checkpoint: 0,
         }
     }
+
+    /// The same where a checkpoint of that moment, of so many bytes, has taken the place of the journal since.
+    pub fn replaced(mut self, moment: i64, bytes: usize) -> StartupFigures {
+        self.checkpoint = moment;
+        self.replay.dates.saved_to = bytes;
+        self
+    }
 }
 
 impl Figures for StartupFigures {

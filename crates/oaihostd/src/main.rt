@@ -90,6 +90,7 @@ fn run_serve(rt: &HostRuntime, serving: Serving<'_>) -> Result<(), Failure> {
     warn_of(rt, &serving);
     let mut place = HostPlace::new(rt, serving.folder, serving.port, Wary, Wary)
         .listening_at(serving.address)
+        .checkpointing_after(serving.max_tail)
         .quiet(serving.is_quiet);
     Ok(outcome_of(serve(rt.alloc(), &mut place, rt, written, rings))?)
 }
