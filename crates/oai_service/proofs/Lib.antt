@@ -1,3 +1,5 @@
+pub mod KeepingLemmas
+pub mod CheckpointingLemmas
 pub mod TurnLemmas
 pub mod LifeLemmas
 pub mod OwnLemmas

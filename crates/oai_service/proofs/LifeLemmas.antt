@@ -2,32 +2,30 @@
 use Rattle.std.proofs.Common.{◌≡◌, ◌∙◌, inl, inr, ◌≤◌, ℕ, zero, suc, ◌+◌, ◌-◌, ◌++◌, List, [], ◌∷◌, length, map, Option, None, Some, Result, Ok, Err, slice_index_or, refl, sym, ap, arith, subst, take}
 use Rattle.std.specs.List.{AllByRecursion, AllZip}
 use Rattle.std.specs.Prelude.{Contains}
-use Rattle.std.proofs.lemmas.List.{append-nil, length-append}
+use Rattle.std.proofs.lemmas.List.{append-nil, append_assoc, length-append}
 use Rattle.std.proofs.Math.Seq.{take-append-add}
 use Rattle.slab.specs.Slab.{Slab}
+use Rattle.oai_front.specs.Performing.{Steps}
 use Rattle.oai_front.specs.Runs.{Served, Serves, done_on}
-use Rattle.oai_host.specs.Hosts.{HostState, IsLater, Repository, store_of}
+use Rattle.oai_host.specs.Hosts.{HostState, Repository, store_of}
 use Rattle.oai_host.specs.Performed.{StoreState}
 use Rattle.oai_journal.specs.Journals.{IsLeft}
 use Rattle.oai_journal.specs.Records.{Entry}
-use Rattle.oai_journal.specs.declared.journals.Journal as journal
 use Rattle.oai_serving.specs.Links.{Link}
 use Rattle.oai_serving.specs.Rounds.{EndsService, IsRoundSettled, served_in}
 use Rattle.oai_serving.specs.Tables.{AreAllAnswered, AreAllKept, AreLinksKept}
 use Rattle.oai_serving.specs.declared.faults.ServeFault.{ServeFault}
 use Rattle.oai_serving.specs.declared.faults.ServeFault.TheVariants.{Clock, Unsettled, Wait}
 use Rattle.oai_keys.specs.Guards.{Guards}
-use Rattle.oai_keys.specs.declared.rings.Ring.{Ring}
 use Rattle.oai_daemon.specs.Watches.{Watches}
-use Rattle.oai_durable.specs.Journaled.{IsExchange, IsSettled, Parts}
-use Rattle.oai_durable.specs.Served.{AreThose, EndsAs}
-use Rattle.oai_durable.proofs.ServedLemmas.{ends_held, left_less}
-use Rattle.oai_service.specs.Hosting.{hosting}
+use Rattle.oai_durable.specs.Served.{AreThose}
+use Rattle.oai_service.specs.Keeping.{IsSoundEnd, IsSoundRound, Keeping}
 use Rattle.oai_service.specs.Lives.{AreServerLives, IsServerLife, ServerLife, served_behind}
 use Rattle.oai_service.specs.Service.{AreResumed, IsOverHonest, IsReceivedIn, IsRecordedIn, LoggedTurns, all_turns, turns_of}
 use Rattle.oai_service.specs.Turns.{AreTurns, IsKeyed, IsWatched, Turn, its, turn_records}
-use Rattle.oai_service.proofs.OwnLemmas.{AreTurnsOnce, once_append, turns_once}
-use Rattle.oai_service.proofs.TurnLemmas.{HasFew, behind, each_append, goes_all, goes_rounds, turns_append, turns_front}
+use Rattle.oai_service.proofs.KeepingLemmas.{EndsWith, Keeps}
+use Rattle.oai_service.proofs.OwnLemmas.{AreTurnsOnce, once_append, once_front, once_moved, turns_once}
+use Rattle.oai_service.proofs.TurnLemmas.{FollowOn, HasFew, behind, each_append, goes_all, goes_rounds, turns_append, turns_before}
 
 -- ---- what a crash leaves
 
@@ -91,34 +89,29 @@ left_behind front turns left few is =
 -- ---- a life
 
 -- how a service ended: what its last round performed, and whether it settled behind it
-record IsOver {H J : Type 0} (view : H → HostState) (j : journal.Ghosts J) (rings : List Ring) (mid last : Parts H J) : Type 0 where
+record IsOver {X : Type 0} (keeping : Keeping X (List Repository)) (step : Steps X) (mid last : X) : Type 0 where
   pub served : List Served
-  pub performed : Parts H J
-  pub run : Serves (Watches (Guards rings (IsExchange (hosting view) j))) mid served performed
-  pub ends : EndsAs j performed last
+  pub performed : X
+  pub run : Serves step mid served performed
+  pub ends : EndsWith keeping performed last
 
-ends_as : {H J : Type 0} (j : journal.Ghosts J) (performed last : Parts H J) (fault : ServeFault) → IsRoundSettled (IsSettled j) performed (Err fault) last → EndsAs j performed last
-ends_as j performed last Unsettled settles = inr (Err settles.0, settles.1)
-ends_as j performed last Wait is = inl is
-ends_as j performed last Clock is = inl is
+ends_with : {X : Type 0} (keeping : Keeping X (List Repository)) (performed last : X) (fault : ServeFault) (settles : IsRoundSettled keeping.settled performed (Err fault) last)
+    → IsSoundRound keeping performed fault last settles → EndsWith keeping performed last
+ends_with keeping performed last Unsettled settles sound = inr (Err settles.0, settles.1, sound)
+ends_with keeping performed last Wait is sound = inl is
+ends_with keeping performed last Clock is sound = inl is
 
-over_by : {H J : Type 0} (view : H → HostState) (j : journal.Ghosts J) (rings : List Ring) (mid last : Parts H J) (result : Result (Unit {0}) ServeFault)
-    → EndsService (Watches (Guards rings (IsExchange (hosting view) j))) (IsSettled j) mid result last → IsOver view j rings mid last
-over_by view j rings mid last (Ok done) ends = record { served = []; performed = mid; run = refl; ends = inl ends }
-over_by view j rings mid last (Err fault) ends =
-    record { served = ends.served; performed = ends.performed; run = ends.run; ends = ends_as j ends.performed last fault ends.settles }
+over_by : {X : Type 0} (keeping : Keeping X (List Repository)) (step : Steps X) (mid last : X) (result : Result (Unit {0}) ServeFault) (ends : EndsService step keeping.settled mid result last)
+    → IsSoundEnd keeping step mid result last ends → IsOver keeping step mid last
+over_by keeping step mid last (Ok done) ends sound = record { served = []; performed = mid; run = refl; ends = inl ends }
+over_by keeping step mid last (Err fault) ends sound =
+    record { served = ends.served; performed = ends.performed; run = ends.run; ends = ends_with keeping ends.performed last fault ends.settles sound }
 
-over_served : {H J : Type 0} (view : H → HostState) (j : journal.Ghosts J) (rings : List Ring) (mid last : Parts H J) (result : Result (Unit {0}) ServeFault)
-    (ends : EndsService (Watches (Guards rings (IsExchange (hosting view) j))) (IsSettled j) mid result last)
-    → (over_by view j rings mid last result ends).served ≡ served_behind (Watches (Guards rings (IsExchange (hosting view) j))) (IsSettled j) mid result last ends
+over_served : {X : Type 0} (keeping : Keeping X (List Repository)) (step : Steps X) (mid last : X) (result : Result (Unit {0}) ServeFault) (ends : EndsService step keeping.settled mid result last)
+    (sound : IsSoundEnd keeping step mid result last ends) → (over_by keeping step mid last result ends sound).served ≡ served_behind step keeping.settled mid result last ends
 unfolding over_by
-over_served view j rings mid last (Ok done) ends = refl
-over_served view j rings mid last (Err fault) ends = refl
-
--- settling leaves the handler
-ends_same : {H J : Type 0} (j : journal.Ghosts J) (performed last : Parts H J) → EndsAs j performed last → last.handler ≡ performed.handler
-ends_same {H} {J} j performed last (inl is) = ap (λ (p : Parts H J). p.handler) is
-ends_same j performed last (inr settled) = settled.1.handler
+over_served keeping step mid last (Ok done) ends sound = refl
+over_served keeping step mid last (Err fault) ends sound = refl
 
 -- a server with no link has none that is not what came of its stream
 nothing_at : {A : Type 0} (slots : List (Option A)) (key : ℕ) → slots ≡ [] → slice_index_or slots key None ≡ None
@@ -156,98 +149,106 @@ long_append xs ys = let many : length (xs ++ ys) ≡ length xs + length ys = len
 few_of : {A : Type 0} (n : ℕ) (xs ys : List A) → n ≡ length xs → n ≤ length (xs ++ ys)
 few_of n xs ys is = rw is (long_append xs ys)
 
-left_all : (found left : List Entry) (answered kept : List Turn) → left ≡ (found ++ turn_records answered) ++ turn_records kept → left ≡ found ++ turn_records (answered ++ kept)
-left_all found left answered kept is = is ∙ sym (behind found answered kept)
+-- those that were answered, those whose records are there, and those whose records are lost
+turns_joined : (changes : StoreState → StoreState → Type 0) → FollowOn changes → (begun : List Repository) (before : List Entry) (old mid new : StoreState) (answered kept lost : List Turn)
+    → AreTurns changes begun before old answered mid → AreTurns changes begun (before ++ turn_records answered) mid (kept ++ lost) new
+    → AreTurns changes begun before old ((answered ++ kept) ++ lost) new
+turns_joined changes both begun before old mid new answered kept lost first then =
+    subst (λ (turns : List Turn). AreTurns changes begun before old turns new) (sym (append_assoc answered kept lost))
+    (turns_append changes both begun before old mid new answered (kept ++ lost) first then)
 
 -- what is told of a life
-pub record Tells {S H J : Type 0} (store : H → StoreState) (contents remaining : S → Option (List ℕ)) (begun : List Repository) (life : ServerLife S H J) : Type 0 where
+pub record Tells {S X : Type 0} (keeping : Keeping X (List Repository)) (store : X → StoreState) (contents remaining : S → Option (List ℕ)) (begun : List Repository) (life : ServerLife S X) : Type 0 where
   pub told : LoggedTurns
   pub received : IsReceivedIn contents remaining life told
-  pub recorded : IsRecordedIn store begun life told
-  pub left : life.left ≡ life.found ++ turn_records (turns_of told)
-
-pub tell : {S H J : Type 0} (view : H → HostState) (j : journal.Ghosts J) (contents remaining : S → Option (List ℕ))
-    → ((journal : J) (entries : List Entry) (durable : ℕ) (found : List Entry) → j.holds journal entries durable → j.may_leave journal found → IsLeft durable entries found)
-    → (begun : List Repository) (life : ServerLife S H J) → IsServerLife (hosting view) j contents remaining begun life
-    → Tells (λ (handler : H). store_of (view handler)) contents remaining begun life
-tell {S} {H} {J} view j contents remaining law begun life is =
-    let store : H → StoreState = λ handler. store_of (view handler) in
-    let service = is.serves in
-    let before = goes_rounds view j life.rings begun life.found service.rounds life.old.handler service.mid is.begins service.settles in
-    let answered : List Turn = before.goes.turns in
-    let front : List Entry = life.found ++ turn_records answered in
-    let over = over_by view j life.rings service.mid life.new.handler life.result service.ends in
-    let after = goes_all view j life.rings begun front before.durable over.served service.mid over.performed before.goes.held over.run in
-    let entries : List Entry = front ++ turn_records after.turns in
-    let few : before.durable ≤ length entries = few_of before.durable front (turn_records after.turns) before.all in
-    let ended = ends_held j entries before.durable over.performed life.new.handler few after.held.records over.ends in
-    let durable : IsLeft before.durable entries life.left = left_less before.durable ended.0 entries life.left ended.1 (law life.new.handler.journal entries ended.0 life.left ended.2 is.leaves) in
-    let left = left_behind front after.turns life.left after.few (subst (λ (n : ℕ). IsLeft n entries life.left) before.all durable) in
-    record {
-      told = record { answered = answered; held = left.kept };
-      received = record {
-        those = subst (λ (rounds : List (List Served)). AreThose (map its answered) (served_in rounds)) is.rounds before.goes.those;
-        lost = left.others;
-        held = subst (λ (turns : List Turn). AreThose (map its turns) life.behind) left.parts
-            (subst (AreThose (map its after.turns)) (over_served view j life.rings service.mid life.new.handler life.result service.ends ∙ is.behind) after.those);
-        keyed = each_append (IsKeyed life.rings) answered (left.kept ++ left.others) before.goes.keyed (subst (AllByRecursion (IsKeyed life.rings)) left.parts after.keyed);
-        watched = each_append IsWatched answered (left.kept ++ left.others) before.goes.watched (subst (AllByRecursion IsWatched) left.parts after.watched);
-        streams = service.streams;
-        gone = service.parted;
-        passes = service.passes;
-        clients = subst (λ (rounds : List (List Served)). AreAllAnswered contents remaining service.streams service.parted (served_in rounds) life.new.links) is.rounds
-            (service.answered [] [] [] is.none (all_kept contents remaining life.old.links is.unlinked));
-      };
-      recorded = λ so.
-          let all : AreTurns begun front (store service.mid.handler) (left.kept ++ left.others) (store over.performed.handler) =
-          subst (λ (turns : List Turn). AreTurns begun front (store service.mid.handler) turns (store over.performed.handler)) left.parts (after.turned (before.goes.honesty ∙ so)) in
-          let first = turns_front begun front (store service.mid.handler) left.kept left.others (store over.performed.handler) all in
-          record {
-            reached = first.reached;
-            turned = turns_append begun life.found (store life.old.handler.handler) (store service.mid.handler) first.reached answered left.kept (before.goes.turned so) first.turned;
-            later = subst (λ (handler : H). IsLater first.reached (store handler)) (sym (ends_same j over.performed life.new.handler over.ends)) first.later;
-          };
-      left = left_all life.found life.left answered left.kept left.records;
-    }
-
--- ---- lives
+  pub recorded : IsRecordedIn keeping.changes store begun life told
+  pub left : keeping.stands begun life.left (life.found ++ turn_records (turns_of told))
 
 -- what is told of lives
-pub record TellsAll {S H J : Type 0} (store : H → StoreState) (contents remaining : S → Option (List ℕ)) (begun : List Repository) (before : List Entry) (lives : List (ServerLife S H J)) (left : List Entry) : Type 0 where
+pub record TellsAll {S X : Type 0} (keeping : Keeping X (List Repository)) (store : X → StoreState) (contents remaining : S → Option (List ℕ)) (begun : List Repository) (before : List Entry)
+    (lives : List (ServerLife S X)) (left : List Entry) : Type 0 where
   pub told : List LoggedTurns
   pub received : AllZip (IsReceivedIn contents remaining) lives told
-  pub recorded : AllZip (IsRecordedIn store begun) lives told
-  pub kept : AreResumed before lives told left
+  pub recorded : AllZip (IsRecordedIn keeping.changes store begun) lives told
+  pub kept : AreResumed (keeping.stands begun) before lives told left
   pub turned : AllByRecursion (IsOverHonest store) lives → AreTurnsOnce begun before (all_turns told)
-  pub leaves : left ≡ before ++ turn_records (all_turns told)
+  pub leaves : keeping.stands begun left (before ++ turn_records (all_turns told))
 
-turned_once : {S H J : Type 0} (store : H → StoreState) (begun : List Repository) (life : ServerLife S H J) (told : LoggedTurns) → IsRecordedIn store begun life told → IsOverHonest store life
-    → AreTurnsOnce begun life.found (turns_of told)
-turned_once store begun life told recorded honest =
-    let is = recorded honest in
-    turns_once begun life.found (store life.old.handler.handler) (turns_of told) is.reached honest is.turned
+module _ {S X : Type 0} (keeping : Keeping X (List Repository)) (view : X → HostState) (contents remaining : S → Option (List ℕ)) (begun : List Repository) (keeps : Keeps keeping view begun) where
+  tell : (life : ServerLife S X) → IsServerLife keeping contents remaining begun life → Tells keeping (λ (x : X). store_of (view x)) contents remaining begun life
+  tell life is =
+      let store : X → StoreState = λ x. store_of (view x) in
+      let step : Steps X = Watches (Guards life.rings keeping.step) in
+      let service = is.serves in
+      let before = goes_rounds keeping view begun keeps life.rings life.found service.rounds life.old.handler service.mid (keeps.begins life.old.handler life.found is.begins) service.settles is.sound in
+      let answered : List Turn = before.goes.turns in
+      let front : List Entry = life.found ++ turn_records answered in
+      let over = over_by keeping step service.mid life.new.handler life.result service.ends is.sound_end in
+      let after = goes_all keeping view begun keeps life.rings front before.durable over.served service.mid over.performed before.goes.held over.run in
+      let entries : List Entry = front ++ turn_records after.turns in
+      let few : before.durable ≤ length entries = few_of before.durable front (turn_records after.turns) before.all in
+      let ended = keeps.ends entries before.durable over.performed life.new.handler life.left few after.held over.ends is.leaves in
+      let left = left_behind front after.turns ended.found after.few (subst (λ (n : ℕ). IsLeft n entries ended.found) before.all ended.leaves) in
+      record {
+        told = record { answered = answered; held = left.kept };
+        received = record {
+          those = subst (λ (rounds : List (List Served)). AreThose (map its answered) (served_in rounds)) is.rounds before.goes.those;
+          lost = left.others;
+          held = subst (λ (turns : List Turn). AreThose (map its turns) life.behind) left.parts
+              (subst (AreThose (map its after.turns)) (over_served keeping step service.mid life.new.handler life.result service.ends is.sound_end ∙ is.behind) after.those);
+          keyed = each_append (IsKeyed life.rings) answered (left.kept ++ left.others) before.goes.keyed (subst (AllByRecursion (IsKeyed life.rings)) left.parts after.keyed);
+          watched = each_append IsWatched answered (left.kept ++ left.others) before.goes.watched (subst (AllByRecursion IsWatched) left.parts after.watched);
+          streams = service.streams;
+          gone = service.parted;
+          passes = service.passes;
+          clients = subst (λ (rounds : List (List Served)). AreAllAnswered contents remaining service.streams service.parted (served_in rounds) life.new.links) is.rounds
+              (service.answered [] [] [] is.none (all_kept contents remaining life.old.links is.unlinked));
+        };
+        recorded = λ so.
+            let all : AreTurns keeping.changes begun front (store service.mid) (left.kept ++ left.others) (store life.new.handler) =
+            turns_before keeping.changes keeps.changes_both begun front (store service.mid) (store over.performed) (store life.new.handler) (left.kept ++ left.others)
+            (subst (λ (turns : List Turn). AreTurns keeping.changes begun front (store service.mid) turns (store over.performed)) left.parts (after.turned (before.goes.honesty ∙ so))) ended.changes in
+            record {
+              lost = left.others;
+              turned = turns_joined keeping.changes keeps.changes_both begun life.found (store life.old.handler) (store service.mid) (store life.new.handler) answered left.kept left.others
+                  (before.goes.turned so) all;
+            };
+        left = subst (keeping.stands begun life.left) (left.records ∙ sym (behind life.found answered left.kept)) ended.stands;
+      }
 
-pub tell_all : {S H J : Type 0} (view : H → HostState) (j : journal.Ghosts J) (contents remaining : S → Option (List ℕ))
-    → ((journal : J) (entries : List Entry) (durable : ℕ) (found : List Entry) → j.holds journal entries durable → j.may_leave journal found → IsLeft durable entries found)
-    → (begun : List Repository) (before : List Entry) (lives : List (ServerLife S H J)) (left : List Entry)
-    → AreServerLives (hosting view) j contents remaining begun before lives left
-    → TellsAll (λ (handler : H). store_of (view handler)) contents remaining begun before lives left
-tell_all view j contents remaining law begun before [] left are =
-    record { told = []; received = tt; recorded = tt; kept = are; turned = λ so. tt; leaves = are ∙ sym (append-nil before) }
-tell_all {S} {H} {J} view j contents remaining law begun before (life ∷ lives) left are =
-    let store : H → StoreState = λ handler. store_of (view handler) in
-    let first = tell view j contents remaining law begun life are.1 in
-    let more = tell_all view j contents remaining law begun life.left lives left are.2 in
-    let own : List Turn = turns_of first.told in
-    let others : List Turn = all_turns more.told in
-    let there : life.left ≡ before ++ turn_records own = first.left ∙ ap (λ (es : List Entry). es ++ turn_records own) are.0 in
-    record {
-      told = first.told ∷ more.told;
-      received = (first.received, more.received);
-      recorded = (first.recorded, more.recorded);
-      kept = (are.0, subst (λ (es : List Entry). AreResumed es lives more.told left) there more.kept);
-      turned = λ so. once_append begun before own others
-          (subst (λ (es : List Entry). AreTurnsOnce begun es own) are.0 (turned_once store begun life first.told first.recorded so.0))
-          (subst (λ (es : List Entry). AreTurnsOnce begun es others) there (more.turned so.1));
-      leaves = more.leaves ∙ ap (λ (es : List Entry). es ++ turn_records others) there ∙ sym (behind before own others);
-    }
+  -- ---- lives
+
+  turned_once : (life : ServerLife S X) (told : LoggedTurns) → IsRecordedIn keeping.changes (λ (x : X). store_of (view x)) begun life told → IsOverHonest (λ (x : X). store_of (view x)) life
+      → AreTurnsOnce begun life.found (turns_of told)
+  turned_once life told recorded honest =
+      let is = recorded honest in
+      once_front begun life.found (turns_of told) is.lost
+      (turns_once keeping.changes keeps.honest begun life.found (store_of (view life.old.handler)) (turns_of told ++ is.lost) (store_of (view life.new.handler)) honest is.turned)
+
+  -- those that begin with records that stand for these
+  tell_behind : (before found : List Entry) (lives : List (ServerLife S X)) (left : List Entry) → keeping.stands begun found before → AreServerLives keeping contents remaining begun found lives left
+      → TellsAll keeping (λ (x : X). store_of (view x)) contents remaining begun before lives left
+  tell_behind before found [] left stands are =
+      let same : keeping.stands begun left before = subst (λ (es : List Entry). keeping.stands begun es before) (sym are) stands in
+      record { told = []; received = tt; recorded = tt; kept = same; turned = λ so. tt; leaves = subst (keeping.stands begun left) (sym (append-nil before)) same }
+  tell_behind before found (life ∷ lives) left stands are =
+      let first = tell life are.1 in
+      let own : List Turn = turns_of first.told in
+      let here : keeping.stands begun life.found before = subst (λ (es : List Entry). keeping.stands begun es before) (sym are.0) stands in
+      let there : keeping.stands begun life.left (before ++ turn_records own) =
+      keeps.stands_both life.left (life.found ++ turn_records own) (before ++ turn_records own) first.left (keeps.stands_behind life.found before (turn_records own) here) in
+      let more = tell_behind (before ++ turn_records own) life.left lives left there are.2 in
+      let others : List Turn = all_turns more.told in
+      record {
+        told = first.told ∷ more.told;
+        received = (first.received, more.received);
+        recorded = (first.recorded, more.recorded);
+        kept = (here, more.kept);
+        turned = λ so. once_append begun before own others
+            (once_moved begun life.found before own (keeps.leaves life.found before here) (turned_once life first.told first.recorded so.0)) (more.turned so.1);
+        leaves = subst (keeping.stands begun left) (sym (behind before own others)) more.leaves;
+      }
+
+  pub tell_all : (before : List Entry) (lives : List (ServerLife S X)) (left : List Entry) → AreServerLives keeping contents remaining begun before lives left
+      → TellsAll keeping (λ (x : X). store_of (view x)) contents remaining begun before lives left
+  tell_all before lives left are = tell_behind before before lives left (keeps.stands_self before) are

@@ -16,9 +16,11 @@ use Rattle.oai_host.specs.Performed.{IsPerformed, StoreState}
 use Rattle.oai_host.specs.Tasks.{Task, asking, depositing, refusing, task_of}
 use Rattle.oai_journal.specs.Records.{Entry}
 use Rattle.oai_durable.specs.Records.{redone_all}
+use Rattle.oai_durable.proofs.RecordLemmas.{redone_append}
 use Rattle.oai_headline.specs.Throughout.{IsTrueVisit, IsTrueBy, left_by, calls_done, calls_done_by, calls_done_in, visits_given, with_lines}
 use Rattle.oai_headline.proofs.GivenLemmas.{all_met}
 use Rattle.oai_service.specs.Hosting.{leaving}
+use Rattle.oai_service.specs.Keeping.{stays}
 use Rattle.oai_durable.specs.Lives.{Exchanged}
 use Rattle.oai_service.specs.Turns.{AreTurns, IsTurn, Turn, answers_in, calls_in, its, turn_records, was_performed, was_refused, was_status}
 use Rattle.oai_service.proofs.TurnLemmas.{later_self}
@@ -183,12 +185,33 @@ turn_once before old (was_performed e) after new honest is = (record { old = old
 turn_once before old (was_refused e) after new honest is = (is.0, ap (λ (s : StoreState). s.honest) is.1 ∙ honest)
 turn_once before old (was_status e) after new honest is = (is.0, ap (λ (s : StoreState). s.honest) is.1 ∙ honest)
 
-pub turns_once : (begun : List Repository) (before : List Entry) (old : StoreState) (turns : List Turn) (new : StoreState) → IsTrue old.honest → AreTurns begun before old turns new
+pub honest_still : (old new : StoreState) → stays old new → new.honest ≡ old.honest
+honest_still old new is = ap (λ (s : StoreState). s.honest) is
+
+pub turns_once : (changes : StoreState → StoreState → Type 0) → ((old new : StoreState) → changes old new → new.honest ≡ old.honest)
+    → (begun : List Repository) (before : List Entry) (old : StoreState) (turns : List Turn) (new : StoreState) → IsTrue old.honest → AreTurns changes begun before old turns new
     → AreTurnsOnce begun before turns
-turns_once begun before old [] new honest are = tt
-turns_once begun before old (turn ∷ turns) new honest are =
-    let first = turn_once (redone_all leaving begun before) old turn (redone_all leaving begun (before ++ (its turn).own)) are.0 honest are.1 in
-    (first.0, turns_once begun (before ++ (its turn).own) are.0 turns new first.1 are.2)
+turns_once changes same begun before old [] new honest are = tt
+turns_once changes same begun before old (turn ∷ turns) new honest are =
+    let first = turn_once (redone_all leaving begun before) are.0 turn (redone_all leaving begun (before ++ (its turn).own)) are.2 (same old are.0 are.1 ∙ honest) are.3 in
+    (first.0, turns_once changes same begun (before ++ (its turn).own) are.2 turns new first.1 are.4)
+
+-- the first of them
+pub once_front : (begun : List Repository) (before : List Entry) (turns others : List Turn) → AreTurnsOnce begun before (turns ++ others) → AreTurnsOnce begun before turns
+once_front begun before [] others all = tt
+once_front begun before (turn ∷ turns) others all = (all.0, once_front begun (before ++ (its turn).own) turns others all.1)
+
+-- they are turns behind any other records that leave the same
+pub once_moved : (begun : List Repository) (file before : List Entry) (turns : List Turn) → redone_all leaving begun file ≡ redone_all leaving begun before → AreTurnsOnce begun file turns
+    → AreTurnsOnce begun before turns
+once_moved begun file before [] same all = tt
+once_moved begun file before (turn ∷ turns) same all =
+    let own : List Entry = (its turn).own in
+    let then : redone_all leaving begun (file ++ own) ≡ redone_all leaving begun (before ++ own) =
+    redone_append leaving begun file own ∙ ap (λ (rs : List Repository). redone_all leaving rs own) same ∙ sym (redone_append leaving begun before own) in (
+      subst (λ (rs : List Repository). IsTurnOnce (redone_all leaving begun before) turn rs) then (subst (λ (rs : List Repository). IsTurnOnce rs turn (redone_all leaving begun (file ++ own))) same all.0),
+      once_moved begun (file ++ own) (before ++ own) turns then all.1,
+    )
 
 pub once_append : (begun : List Repository) (before : List Entry) (turns others : List Turn) → AreTurnsOnce begun before turns → AreTurnsOnce begun (before ++ turn_records turns) others
     → AreTurnsOnce begun before (turns ++ others)

@@ -1,5 +1,5 @@
 -- The theorem of a server over all its lives.
-use Rattle.std.proofs.Common.{◌≡◌, ◌∙◌, ◌≤◌, ℕ, suc, List, [], ◌∷◌, map, Option, None, Some, arith, refl, sym, ap, subst}
+use Rattle.std.proofs.Common.{◌≡◌, ◌∙◌, ◌≤◌, ℕ, suc, List, [], ◌∷◌, ◌++◌, map, Option, None, Some, arith, refl, sym, ap, subst}
 use Rattle.std.specs.List.{All, AllByRecursion, AllZip}
 use Rattle.oai_lists.specs.declared.lists.TheConstants.{LAST_NUMBER}
 use Rattle.oai_settings.specs.Config.{RepositoryConfig}
@@ -9,19 +9,19 @@ use Rattle.oai_host.specs.Emptied.{emptied_redone, emptied_restored}
 use Rattle.oai_host.specs.Hosts.{HostState, Repository, begun, store_of}
 use Rattle.oai_host.specs.Performed.{StoreState}
 use Rattle.oai_host.specs.Saved.{emptied_in, ended_at, ended_in}
-use Rattle.oai_journal.specs.Journals.{IsLeft}
 use Rattle.oai_journal.specs.Records.{Entry}
-use Rattle.oai_journal.specs.declared.journals.Journal as journal
 use Rattle.oai_durable.specs.Records.{redone_all}
 use Rattle.oai_durable.proofs.CheckpointLemmas.{checkpoint_left}
 use Rattle.oai_headline.specs.Eras.{AreTrueOver, FollowListsOver, HaveNumbersIn, MissNothingOver, VisitedEra, era_leaves, eras_leave}
 use Rattle.oai_startup.specs.Rules.{HasRules, HaveRules}
 use Rattle.oai_headline.proofs.ClientEraLemmas.{followed_over, harvested_over}
 use Rattle.oai_headline.proofs.EraLemmas.{AreMetEach, true_each}
-use Rattle.oai_service.specs.Hosting.{AreNumbered, hosting, leaving, saving}
+use Rattle.oai_service.specs.Hosting.{AreNumbered, leaving, saving}
+use Rattle.oai_service.specs.Keeping.{Keeping}
 use Rattle.oai_service.specs.Lives.{AreServerEras, BeginsEra, ServerEra}
 use Rattle.oai_service.specs.Service.{AreEndedBetween, AreResumed, AreOverHonest, IsReceivedIn, IsRecordedIn, IsServed, LoggedTurns, all_turns, eras_told, eras_left, own_era, own_eras}
-use Rattle.oai_service.specs.Turns.{answers_in, calls_in}
+use Rattle.oai_service.specs.Turns.{answers_in, calls_in, turn_records}
+use Rattle.oai_service.proofs.KeepingLemmas.{Keeps}
 use Rattle.oai_service.proofs.LifeLemmas.{tell_all}
 use Rattle.oai_service.proofs.OwnLemmas.{IsOwnMet, turns_met}
 
@@ -32,7 +32,7 @@ none_ended : (entries : List NamedConfig) → map begun entries ≡ ended_in 0 (
 none_ended [] = refl
 none_ended (entry ∷ entries) = ap (λ (rs : List Repository). begun entry ∷ rs) (none_ended entries)
 
-begun_emptied : (entries : List NamedConfig) → emptied_in (map begun entries) ≡ map begun entries
+pub begun_emptied : (entries : List NamedConfig) → emptied_in (map begun entries) ≡ map begun entries
 begun_emptied [] = refl
 begun_emptied (entry ∷ entries) = ap (λ (rs : List Repository). begun entry ∷ rs) (begun_emptied entries)
 
@@ -41,7 +41,7 @@ state_before : List NamedConfig → Option (List Entry) → List Repository
 state_before entries None = map begun entries
 state_before entries (Some before) = redone_all leaving (map begun entries) before
 
-era_begun : {S H J : Type 0} (entries : List NamedConfig) (before : Option (List Entry)) (era : ServerEra S H J) → BeginsEra saving (map begun entries) before era
+era_begun : {S X : Type 0} (entries : List NamedConfig) (before : Option (List Entry)) (era : ServerEra S X) → BeginsEra saving (map begun entries) before era
     → redone_all leaving (map begun entries) era.found ≡ ended_in era.raise (state_before entries before)
 unfolding state_before
 era_begun entries None era begins =
@@ -100,24 +100,23 @@ none_over (x ∷ repositories) = (record { name = refl; config = refl; met = tt;
 -- ---- eras
 
 -- what is told of eras
-record TellsEras {S H J : Type 0} (store : H → StoreState) (contents remaining : S → Option (List ℕ)) (begins before : List Repository) (eras : List (ServerEra S H J)) : Type 0 where
+record TellsEras {S X : Type 0} (keeping : Keeping X (List Repository)) (store : X → StoreState) (contents remaining : S → Option (List ℕ)) (begins before : List Repository) (eras : List (ServerEra S X)) : Type 0 where
   pub told : List (List LoggedTurns)
-  pub received : AllZip (λ (era : ServerEra S H J) (t : List LoggedTurns). AllZip (IsReceivedIn contents remaining) era.lives t) eras told
-  pub recorded : AllZip (λ (era : ServerEra S H J) (t : List LoggedTurns). AllZip (IsRecordedIn store begins) era.lives t) eras told
-  pub kept : AllZip (λ (era : ServerEra S H J) (t : List LoggedTurns). AreResumed era.found era.lives t era.left) eras told
+  pub received : AllZip (λ (era : ServerEra S X) (t : List LoggedTurns). AllZip (IsReceivedIn contents remaining) era.lives t) eras told
+  pub recorded : AllZip (λ (era : ServerEra S X) (t : List LoggedTurns). AllZip (IsRecordedIn keeping.changes store begins) era.lives t) eras told
+  pub kept : AllZip (λ (era : ServerEra S X) (t : List LoggedTurns). AreResumed (keeping.stands begins) era.found era.lives t era.left) eras told
   pub ended : AreEndedBetween begins before eras
   pub met : AreOverHonest store eras → AllZip (IsOwnMetOver (eras_told eras told)) before (eras_left begins before eras)
 
-module _ {S H J : Type 0} (view : H → HostState) (j : journal.Ghosts J) (contents remaining : S → Option (List ℕ))
-    (law : (journal : J) (entries : List Entry) (durable : ℕ) (found : List Entry) → j.holds journal entries durable → j.may_leave journal found → IsLeft durable entries found)
-    (entries : List NamedConfig) where
-  tell_eras : (before : Option (List Entry)) (eras : List (ServerEra S H J)) → AreServerEras (hosting view) saving j contents remaining (map begun entries) before eras
-      → AllByRecursion (λ (era : ServerEra S H J). AreNumbered (redone_all leaving (map begun entries) era.found)) eras
-      → TellsEras (λ (handler : H). store_of (view handler)) contents remaining (map begun entries) (state_before entries before) eras
+module _ {S X : Type 0} (keeping : Keeping X (List Repository)) (view : X → HostState) (contents remaining : S → Option (List ℕ)) (entries : List NamedConfig)
+    (keeps : Keeps keeping view (map begun entries)) where
+  tell_eras : (before : Option (List Entry)) (eras : List (ServerEra S X)) → AreServerEras keeping saving contents remaining (map begun entries) before eras
+      → AllByRecursion (λ (era : ServerEra S X). AreNumbered (redone_all leaving (map begun entries) era.found)) eras
+      → TellsEras keeping (λ (x : X). store_of (view x)) contents remaining (map begun entries) (state_before entries before) eras
   unfolding state_before
   tell_eras before [] are numbers = record { told = []; received = tt; recorded = tt; kept = tt; ended = tt; met = λ so. none_over (state_before entries before) }
   tell_eras before (era ∷ eras) are numbers =
-      let all = tell_all view j contents remaining law (map begun entries) era.found era.lives era.left are.1 in
+      let all = tell_all keeping view contents remaining (map begun entries) keeps era.found era.lives era.left are.1 in
       let rest = tell_eras (Some era.left) eras are.2 numbers.1 in
       let starts : redone_all leaving (map begun entries) era.found ≡ ended_in era.raise (state_before entries before) = era_begun entries before era are.0 in
       let turns = all_turns all.told in
@@ -129,8 +128,8 @@ module _ {S H J : Type 0} (view : H → HostState) (j : journal.Ghosts J) (conte
         ended = (starts, rest.ended);
         met = λ so.
             let own = turns_met (map begun entries) era.found turns (all.turned so.0) in
-            let to_left = subst (λ (es : List Entry). AllZip (IsOwnMet (calls_in turns) (answers_in turns)) (redone_all leaving (map begun entries) era.found) (redone_all leaving (map begun entries) es))
-            (sym all.leaves) own in
+            let to_left = subst (λ (rs : List Repository). AllZip (IsOwnMet (calls_in turns) (answers_in turns)) (redone_all leaving (map begun entries) era.found) rs)
+            (sym (keeps.leaves era.left (era.found ++ turn_records turns) all.leaves)) own in
             let from = subst (λ (rs : List Repository). AllZip (IsOwnMet (calls_in turns) (answers_in turns)) rs (redone_all leaving (map begun entries) era.left)) starts to_left in
             each_over (record { raise = era.raise; calls = calls_in turns; answers = answers_in turns }) (eras_told eras rest.told) (state_before entries before)
             (redone_all leaving (map begun entries) era.left) (eras_left (map begun entries) (redone_all leaving (map begun entries) era.left) eras)
@@ -165,16 +164,15 @@ harvested_at eras (entry ∷ entries) [] rules met = absurd met
 harvested_at eras (entry ∷ entries) (y ∷ after) rules met =
     (harvested_over entry.config (own_eras entry.name eras) rules.0.rules rules.0.formats met.0.numbers met.0.met, harvested_at eras entries after rules.1 met.1)
 
-pub served : {S H J : Type 0} (view : H → HostState) (j : journal.Ghosts J) (contents remaining : S → Option (List ℕ))
-    → ((journal : J) (entries : List Entry) (durable : ℕ) (found : List Entry) → j.holds journal entries durable → j.may_leave journal found → IsLeft durable entries found)
-    → (config : HostConfig) (eras : List (ServerEra S H J)) → HaveRules config
-    → AreServerEras (hosting view) saving j contents remaining (map begun config.repositories) None eras
-    → AllByRecursion (λ (era : ServerEra S H J). AreNumbered (redone_all leaving (map begun config.repositories) era.found)) eras
-    → IsServed (λ (handler : H). store_of (view handler)) config contents remaining eras
+pub served : {S X : Type 0} (keeping : Keeping X (List Repository)) (view : X → HostState) (contents remaining : S → Option (List ℕ)) (config : HostConfig)
+    → Keeps keeping view (map begun config.repositories) → (eras : List (ServerEra S X)) → HaveRules config
+    → AreServerEras keeping saving contents remaining (map begun config.repositories) None eras
+    → AllByRecursion (λ (era : ServerEra S X). AreNumbered (redone_all leaving (map begun config.repositories) era.found)) eras
+    → IsServed keeping (λ (x : X). store_of (view x)) config contents remaining eras
 unfolding state_before
-served view j contents remaining law config eras rules are numbers =
+served keeping view contents remaining config keeps eras rules are numbers =
     let entries : List NamedConfig = config.repositories in
-    let all = tell_eras view j contents remaining law entries None eras are numbers in
+    let all = tell_eras keeping view contents remaining entries keeps None eras are numbers in
     let its : List VisitedEra = eras_told eras all.told in
     let left : List Repository = eras_left (map begun entries) (map begun entries) eras in
     let each = each_rules entries rules in

@@ -32,10 +32,11 @@ use Rattle.oai_headline.proofs.WorkedCalls.{carried_a, carried_b, carried_last, 
 use Rattle.oai_headline.proofs.WorkedEraLemmas.{earlier_steps, later_steps, token_ended}
 use Rattle.oai_headline.proofs.WorkedLemmas.{worked_beside, worked_list}
 use Rattle.oai_service.specs.Hosting.{leaving}
+use Rattle.oai_service.specs.Keeping.{stays}
 use Rattle.oai_service.specs.Turns.{AreTurns, Turn, answers_in, calls_in, turn_records}
 use Rattle.oai_service.specs.WorkedLives.{AreOverCheckpoint, AreWorkedTurns, Deed, first_deeds, held_deeds, later_turns, left_a, left_b, second_deeds, third_deeds, turns_at, worked_begun, worked_checkpoint, worked_eras, worked_kept, worked_left}
 use Rattle.oai_service.proofs.MachineLemmas.{names_in, sound_store}
-use Rattle.oai_service.proofs.OwnLemmas.{IsMetAt, IsOwnMet, turns_met, turns_once}
+use Rattle.oai_service.proofs.OwnLemmas.{IsMetAt, IsOwnMet, honest_still, turns_met, turns_once}
 use Rattle.oai_service.proofs.WorkedLemmas.{IsFit, all_fit, are_whole, asked_b, call_of_deed, calls_are, deeds_turned, done_planned, first_fit, held_fit, none_of_deeds, planned, same_a, same_b, second_fit, whole_are, whole_b, with_deeds}
 
 -- ---- what is left of the first repository
@@ -88,9 +89,9 @@ deeds_left : (its : List Deed) → AllByRecursion (IsFit (names_in worked_begun)
     → planned (codes "b") its ≡ own_calls (codes "b") worked_calls → redone_all leaving worked_begun (turn_records (turns_at worked_begun its)) ≡ worked_left
 deeds_left its fits at_a at_b =
     let turns : List Turn = turns_at worked_begun its in
-    let turned : AreTurns worked_begun [] sound_store turns sound_store = deeds_turned worked_begun worked_begun [] its refl fits in
+    let turned : AreTurns stays worked_begun [] sound_store turns sound_store = deeds_turned worked_begun worked_begun [] its refl fits in
     both_left (calls_in turns) (answers_in turns) (redone_all leaving worked_begun (turn_records turns))
-    (turns_met worked_begun [] turns (turns_once worked_begun [] sound_store turns sound_store refl turned))
+    (turns_met worked_begun [] turns (turns_once stays honest_still worked_begun [] sound_store turns sound_store refl turned))
     (ap (left_by worked_config (empty_state worked_config)) (done_planned (codes "a") worked_begun its ∙ at_a) ∙ left_by_a)
     (ap (left_by archive_b (empty_state archive_b)) (done_planned (codes "b") worked_begun its ∙ at_b) ∙ left_by_b)
 
@@ -112,7 +113,7 @@ checkpoint_leaves = refl
 
 -- ---- the turns of both eras
 
-later_turned : AreTurns worked_begun worked_checkpoint sound_store later_turns sound_store
+later_turned : AreTurns stays worked_begun worked_checkpoint sound_store later_turns sound_store
 later_turned = deeds_turned worked_begun worked_kept worked_checkpoint third_deeds checkpoint_leaves third_fit
 
 pub worked_turned : (first : Visit) × (second : Visit) × (last : Visit) × (one : Harvest) × (two : Harvest) × (three : Harvest) × AreWorkedTurns first second last one two three
@@ -140,15 +141,15 @@ met_second calls answers first second (y ∷ z ∷ after) met = record { state =
 
 earlier_met : IsMetOf (calls_in earlier_turns) (answers_in earlier_turns) (empty_state archive_b)
 earlier_met =
-    let turned : AreTurns worked_begun [] sound_store earlier_turns sound_store = deeds_turned worked_begun worked_begun [] (first_deeds ++ held_deeds ++ second_deeds) refl earlier_fit in
+    let turned : AreTurns stays worked_begun [] sound_store earlier_turns sound_store = deeds_turned worked_begun worked_begun [] (first_deeds ++ held_deeds ++ second_deeds) refl earlier_fit in
     met_second (calls_in earlier_turns) (answers_in earlier_turns) (empty_state worked_config) (empty_state archive_b) (redone_all leaving worked_begun (turn_records earlier_turns))
-    (turns_met worked_begun [] earlier_turns (turns_once worked_begun [] sound_store earlier_turns sound_store refl turned))
+    (turns_met worked_begun [] earlier_turns (turns_once stays honest_still worked_begun [] sound_store earlier_turns sound_store refl turned))
 
 later_met : IsMetOf (calls_in later_turns) (answers_in later_turns) (ended 1_000_000 left_b)
 later_met =
     met_second (calls_in later_turns) (answers_in later_turns) (ended 1_000_000 left_a) (ended 1_000_000 left_b) (redone_all leaving worked_begun (worked_checkpoint ++ turn_records later_turns))
     (subst (λ (rs : List Repository). AllZip (IsOwnMet (calls_in later_turns) (answers_in later_turns)) rs (redone_all leaving worked_begun (worked_checkpoint ++ turn_records later_turns))) checkpoint_leaves
-    (turns_met worked_begun worked_checkpoint later_turns (turns_once worked_begun worked_checkpoint sound_store later_turns sound_store refl later_turned)))
+    (turns_met worked_begun worked_checkpoint later_turns (turns_once stays honest_still worked_begun worked_checkpoint sound_store later_turns sound_store refl later_turned)))
 
 -- all its visits are whole
 earlier_whole : whole_visits (visits_given archive_b (empty_state archive_b) (own_calls (codes "b") (calls_in earlier_turns)) (own_answers (codes "b") (calls_in earlier_turns) (answers_in earlier_turns)))

@@ -35,10 +35,11 @@ use Rattle.oai_headline.proofs.GivenLemmas.{asking_whole}
 use Rattle.oai_headline.proofs.TakenLemmas.{IsAsking}
 use Rattle.oai_headline.proofs.WorkedCalls.{last_calls}
 use Rattle.oai_service.specs.Hosting.{leaving}
+use Rattle.oai_service.specs.Keeping.{stays}
 use Rattle.oai_service.specs.Turns.{AreTurns, IsTurn, Turn, answers_in, calls_in, turn_records, was_performed}
 use Rattle.oai_service.specs.WorkedLives.{Deed, done_once, done_whole, entry_of_deed, exchanged_at, first_deeds, held_deeds, second_deeds, turns_at, worked_begun}
 use Rattle.oai_service.proofs.MachineLemmas.{IsOnce, leads_to_one, names_in, names_left, once_exchanged, reply_whole, sound_host, sound_store, whole_exchanged}
-use Rattle.oai_service.proofs.OwnLemmas.{IsMetAt, IsOwnMet, left_whole, other_answer, other_call, own_answer, own_call, turns_met, turns_once}
+use Rattle.oai_service.proofs.OwnLemmas.{IsMetAt, IsOwnMet, honest_still, left_whole, other_answer, other_call, own_answer, own_call, turns_met, turns_once}
 
 -- ---- records, one list behind another
 
@@ -74,7 +75,7 @@ own_entry kept (done_whole entry) = refl
 own_entry kept (done_once call entry) = refl
 
 pub deeds_turned : (begun kept : List Repository) (before : List Entry) (deeds : List Deed) → redone_all leaving begun before ≡ kept → AllByRecursion (IsFit (names_in kept)) deeds
-    → AreTurns begun before sound_store (turns_at kept deeds) sound_store
+    → AreTurns stays begun before sound_store (turns_at kept deeds) sound_store
 deeds_turned begun kept before [] is fit = refl
 deeds_turned begun kept before (deed ∷ deeds) is fit =
     let entry : Entry = entry_of_deed deed in
@@ -86,7 +87,7 @@ deeds_turned begun kept before (deed ∷ deeds) is fit =
     subst (λ (rs : List Repository). IsTurn (redone_all leaving begun before) sound_store (was_performed (exchanged_at kept deed)) rs sound_store) (sym next)
     (subst (λ (rs : List Repository). IsTurn rs sound_store (was_performed (exchanged_at kept deed)) now sound_store) (sym is) (deed_turn kept deed fit.0)) in
     let names : names_in now ≡ names_in kept = names_after kept entry (deed_kind (names_in kept) deed fit.0) in
-    (sound_store, here, deeds_turned begun now (before ++ (exchanged_at kept deed).own) deeds next (subst (λ (ns : List (List ℕ)). AllByRecursion (IsFit ns) deeds) (sym names) fit.1))
+    (sound_store, refl, sound_store, here, deeds_turned begun now (before ++ (exchanged_at kept deed).own) deeds next (subst (λ (ns : List (List ℕ)). AllByRecursion (IsFit ns) deeds) (sym names) fit.1))
 
 -- ---- what is done of them
 
@@ -298,14 +299,14 @@ pub with_deeds : (its : List Deed) (found : List Entry) → redone_all leaving w
     → IsFollowing worked_config (own_visits first_entry worked_calls) all_records first (second ∷ last ∷ [])
     → AreSuccessive archive_b (own_steps second_entry worked_calls) prefix one (two ∷ three ∷ [])
     → (let turns = turns_at worked_begun its in
-    AreTurns worked_begun found sound_store turns sound_store
+    AreTurns stays worked_begun found sound_store turns sound_store
     × IsFollowing worked_config (whole_visits (own_given first_entry (calls_in turns) (answers_in turns))) all_records first (second ∷ last ∷ [])
     × AreSuccessive archive_b (flat_map (steps_of archive_b) (whole_visits (own_given second_entry (calls_in turns) (answers_in turns)))) prefix one (two ∷ three ∷ []))
 with_deeds its found starts fits at_a at_b whole first second last one two three chain successive =
     let turns : List Turn = turns_at worked_begun its in
-    let turned : AreTurns worked_begun found sound_store turns sound_store = deeds_turned worked_begun worked_begun found its starts fits in
+    let turned : AreTurns stays worked_begun found sound_store turns sound_store = deeds_turned worked_begun worked_begun found its starts fits in
     let met = subst (λ (rs : List Repository). AllZip (IsOwnMet (calls_in turns) (answers_in turns)) rs (redone_all leaving worked_begun (found ++ turn_records turns))) starts
-    (turns_met worked_begun found turns (turns_once worked_begun found sound_store turns sound_store refl turned)) in
+    (turns_met worked_begun found turns (turns_once stays honest_still worked_begun found sound_store turns sound_store refl turned)) in
     let both : AreMetBoth (calls_in turns) (answers_in turns) = both_met (calls_in turns) (answers_in turns) (redone_all leaving worked_begun (found ++ turn_records turns)) met in (
       turned,
       following_a (calls_in turns) (answers_in turns) last_calls first second last both.met_a.given (done_planned (codes "a") worked_begun its ∙ at_a) chain,

@@ -18,7 +18,7 @@ use Rattle.oai_front.specs.Performing.{AnsweredMessage, Steps, answers_of, done_
 use Rattle.oai_front.specs.Runs.{Served, Serves, done_on}
 use Rattle.oai_front.specs.declared.stages.Stage.TheVariants.{Reading}
 use Rattle.oai_front.proofs.RunLemmas.{done_join, none_unfinished}
-use Rattle.oai_host.specs.Hosts.{HostState, IsExchanged, Repository, store_of}
+use Rattle.oai_host.specs.Hosts.{HostState, IsExchanged, Repository}
 use Rattle.oai_host.specs.Redone as host
 use Rattle.oai_journal.specs.Records.{Entry}
 use Rattle.oai_serving.specs.Accepted.{known_of}
@@ -34,16 +34,18 @@ use Rattle.oai_durable.specs.Checkpoints.{IsCheckpoint}
 use Rattle.oai_durable.specs.Journaled.{IsExchange, IsHeld, IsSettled, Parts}
 use Rattle.oai_durable.specs.Records.{call_in, left_by_entry, redone_all}
 use Rattle.oai_headline.specs.Worked.{delete_line, deposit_line}
-use Rattle.oai_service.specs.Hosting.{AreNumbered, hosting, leaving, saving}
+use Rattle.oai_service.specs.Hosting.{AreNumbered, hosting, leaving, saving, store_in}
+use Rattle.oai_service.specs.Keeping.{stays}
 use Rattle.oai_service.specs.Lives.{AreServerLives, IsServerLife, ServerLife}
 use Rattle.oai_durable.specs.Served.{AreThose, told_by, TimedAnswer as Answered}
 use Rattle.oai_service.specs.Service.{AreResumed, IsReceivedIn, IsRecordedIn, LoggedTurns, all_turns}
 use Rattle.oai_service.specs.Turns.{AreTurns, IsKeyed, IsWatched, Turn, its, turn_records, was_performed}
-use Rattle.oai_service.specs.WorkedLives.{AreWorkedLives, Deed, HasLeft, IsConnected, Memory, Wire, asked_in, deposited, done_once, done_whole, entry_of_deed, exchanged_at, first_deeds, held_deeds, in_memory, requested, second_deeds, sent_as, sent_for, third_deeds, turns_at, unread_of, worked_begun, worked_checkpoint, worked_kept, worked_left, written_to}
+use Rattle.oai_service.specs.WorkedLives.{AreWorkedLives, Deed, HasLeft, IsConnected, Memory, Wire, asked_in, deposited, done_once, done_whole, entry_of_deed, exchanged_at, first_deeds, held_deeds, in_memory, requested, second_deeds, sent_as, sent_for, third_deeds, turns_at, unread_of, worked_begun, worked_checkpoint, worked_keeping, worked_kept, worked_left, written_to}
 use Rattle.oai_service.proofs.ClientLemmas.{is_sent, message_of, read_all}
+use Rattle.oai_service.proofs.KeepingLemmas.{all_sound}
 use Rattle.oai_service.proofs.LifeLemmas.{long_append}
 use Rattle.oai_service.proofs.MachineLemmas.{names_in, once_exchanged, sound_host, sound_store, whole_exchanged}
-use Rattle.oai_service.proofs.TurnLemmas.{each_append, later_self, records_append}
+use Rattle.oai_service.proofs.TurnLemmas.{each_append, records_append}
 use Rattle.oai_service.proofs.WorkedEraLemmas.{checkpoint_leaves, lives_leave, third_fit}
 use Rattle.oai_service.proofs.WorkedLemmas.{IsFit, all_fit, deed_kind, deeds_turned, first_fit, held_fit, left_call, names_after, own_entry, redone_append, second_fit}
 
@@ -420,7 +422,7 @@ settle_deeds kept entries (deed ∷ deeds) fit =
 -- it finds so many records, and serves deeds in rounds that settle, the end of whose last answer waits; or all was
 -- written, and the client left. It serves others whose answers are held back: a crash leaves the records of the first of
 -- these, and takes those of the others. It asks for no keys
-abbrev life_of : List Repository → List Entry → List Deed → List Deed → List Deed → Bool → ServerLife Wire HostState Memory
+abbrev life_of : List Repository → List Entry → List Deed → List Deed → List Deed → Bool → ServerLife Wire (Parts HostState Memory)
 life_of begun found deeds held lost waits =
     let kept = redone_all leaving begun found in
     let now = redone_all leaving kept (entries_in deeds) in
@@ -455,7 +457,7 @@ held_taken entries held lost =
 
 is_life : (begun : List Repository) (found : List Entry) (deeds held lost : List Deed) (waits : Bool) → AllByRecursion (IsFit (names_in (redone_all leaving begun found))) deeds
     → AllByRecursion (IsFit (names_in (redone_all leaving (redone_all leaving begun found) (entries_in deeds)))) (held ++ lost) → list_all is_sent (asked_all deeds) ≡ true
-    → IsServerLife (hosting (λ (h : HostState). h)) in_memory written_to unread_of begun (life_of begun found deeds held lost waits)
+    → IsServerLife worked_keeping written_to unread_of begun (life_of begun found deeds held lost waits)
 is_life begun found deeds held lost waits fit behind_fit may =
     let kept : List Repository = redone_all leaving begun found in
     let now : List Repository = redone_all leaving kept (entries_in deeds) in
@@ -492,6 +494,8 @@ is_life begun found deeds held lost waits fit behind_fit may =
       };
       rounds = refl;
       behind = refl;
+      sound = all_sound (hosting (λ (h : HostState). h)) in_memory Open (rounds_of kept deeds) (parts_at kept found (length found)) settled (settle_deeds kept found deeds fit);
+      sound_end = tt;
       leaves = record {
         count = length (entries ++ entries_in held);
         enough = long_append entries (entries_in held);
@@ -550,13 +554,14 @@ life_told names begun found deeds held lost waits deeds_fit held_fit lost_fit ma
 life_recorded : (begun : List Repository) (found : List Entry) (deeds held lost : List Deed) (waits : Bool) → AllByRecursion (IsFit (names_in (redone_all leaving begun found))) (deeds ++ held)
     → (let kept = redone_all leaving begun found in
     let now = redone_all leaving kept (entries_in deeds) in
-    IsRecordedIn store_of begun (life_of begun found deeds held lost waits) (record { answered = turns_at kept deeds; held = turns_at now held }))
+    IsRecordedIn stays store_in begun (life_of begun found deeds held lost waits) (record { answered = turns_at kept deeds; held = turns_at now held }))
 life_recorded begun found deeds held lost waits fit = λ so.
     let kept : List Repository = redone_all leaving begun found in
+    let now : List Repository = redone_all leaving kept (entries_in deeds) in
     record {
-      reached = sound_store;
-      turned = subst (λ (ts : List Turn). AreTurns begun found sound_store ts sound_store) (turns_behind kept deeds held) (deeds_turned begun kept found (deeds ++ held) refl fit);
-      later = later_self sound_store;
+      lost = [];
+      turned = subst (λ (ts : List Turn). AreTurns stays begun found sound_store ts sound_store) (turns_behind kept deeds held ∙ sym (append-nil (turns_at kept deeds ++ turns_at now held)))
+          (deeds_turned begun kept found (deeds ++ held) refl fit);
     }
 
 -- an answer begins with the protocol
@@ -657,10 +662,10 @@ two_lives : (begun : List Repository) (found : List Entry) (front held back lost
     let two = life_of begun left back [] [] false in
     let told : List LoggedTurns =
     record { answered = turns_at begun front; held = turns_at now held } ∷ record { answered = turns_at (redone_all leaving now (entries_in held)) back; held = [] } ∷ [] in
-    AreServerLives (hosting (λ (h : HostState). h)) in_memory written_to unread_of begun found (one ∷ two ∷ []) ((left ++ entries_in back) ++ [])
+    AreServerLives worked_keeping written_to unread_of begun found (one ∷ two ∷ []) ((left ++ entries_in back) ++ [])
     × AllZip (IsReceivedIn written_to unread_of) (one ∷ two ∷ []) told
-    × AllZip (IsRecordedIn store_of begun) (one ∷ two ∷ []) told
-    × AreResumed found (one ∷ two ∷ []) told ((left ++ entries_in back) ++ [])
+    × AllZip (IsRecordedIn stays store_in begun) (one ∷ two ∷ []) told
+    × AreResumed (worked_keeping.stands begun) found (one ∷ two ∷ []) told ((left ++ entries_in back) ++ [])
     × (all_turns told ≡ turns_at begun (front ++ (held ++ back))))
 two_lives begun found front held back lost starts front_fit held_fit back_fit lost_fit front_sent back_sent =
     let now : List Repository = redone_all leaving begun (entries_in front) in
@@ -702,10 +707,10 @@ two_lives begun found front held back lost starts front_fit held_fit back_fit lo
         ),
       ),
       (
-        at_begin (λ (xs ys : List Turn). IsRecordedIn store_of begun (life_of begun found front held lost true) (record { answered = xs; held = ys }))
+        at_begin (λ (xs ys : List Turn). IsRecordedIn stays store_in begun (life_of begun found front held lost true) (record { answered = xs; held = ys }))
             (life_recorded begun found front held lost true (fits (redone_all leaving begun found) there (front ++ held) (all_fit (names_in begun) front held front_fit held_fit))),
         (
-          subst (λ (rs : List Repository). IsRecordedIn store_of begun (life_of begun left back [] [] false) (record { answered = turns_at rs back; held = [] })) later
+          subst (λ (rs : List Repository). IsRecordedIn stays store_in begun (life_of begun left back [] [] false) (record { answered = turns_at rs back; held = [] })) later
               (life_recorded begun left back [] [] false
               (subst (AllByRecursion (IsFit (names_in (redone_all leaving begun left)))) (sym (append-nil back)) (fits (redone_all leaving begun left) (ap names_in later ∙ names_then) back back_fit))),
           tt,
@@ -730,10 +735,10 @@ one_life : (begun start : List Repository) (found : List Entry) (deeds : List De
     → (let left = (found ++ entries_in deeds) ++ [] in
     let life = life_of begun found deeds [] [] false in
     let told : List LoggedTurns = record { answered = turns_at start deeds; held = [] } ∷ [] in
-    AreServerLives (hosting (λ (h : HostState). h)) in_memory written_to unread_of begun found (life ∷ []) left
+    AreServerLives worked_keeping written_to unread_of begun found (life ∷ []) left
     × AllZip (IsReceivedIn written_to unread_of) (life ∷ []) told
-    × AllZip (IsRecordedIn store_of begun) (life ∷ []) told
-    × AreResumed found (life ∷ []) told left
+    × AllZip (IsRecordedIn stays store_in begun) (life ∷ []) told
+    × AreResumed (worked_keeping.stands begun) found (life ∷ []) told left
     × (all_turns told ≡ turns_at start deeds))
 one_life begun start found deeds starts fit sent =
     let kept : List Repository = redone_all leaving begun found in
@@ -746,7 +751,7 @@ one_life begun start found deeds starts fit sent =
         tt,
       ),
       (
-        subst (λ (rs : List Repository). IsRecordedIn store_of begun (life_of begun found deeds [] [] false) (record { answered = turns_at rs deeds; held = [] })) starts
+        subst (λ (rs : List Repository). IsRecordedIn stays store_in begun (life_of begun found deeds [] [] false) (record { answered = turns_at rs deeds; held = [] })) starts
             (life_recorded begun found deeds [] [] false (subst (AllByRecursion (IsFit (names_in kept))) (sym (append-nil deeds)) there)),
         tt,
       ),

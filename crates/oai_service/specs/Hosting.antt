@@ -1,16 +1,14 @@
 -- A host as a handler that its journal replays. This repository's own.
-use Rattle.std.specs.Prelude.{◌≤◌, ℕ, ℤ, Bool, List}
+use Rattle.std.specs.Prelude.{◌≤◌, List}
 use Rattle.std.specs.List.{AllByRecursion}
 use Rattle.oai_lists.specs.declared.lists.TheConstants.{LAST_NUMBER}
-use Rattle.oai_http.specs.Exchanges.{Asked}
-use Rattle.oai_replay.specs.Parts.{PartState}
-use Rattle.oai_http.specs.declared.exchanges.Answer.{Answer}
-use Rattle.oai_http.specs.declared.exchanges.Call.{Call}
+use Rattle.oai_durable.specs.Checkpointed.{Checkpointed}
 use Rattle.oai_durable.specs.Checkpoints.{Saving}
-use Rattle.oai_durable.specs.Journaled.{Promised, Replaying}
+use Rattle.oai_durable.specs.Journaled.{Parts, Promised, Replaying}
 use Rattle.oai_durable.specs.Records.{Leaving}
 use Rattle.oai_host.specs.Exchanged.{IsHandled}
-use Rattle.oai_host.specs.Hosts.{HostState, Repository}
+use Rattle.oai_host.specs.Hosts.{HostState, Repository, store_of}
+use Rattle.oai_host.specs.Performed.{StoreState}
 use Rattle.oai_host.specs.Redone.{redone_repositories, reply_all}
 use Rattle.oai_host.specs.Saved.{emptied_in, ended_in, parts_in, restored_in}
 use Rattle.oai_host.specs.Unsaved.{AreSavedBy}
@@ -35,6 +33,14 @@ hosting {H} view = record {
 -- and how it is saved
 abbrev pub saving : Saving (List Repository)
 saving = record { leaving = leaving; reply = reply_all; parts = parts_in; ended = ended_in; emptied = emptied_in }
+
+-- the store of a host whose exchanges are logged in a journal
+abbrev pub store_in : {J : Type 0} → Parts HostState J → StoreState
+store_in parts = store_of parts.handler
+
+-- the same, if checkpoints are written beside them
+abbrev pub store_beside : {J K : Type 0} → Checkpointed HostState J K → StoreState
+store_beside state = store_in state.parts
 
 -- the number of each next list is one of 64 bits
 abbrev pub AreNumbered : List Repository → Type 0

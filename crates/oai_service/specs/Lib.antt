@@ -1,4 +1,6 @@
 pub mod Hosting
+pub mod Keeping
+pub mod Checkpointing
 pub mod Lives
 pub mod Turns
 pub mod Service

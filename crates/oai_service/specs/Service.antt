@@ -8,13 +8,14 @@ use Rattle.oai_serving.specs.Rounds.{served_in}
 use Rattle.oai_serving.specs.Tables.{AreAllAnswered}
 use Rattle.oai_config.specs.Configs.{HostConfig, NamedConfig}
 use Rattle.oai_host.specs.Alone.{own_answers, own_calls}
-use Rattle.oai_host.specs.Hosts.{IsLater, Repository, begun}
+use Rattle.oai_host.specs.Hosts.{Repository, begun}
 use Rattle.oai_host.specs.Performed.{StoreState}
 use Rattle.oai_host.specs.Saved.{ended_in}
 use Rattle.oai_durable.specs.Records.{redone_all}
 use Rattle.oai_durable.specs.Served.{AreThose}
 use Rattle.oai_headline.specs.Eras.{AreTrueOver, FollowListsOver, MissNothingOver, VisitedEra}
 use Rattle.oai_service.specs.Hosting.{leaving}
+use Rattle.oai_service.specs.Keeping.{Keeping}
 use Rattle.oai_service.specs.Lives.{ServerEra, ServerLife}
 use Rattle.oai_service.specs.Turns.{AreTurns, IsKeyed, IsWatched, Turn, answers_in, calls_in, its, turn_records}
 
@@ -35,7 +36,7 @@ all_turns told = flat_map turns_of told
 -- are a prefix of those that were served after them; all of these are as its keys say, and those for figures are
 -- answered with them alone; and each client that was accepted, whether its connection is open at its end or was let go, received a prefix of the answers to those of the
 -- former that it sent, in order
-pub record IsReceivedIn {S H J : Type 0} (contents remaining : S → Option (List ℕ)) (life : ServerLife S H J) (told : LoggedTurns) : Type 0 where
+pub record IsReceivedIn {S X : Type 0} (contents remaining : S → Option (List ℕ)) (life : ServerLife S X) (told : LoggedTurns) : Type 0 where
   pub those : AreThose (map its told.answered) (served_in life.rounds)
   pub lost : List Turn
   pub held : AreThose (map its (told.held ++ lost)) life.behind
@@ -47,32 +48,32 @@ pub record IsReceivedIn {S H J : Type 0} (contents remaining : S → Option (Lis
   pub clients : AreAllAnswered contents remaining streams gone (served_in life.rounds) life.new.links
 
 -- the life is over a store that returns what was written to it
-abbrev pub IsOverHonest : {S H J : Type 0} → (H → StoreState) → ServerLife S H J → Type 0
-IsOverHonest store life = IsTrue (store life.old.handler.handler).honest
+abbrev pub IsOverHonest : {S X : Type 0} → (X → StoreState) → ServerLife S X → Type 0
+IsOverHonest store life = IsTrue (store life.old.handler).honest
 
--- the turns of the life over its store, as it was at the begin, and no later than at the end: so each begins in the
--- state that the replay of the records before it leaves, and its own record leaves what it did; and a fault of the
--- device or of its room has its cause in this life
-pub record AreRecorded {S H J : Type 0} (store : H → StoreState) (begun : List Repository) (life : ServerLife S H J) (told : LoggedTurns) : Type 0 where
-  pub reached : StoreState
-  pub turned : AreTurns begun life.found (store life.old.handler.handler) (turns_of told) reached
-  pub later : IsLater reached (store life.new.handler.handler)
+-- the turns of the life, and others after them whose records are lost, over its store, from the begin to the end: so
+-- each begins in the state that the replay of the records before it leaves, and its own record leaves what it did; and
+-- a fault of the device or of its room has its cause in this life
+pub record AreRecorded {S X : Type 0} (changes : StoreState → StoreState → Type 0) (store : X → StoreState) (begun : List Repository) (life : ServerLife S X) (told : LoggedTurns) : Type 0 where
+  pub lost : List Turn
+  pub turned : AreTurns changes begun life.found (store life.old.handler) (turns_of told ++ lost) (store life.new.handler)
 
 -- if the store is honest
-abbrev pub IsRecordedIn : {S H J : Type 0} → (H → StoreState) → List Repository → ServerLife S H J → LoggedTurns → Type 0
-IsRecordedIn store begun life told = IsOverHonest store life → AreRecorded store begun life told
+abbrev pub IsRecordedIn : {S X : Type 0} → (StoreState → StoreState → Type 0) → (X → StoreState) → List Repository → ServerLife S X → LoggedTurns → Type 0
+IsRecordedIn changes store begun life told = IsOverHonest store life → AreRecorded changes store begun life told
 
--- each life finds exactly the records of the turns of all lives before it, and the last one leaves its own after them
-abbrev pub AreResumed : {S H J : Type 0} → List Entry → List (ServerLife S H J) → List LoggedTurns → List Entry → Type 0
-AreResumed before [] [] left = left ≡ before
-AreResumed before [] (t ∷ told) left = ⊥
-AreResumed before (life ∷ lives) [] left = ⊥
-AreResumed before (life ∷ lives) (t ∷ told) left = (life.found ≡ before) × AreResumed (before ++ turn_records (turns_of t)) lives told left
+-- what each life finds stands for the records of the turns of all lives before it, and what the last one leaves for
+-- these and its own
+abbrev pub AreResumed : {S X : Type 0} → (List Entry → List Entry → Type 0) → List Entry → List (ServerLife S X) → List LoggedTurns → List Entry → Type 0
+AreResumed stands before [] [] left = stands left before
+AreResumed stands before [] (t ∷ told) left = ⊥
+AreResumed stands before (life ∷ lives) [] left = ⊥
+AreResumed stands before (life ∷ lives) (t ∷ told) left = stands life.found before × AreResumed stands (before ++ turn_records (turns_of t)) lives told left
 
 -- ---- eras
 
 -- as a repository has them: by how much the number of its next list was raised, and what was performed
-abbrev pub eras_told : {S H J : Type 0} → List (ServerEra S H J) → List (List LoggedTurns) → List VisitedEra
+abbrev pub eras_told : {S X : Type 0} → List (ServerEra S X) → List (List LoggedTurns) → List VisitedEra
 eras_told [] told = []
 eras_told (era ∷ eras) [] = []
 eras_told (era ∷ eras) (t ∷ told) = record { raise = era.raise; calls = calls_in (all_turns t); answers = answers_in (all_turns t) } ∷ eras_told eras told
@@ -85,38 +86,38 @@ abbrev pub own_eras : List ℕ → List VisitedEra → List VisitedEra
 own_eras name eras = map (own_era name) eras
 
 -- each era begins with what was before it, after all lists ended and the number of each next one was raised
-abbrev pub AreEndedBetween : {S H J : Type 0} → List Repository → List Repository → List (ServerEra S H J) → Type 0
+abbrev pub AreEndedBetween : {S X : Type 0} → List Repository → List Repository → List (ServerEra S X) → Type 0
 AreEndedBetween begun before [] = Unit {0}
 AreEndedBetween begun before (era ∷ eras) =
     (redone_all leaving begun era.found ≡ ended_in era.raise before) × AreEndedBetween begun (redone_all leaving begun era.left) eras
 
 -- what the last of them leaves
-abbrev pub eras_left : {S H J : Type 0} → List Repository → List Repository → List (ServerEra S H J) → List Repository
+abbrev pub eras_left : {S X : Type 0} → List Repository → List Repository → List (ServerEra S X) → List Repository
 eras_left begun before [] = before
 eras_left begun before (era ∷ eras) = eras_left begun (redone_all leaving begun era.left) eras
 
 -- ---- the theorem
 
 -- every life is over a store that returns what was written to it
-abbrev pub AreOverHonest : {S H J : Type 0} → (H → StoreState) → List (ServerEra S H J) → Type 0
-AreOverHonest {S} {H} {J} store eras = AllByRecursion (λ (era : ServerEra S H J). AllByRecursion (IsOverHonest store) era.lives) eras
+abbrev pub AreOverHonest : {S X : Type 0} → (X → StoreState) → List (ServerEra S X) → Type 0
+AreOverHonest {S} {X} store eras = AllByRecursion (λ (era : ServerEra S X). AllByRecursion (IsOverHonest store) era.lives) eras
 
 -- the eras are one history, written as turns. Over whatever stores: `received`: each client that was accepted was sent
 -- a prefix of the answers to the messages that it sent. `kept`: in an era each life begins with the records of all
--- turns before it, those of the answers that were sent among them. `ended`: each era begins with all that was kept
--- before it except the open lists, and may raise the number of the next list. `recorded`: in a life over an honest store a
--- turn did what the replay of its own record does, after the records before it. If all stores are honest: `answered`:
--- at each repository each answer without a fault is the machine's after what was performed before it, in whichever
--- life, and after the checkpoints, and one with a fault did what its number of lines says, or nothing. `followed`: if visits without a fault
--- follow a list by its unexpired tokens within an era, their pages, joined, are the records selected at the first of
--- them; a token of an earlier era is refused, and no number of a list is given twice, in whichever eras. `harvested`:
--- harvests miss nothing, in whichever eras they are made
-pub record IsServed {S H J : Type 0} (store : H → StoreState) (config : HostConfig) (contents remaining : S → Option (List ℕ)) (eras : List (ServerEra S H J)) : Type 0 where
+-- turns before it, those of the answers that were sent among them, or with what stands for them. `ended`: each era
+-- begins with all that was kept before it except the open lists, and may raise the number of the next list. `recorded`:
+-- in a life over an honest store a turn did what the replay of its own record does, after the records before it. If all
+-- stores are honest: `answered`: at each repository each answer without a fault is the machine's after what was
+-- performed before it, in whichever life, and after the checkpoints, and one with a fault did what its number of lines
+-- says, or nothing. `followed`: if visits without a fault follow a list by its unexpired tokens within an era, their
+-- pages, joined, are the records selected at the first of them; a token of an earlier era is refused, and no number of
+-- a list is given twice, in whichever eras. `harvested`: harvests miss nothing, in whichever eras they are made
+pub record IsServed {S X : Type 0} (keeping : Keeping X (List Repository)) (store : X → StoreState) (config : HostConfig) (contents remaining : S → Option (List ℕ)) (eras : List (ServerEra S X)) : Type 0 where
   pub told : List (List LoggedTurns)
-  pub received : AllZip (λ (era : ServerEra S H J) (t : List LoggedTurns). AllZip (IsReceivedIn contents remaining) era.lives t) eras told
-  pub kept : AllZip (λ (era : ServerEra S H J) (t : List LoggedTurns). AreResumed era.found era.lives t era.left) eras told
+  pub received : AllZip (λ (era : ServerEra S X) (t : List LoggedTurns). AllZip (IsReceivedIn contents remaining) era.lives t) eras told
+  pub kept : AllZip (λ (era : ServerEra S X) (t : List LoggedTurns). AreResumed (keeping.stands (map begun config.repositories)) era.found era.lives t era.left) eras told
   pub ended : AreEndedBetween (map begun config.repositories) (map begun config.repositories) eras
-  pub recorded : AllZip (λ (era : ServerEra S H J) (t : List LoggedTurns). AllZip (IsRecordedIn store (map begun config.repositories)) era.lives t) eras told
+  pub recorded : AllZip (λ (era : ServerEra S X) (t : List LoggedTurns). AllZip (IsRecordedIn keeping.changes store (map begun config.repositories)) era.lives t) eras told
   pub answered : AreOverHonest store eras
       → AllZip (λ (entry : NamedConfig) (repository : Repository). AreTrueOver entry.config (own_eras entry.name (eras_told eras told)) repository.state)
       config.repositories (eras_left (map begun config.repositories) (map begun config.repositories) eras)

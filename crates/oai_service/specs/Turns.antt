@@ -73,12 +73,14 @@ IsWatched (was_performed e) = is_status e.asked.target ≡ false
 IsWatched (was_refused e) = is_status e.asked.target ≡ false
 IsWatched (was_status e) = IsTrue (is_status e.asked.target) × IsStatusAnswer e.asked.method e.answer × (e.own ≡ [])
 
--- turns over one store, from one of its states to another, the first after these records, and each other one after
--- those of the one before it: each begins in the state that the replay of the records before it leaves, and ends in the
--- one that these and its own leave
-abbrev pub AreTurns : List Repository → List Entry → StoreState → List Turn → StoreState → Type 0
-AreTurns begun before old [] new = new ≡ old
-AreTurns begun before old (turn ∷ turns) new =
-    (between : StoreState)
-    × IsTurn (redone_all leaving begun before) old turn (redone_all leaving begun (before ++ (its turn).own)) between
-    × AreTurns begun (before ++ (its turn).own) between turns new
+-- turns over one store, which between them changes at most so, from one of its states to another, the first after these
+-- records, and each other one after those of the one before it: each begins in the state that the replay of the records
+-- before it leaves, and ends in the one that these and its own leave
+abbrev pub AreTurns : (StoreState → StoreState → Type 0) → List Repository → List Entry → StoreState → List Turn → StoreState → Type 0
+AreTurns changes begun before old [] new = changes old new
+AreTurns changes begun before old (turn ∷ turns) new =
+    (started : StoreState)
+    × changes old started
+    × (between : StoreState)
+    × IsTurn (redone_all leaving begun before) started turn (redone_all leaving begun (before ++ (its turn).own)) between
+    × AreTurns changes begun (before ++ (its turn).own) between turns new

@@ -22,7 +22,7 @@ use Rattle.oai_serving.specs.Accepted.{known_of}
 use Rattle.oai_serving.specs.Links.{Link}
 use Rattle.oai_serving.specs.Rounds.{served_in}
 use Rattle.oai_serving.specs.Tables.{IsNumbered}
-use Rattle.oai_host.specs.Hosts.{HostState, Repository, begun, store_of}
+use Rattle.oai_host.specs.Hosts.{HostState, Repository, begun}
 use Rattle.oai_host.specs.Performed.{StoreState}
 use Rattle.oai_host.specs.Redone.{reply_all}
 use Rattle.oai_host.specs.Saved.{ended_in, parts_in}
@@ -31,6 +31,7 @@ use Rattle.oai_journal.specs.Records.{Entry}
 use Rattle.oai_journal.specs.declared.journals.Journal as journal
 use Rattle.oai_journal.specs.declared.records.Kind.TheVariants as kind
 use Rattle.oai_durable.specs.Checkpoints.{records_of_parts}
+use Rattle.oai_durable.specs.Journaled.{Parts}
 use Rattle.oai_durable.specs.Lives.{Exchanged}
 use Rattle.oai_durable.specs.Records.{call_in, left_by_entry, redone_all}
 use Rattle.oai_headline.specs.Chains.{IsFollowing}
@@ -38,7 +39,8 @@ use Rattle.oai_headline.specs.Eras.{VisitedEra, steps_within, visits_within}
 use Rattle.oai_headline.specs.Throughout.{own_given, whole_visits}
 use Rattle.oai_headline.specs.Visits.{Visit, steps_of}
 use Rattle.oai_headline.specs.Worked.{IsTokenEnded, delete_line, deposit_line, first_entry, post, second_entry, worked_host}
-use Rattle.oai_service.specs.Hosting.{AreNumbered, hosting, leaving, saving}
+use Rattle.oai_service.specs.Hosting.{AreNumbered, hosting, leaving, saving, store_in}
+use Rattle.oai_service.specs.Keeping.{Keeping, journaling, stays}
 use Rattle.oai_service.specs.Lives.{AreServerEras, ServerEra, ServerLife}
 use Rattle.oai_service.specs.Service.{AreOverHonest, AreResumed, IsReceivedIn, IsRecordedIn, LoggedTurns, all_turns, own_era}
 use Rattle.oai_service.specs.Turns.{AreTurns, Turn, answers_in, calls_in, was_performed}
@@ -215,8 +217,8 @@ worked_given_b = whole_visits (own_given second_entry (calls_in worked_turns) (a
 pub record AreWorkedTurns (first second last : Visit) (one two three : Harvest) : Type 0 where
   pub store : StoreState
   pub honest : IsTrue store.honest
-  pub turned : AreTurns worked_begun [] store worked_turns store
-  pub later : AreTurns worked_begun worked_checkpoint store later_turns store
+  pub turned : AreTurns stays worked_begun [] store worked_turns store
+  pub later : AreTurns stays worked_begun worked_checkpoint store later_turns store
   pub following : IsFollowing worked_config worked_given_a all_records first (second ∷ last ∷ [])
   pub successive : AreSuccessive archive_b (flat_map (steps_of archive_b) worked_given_b) prefix one (two ∷ three ∷ [])
 
@@ -255,6 +257,10 @@ in_memory = record {
   is_clean = λ journal. true;
 }
 
+-- what the theorem says of a host whose exchanges are logged in it
+abbrev pub worked_keeping : Keeping (Parts HostState Memory) (List Repository)
+worked_keeping = journaling (hosting (λ (host : HostState). host)) in_memory
+
 -- ---- clients
 
 -- the stream of a client: what was written to it, and what remains to be read of what the client sends
@@ -278,7 +284,7 @@ sent_for done = sent_as done.message.asked
 
 -- at the end of the life a client is connected. It sent the messages that were served in the rounds that settled, and a
 -- prefix of their answers, which is not empty, was written to it. The rest of these waits
-pub record IsConnected (life : ServerLife Wire HostState Memory) : Type 0 where
+pub record IsConnected (life : ServerLife Wire (Parts HostState Memory)) : Type 0 where
   pub key : ℕ
   pub link : Link Wire
   pub stands : get life.new.links key ≡ Some link
@@ -294,7 +300,7 @@ pub record IsConnected (life : ServerLife Wire HostState Memory) : Type 0 where
 
 -- a client left before the end of the life. It sent the messages that were served in the rounds that settled, all of
 -- their answers were written to it, and then its stream was let go
-pub record HasLeft (life : ServerLife Wire HostState Memory) : Type 0 where
+pub record HasLeft (life : ServerLife Wire (Parts HostState Memory)) : Type 0 where
   pub streams : List Wire
   pub gone : List (ℕ × Wire)
   pub known : life.known ≡ known_of (Some []) (Some [])
@@ -315,23 +321,23 @@ pub record HasLeft (life : ServerLife Wire HostState Memory) : Type 0 where
 -- answers to its messages waits; and a crash leaves the records of messages whose answers were held back. In the second
 -- one a client left after it was sent all of its answers. At the checkpoint a list is open at each repository
 pub record AreWorkedLives : Type 0 where
-  pub first : ServerEra Wire HostState Memory
-  pub before : ServerLife Wire HostState Memory
-  pub last : ServerLife Wire HostState Memory
+  pub first : ServerEra Wire (Parts HostState Memory)
+  pub before : ServerLife Wire (Parts HostState Memory)
+  pub last : ServerLife Wire (Parts HostState Memory)
   pub two : first.lives ≡ before ∷ last ∷ []
-  pub second : ServerEra Wire HostState Memory
+  pub second : ServerEra Wire (Parts HostState Memory)
   pub one : length second.lives ≡ 1
-  pub are : AreServerEras (hosting (λ (host : HostState). host)) saving in_memory written_to unread_of worked_begun None (first ∷ second ∷ [])
-  pub honest : AreOverHonest store_of (first ∷ second ∷ [])
-  pub numbers : AllByRecursion (λ (era : ServerEra Wire HostState Memory). AreNumbered (redone_all leaving worked_begun era.found)) (first ∷ second ∷ [])
+  pub are : AreServerEras worked_keeping saving written_to unread_of worked_begun None (first ∷ second ∷ [])
+  pub honest : AreOverHonest store_in (first ∷ second ∷ [])
+  pub numbers : AllByRecursion (λ (era : ServerEra Wire (Parts HostState Memory)). AreNumbered (redone_all leaving worked_begun era.found)) (first ∷ second ∷ [])
   pub raised : second.raise ≡ 1_000_000
   pub ended : redone_all leaving worked_begun first.left ≡ worked_left
   pub told : List (List LoggedTurns)
-  pub received : AllZip (λ (era : ServerEra Wire HostState Memory) (t : List LoggedTurns). AllZip (IsReceivedIn written_to unread_of) era.lives t)
+  pub received : AllZip (λ (era : ServerEra Wire (Parts HostState Memory)) (t : List LoggedTurns). AllZip (IsReceivedIn written_to unread_of) era.lives t)
       (first ∷ second ∷ []) told
-  pub recorded : AllZip (λ (era : ServerEra Wire HostState Memory) (t : List LoggedTurns). AllZip (IsRecordedIn store_of worked_begun) era.lives t)
+  pub recorded : AllZip (λ (era : ServerEra Wire (Parts HostState Memory)) (t : List LoggedTurns). AllZip (IsRecordedIn stays store_in worked_begun) era.lives t)
       (first ∷ second ∷ []) told
-  pub kept : AllZip (λ (era : ServerEra Wire HostState Memory) (t : List LoggedTurns). AreResumed era.found era.lives t era.left) (first ∷ second ∷ []) told
+  pub kept : AllZip (λ (era : ServerEra Wire (Parts HostState Memory)) (t : List LoggedTurns). AreResumed (worked_keeping.stands worked_begun) era.found era.lives t era.left) (first ∷ second ∷ []) told
   pub turns : map all_turns told ≡ worked_turns ∷ later_turns ∷ []
   pub survive : flat_map (λ (t : List LoggedTurns). flat_map (λ (life : LoggedTurns). life.held) t) told ≢ []
   pub connected : IsConnected before

@@ -5,22 +5,28 @@ ghost use Rattle.std.specs.List.{AllByRecursion};
 ghost use Rattle.oai_config.specs.Configs.{HostConfig};
 ghost use Rattle.oai_startup.specs.Rules.{HaveRules};
 ghost use Rattle.oai_headline.specs.Visits.{Visit};
-ghost use Rattle.oai_host.specs.Hosts.{HostState, begun, store_of};
+ghost use Rattle.oai_host.specs.Hosts.{HostState, Repository, begun};
 ghost use Rattle.oai_laws.specs.Harvests.{Harvest};
-ghost use Rattle.oai_durable.specs.Journaled.{promised};
+ghost use Rattle.oai_durable.specs.Checkpointed.{Checkpointed as Beside};
+ghost use Rattle.oai_durable.specs.Journaled.{Parts, promised};
 ghost use Rattle.oai_durable.specs.Records.{redone_all};
+ghost use Rattle.oai_durable.specs.declared.either.EitherJournal.{EitherJournal as Either};
+ghost use Rattle.oai_durable.specs.declared.either.EitherJournal.TheVariants.{Second};
 ghost use Rattle.oai_journal.specs.Kept.{MayLeaveRecords, disk_in};
 ghost use Rattle.oai_journal.specs.Records.{Entry};
 ghost use Rattle.oai_journal.specs.declared.file.FileJournal.{FileJournal};
 ghost use Rattle.sqlite_disk.specs.Fuse.{inner_of};
 ghost use Rattle.sqlite_disk.specs.declared.fuse.Fuse.{Fuse};
-ghost use Rattle.oai_service.specs.Hosting.{AreNumbered, hosting, leaving, promised_saving, saving};
+ghost use Rattle.oai_service.specs.Hosting.{AreNumbered, hosting, leaving, promised_saving, saving, store_beside, store_in};
+ghost use Rattle.oai_service.specs.Checkpointing.{checkpointing};
+ghost use Rattle.oai_service.specs.Keeping.{Keeping, journaling};
 ghost use Rattle.oai_service.specs.Lives.{AreServerEras, ServerEra};
 ghost use Rattle.oai_service.specs.Service.{IsServed};
 ghost use Rattle.oai_service.specs.WorkedLives.{AreOverCheckpoint, AreWorkedLives, AreWorkedTurns};
 
 use oai_catalogue::Versions;
 use oai_device::PageDevice;
+use oai_durable::EitherJournal;
 use oai_host::Host;
 use oai_journal::{FileJournal, Journal};
 use oai_paged::PagedVersions;
@@ -52,22 +58,38 @@ use sqlite_disk::{Disk, Fuse};
 /// configuration satisfies its rules, and the first life begins with no record. The lives between two checkpoints are an era; a checkpoint raises no number of a list beyond 64 bits. The
 /// function is empty.
 pub fn service_law<S: Stream, V: Versions + Drop, J: Journal>()
-    ensures { (config : HostConfig) (eras : List (ServerEra S HostState J)) → HaveRules config
-        → AreServerEras (promised ⟦<Host<V> as Replayed>⟧) (promised_saving ⟦<Host<V> as Replayed>⟧)
-        J.Journal S.contents S.remaining (map begun config.repositories) None eras
-        → AllByRecursion (λ (era : ServerEra S HostState J). AreNumbered (redone_all leaving (map begun config.repositories) era.found)) eras
-        → IsServed store_of config S.contents S.remaining eras }
+    ensures { (config : HostConfig) (eras : List (ServerEra S (Parts HostState J))) → HaveRules config
+        → AreServerEras (journaling (promised ⟦<Host<V> as Replayed>⟧) J.Journal) (promised_saving ⟦<Host<V> as Replayed>⟧)
+        S.contents S.remaining (map begun config.repositories) None eras
+        → AllByRecursion (λ (era : ServerEra S (Parts HostState J)). AreNumbered (redone_all leaving (map begun config.repositories) era.found)) eras
+        → IsServed (journaling (promised ⟦<Host<V> as Replayed>⟧) J.Journal) store_in config S.contents S.remaining eras }
 {}
 
 /// The same at the types that the program runs: the store is the one of pages over a device, and the journal a file.
 /// The function is empty.
 pub fn service_on_files_law<S: Stream, P: PageDevice, D: Disk + Drop>()
-    ensures { (config : HostConfig) (eras : List (ServerEra S HostState _)) → HaveRules config
-        → AreServerEras (promised ⟦<Host<PagedVersions<P>> as Replayed>⟧)
+    ensures { (config : HostConfig) (eras : List (ServerEra S (Parts HostState _))) → HaveRules config
+        → AreServerEras (journaling (promised ⟦<Host<PagedVersions<P>> as Replayed>⟧) ⟦<FileJournal<D> as Journal>⟧)
         (promised_saving ⟦<Host<PagedVersions<P>> as Replayed>⟧)
-        ⟦<FileJournal<D> as Journal>⟧ S.contents S.remaining (map begun config.repositories) None eras
-        → AllByRecursion (λ (era : ServerEra S HostState _). AreNumbered (redone_all leaving (map begun config.repositories) era.found)) eras
-        → IsServed store_of config S.contents S.remaining eras }
+        S.contents S.remaining (map begun config.repositories) None eras
+        → AllByRecursion (λ (era : ServerEra S (Parts HostState _)). AreNumbered (redone_all leaving (map begun config.repositories) era.found)) eras
+        → IsServed (journaling (promised ⟦<Host<PagedVersions<P>> as Replayed>⟧) ⟦<FileJournal<D> as Journal>⟧) store_in config S.contents S.remaining eras }
+{}
+
+/// The same of a server beside whose exchanges checkpoints are written: behind each commit a step of one may be made, and
+/// a whole one takes the place of the journal, which may then be of another kind. No list ends at it, so that lives with
+/// any number of them are one era. Provided that what a step read, of the store and of the journal, is what their disks
+/// have, in each step that wrote on at a checkpoint, or put one in the place of the journal (`IsSettlingSound`), all that
+/// is said of the records of a life holds of records for which those of its file stand: they leave the same state. A step
+/// may fail in the store, so that the count of its faults may rise between two messages. A crash that comes while the
+/// folder of the journals is not synced may leave either of them. The function is empty.
+pub fn online_service_law<S: Stream, V: Versions + Drop, J: Journal, K: Journal>()
+    ensures { (let keeping : Keeping (Beside HostState (Either J K) K) (List Repository) =
+        checkpointing (promised ⟦<Host<V> as Replayed>⟧) ⟦<EitherJournal<J, K> as Journal>⟧ K.Journal ⟦<Host<V> as Replayed>⟧.emptied Second in
+        (config : HostConfig) (eras : List (ServerEra S (Beside HostState (Either J K) K))) → HaveRules config
+        → AreServerEras keeping (promised_saving ⟦<Host<V> as Replayed>⟧) S.contents S.remaining (map begun config.repositories) None eras
+        → AllByRecursion (λ (era : ServerEra S (Beside HostState (Either J K) K)). AreNumbered (redone_all leaving (map begun config.repositories) era.found)) eras
+        → IsServed keeping store_beside config S.contents S.remaining eras) }
 {}
 
 /// A kill within a call of the journal is an instance of the theorem. `Fuse` passes the first calls on to its disk, any
@@ -80,12 +102,12 @@ pub fn killed_law<S: Stream, D: Disk + Drop>()
     ensures left { (journal : FileJournal (Fuse D)) (found : List Entry)
         → MayLeaveRecords D.may_leave (inner_of (disk_in journal)) found
         → ⟦<FileJournal<Fuse<D>> as Journal>⟧.may_leave journal found }
-    ensures served { (config : HostConfig) (eras : List (ServerEra S HostState (FileJournal (Fuse D))))
+    ensures served { (config : HostConfig) (eras : List (ServerEra S (Parts HostState (FileJournal (Fuse D)))))
         → HaveRules config
-        → AreServerEras (hosting (λ (host : HostState). host)) saving ⟦<FileJournal<Fuse<D>> as Journal>⟧
+        → AreServerEras (journaling (hosting (λ (host : HostState). host)) ⟦<FileJournal<Fuse<D>> as Journal>⟧) saving
         S.contents S.remaining (map begun config.repositories) None eras
-        → AllByRecursion (λ (era : ServerEra S HostState _). AreNumbered (redone_all leaving (map begun config.repositories) era.found)) eras
-        → IsServed store_of config S.contents S.remaining eras }
+        → AllByRecursion (λ (era : ServerEra S (Parts HostState _)). AreNumbered (redone_all leaving (map begun config.repositories) era.found)) eras
+        → IsServed (journaling (hosting (λ (host : HostState). host)) ⟦<FileJournal<Fuse<D>> as Journal>⟧) store_in config S.contents S.remaining eras }
 {}
 
 /// The premises of the theorem can be met: three lives of a server of two repositories, two before a checkpoint and one

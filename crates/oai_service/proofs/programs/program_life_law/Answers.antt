@@ -10,12 +10,22 @@ known_bytes None read first found nothing whole = nothing
 known_bytes (Some file) read first found same whole = subst (λ (bytes : List ℕ). IsUndamaged bytes first found) same whole
 
 pub returns : goal.returns
-returns g c = λ held text rings origin later result new lived left clean leaves.
+returns g c = λ held text rings origin later result new lived left clean sound sound_end leaves.
     let begins = lived.begins clean in (
       lived.rules,
       begins.first,
       begins.found,
       known_bytes held _ begins.first begins.found lived.file begins.all,
       begins.fresh,
-      record { begins = begins.held; unlinked = lived.unlinked; none = lived.none; serves = lived.serves; rounds = refl; behind = refl; leaves = leaves },
+      record {
+        begins = (begins.held, begins.writing, begins.unsynced);
+        unlinked = lived.unlinked;
+        none = lived.none;
+        serves = lived.serves;
+        rounds = refl;
+        behind = refl;
+        sound = sound;
+        sound_end = sound_end;
+        leaves = leaves;
+      },
     )
