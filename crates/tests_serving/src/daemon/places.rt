@@ -6,7 +6,9 @@ ghost use Rattle.std.specs.Prelude.{IsTrue};
 use oai_archive::ServerStop;
 use oai_daemon::{Ended, serve};
 use oai_device::MemoryDevice;
-use oai_journal::{FileJournal, Journal, Kind, LogRecord, MAX_BODY, Recovery};
+use oai_durable::{CheckpointFault, CheckpointNote, Folder, Replacement};
+use oai_item::Forms;
+use oai_journal::{FileJournal, Journal, JournalFault, Kind, LogRecord, MAX_BODY, Recovery};
 use oai_names::Sequence;
 use oai_recovery::{Notice, Place};
 use oai_serving::{Readiness, Sockets, Stream};
@@ -43,34 +45,37 @@ pub(crate) fn served<C: Clock>(
 }
 
 /// What the client of that place received of a service of the configuration in the text, with no keys.
-pub(crate) fn received<C: Clock>(
-    place: &mut MemoryPlace,
+pub(crate) fn received<P: Place<Port = Quiet>, C: Clock>(
+    alloc: Global,
+    place: &mut P,
     clock: &C,
     text: &[u8],
 ) -> Result<Vec<u8>, ServerStop> {
-    let alloc = place.alloc();
     let rings = Sequence::new(Vec::new(alloc));
     received_of(serve(alloc, place, clock, written_in(alloc, text)?, rings))
 }
 
+/// A copy of the bytes.
+pub(crate) fn copy_of(alloc: Global, bytes: &[u8]) -> Result<Vec<u8>, ServerStop> {
+    let mut copy = Vec::new(alloc);
+    copy.extend_from_slice(bytes)?;
+    Ok(copy)
+}
+
 /// The configuration in the text.
 fn written_in(alloc: Global, text: &[u8]) -> Result<WrittenConfig, ServerStop> {
-    let mut copy = Vec::new(alloc);
-    if copy.extend_from_slice(text).is_err() {
-        return Err(ServerStop::Common(Stop::NoMemory));
-    }
-    match WrittenConfig::read(alloc, copy) {
+    match WrittenConfig::read(alloc, copy_of(alloc, text)?) {
         Ok(written) => Ok(written),
         Err((stop, _)) => Err(ServerStop::Common(stop)),
     }
 }
 
 /// What the client received of that service, or why it did not begin.
-fn received_of<S: Drop, K: OneClient + Drop, H: Drop>(
-    ended: Result<Ended<S, K, H>, ServerStop>,
+fn received_of<S: Drop, H: Drop>(
+    ended: Result<Ended<S, Quiet, H>, ServerStop>,
 ) -> Result<Vec<u8>, ServerStop> {
     match ended {
-        Ok(ended) => Ok(ended.port.into_received()),
+        Ok(ended) => Ok(ended.port.received),
         Err(stop) => Err(stop),
     }
 }
@@ -267,18 +272,19 @@ impl Place for MemoryPlace {
 
     type Port = Quiet;
 
+    type Folder = NoFolder;
+
     fn lock(&mut self) -> Result<(), ServerStop> {
         self.call("lock")
     }
 
     fn listen(&mut self) -> Result<Quiet, ServerStop> {
         self.call("listen")?;
-        Ok(Quiet {
-            alloc: self.alloc,
-            rounds: self.rounds,
-            sends: self.sends,
-            received: Vec::new(self.alloc),
-        })
+        let sends = match self.sends {
+            Some(sends) => Some(copy_of(self.alloc, sends)?),
+            None => None,
+        };
+        Ok(Quiet::new(self.alloc, self.rounds, sends, usize::MAX))
     }
 
     fn find_journal(&mut self) -> Result<bool, ServerStop> {
@@ -340,6 +346,32 @@ impl Place for MemoryPlace {
         self.figures.clear();
         drop(self.figures.push_str(line));
     }
+
+    fn folder(&mut self, _text: Vec<u8>, _forms: Forms) -> Result<NoFolder, ServerStop> {
+        Ok(NoFolder)
+    }
+}
+
+/// A folder in which no checkpoint is written.
+#[derive(Drop)]
+pub(crate) struct NoFolder;
+
+impl<K: Journal> Folder<K> for NoFolder {
+    fn max_tail(&self) -> Option<usize> {
+        None
+    }
+
+    fn begin(&mut self, _moment: i64) -> Result<K, CheckpointFault> {
+        Err(CheckpointFault::Journal(JournalFault::Failed))
+    }
+
+    fn replace(&mut self) -> Replacement {
+        Replacement::Refused
+    }
+
+    fn discard(&mut self) {}
+
+    fn tell(&mut self, _note: CheckpointNote) {}
 }
 
 /// A port at which one client comes, or nobody, and that can be waited for so often. Each wait reports that the client's
@@ -348,20 +380,22 @@ impl Place for MemoryPlace {
 pub(crate) struct Quiet {
     alloc: Global,
     rounds: u32,
-    sends: Option<&'static [u8]>,
+    sends: Option<Vec<u8>>,
+    most: usize,
     /// What was written to the client, once its connection is over.
     received: Vec<u8>,
 }
 
-/// A port at which one client comes at most.
-trait OneClient {
-    /// What the client received, once its connection is over.
-    fn into_received(self) -> Vec<u8>;
-}
-
-impl OneClient for Quiet {
-    fn into_received(self) -> Vec<u8> {
-        self.received
+impl Quiet {
+    /// It can be waited for so often, and the client sends that, so many bytes in a round at most.
+    pub(crate) fn new(alloc: Global, rounds: u32, sends: Option<Vec<u8>>, most: usize) -> Quiet {
+        Quiet {
+            alloc,
+            rounds,
+            sends,
+            most,
+            received: Vec::new(alloc),
+        }
     }
 }
 
@@ -386,7 +420,12 @@ impl Sockets<Talk> for Quiet {
     fn accept(&mut self) -> io::Result<Option<Talk>> {
         let written = Vec::new(self.alloc);
         match self.sends.take() {
-            Some(unread) => Ok(Some(Talk { unread, written })),
+            Some(sent) => Ok(Some(Talk {
+                sent,
+                most: self.most,
+                at: 0,
+                written,
+            })),
             None => Ok(None),
         }
     }
@@ -400,18 +439,24 @@ impl Sockets<Talk> for Quiet {
     }
 }
 
-/// The stream of a client that sends its bytes at once, ends its side, and takes all.
+/// The stream of a client that sends its bytes, ends its side, and takes all.
 #[derive(Drop)]
 pub(crate) struct Talk {
-    unread: &'static [u8],
+    sent: Vec<u8>,
+    /// The most bytes of a read, at least 1.
+    most: usize,
+    at: usize,
     written: Vec<u8>,
 }
 
 impl Stream for Talk {
     fn read(&mut self, buffer: &mut [u8]) -> io::Result<usize> {
-        let count = self.unread.len().min(buffer.len());
-        buffer[..count].copy_from_slice(&self.unread[..count]);
-        self.unread = &self.unread[count..];
+        let Some(unread) = self.sent.get(self.at..) else {
+            return Ok(0);
+        };
+        let count = unread.len().min(buffer.len()).min(self.most);
+        buffer[..count].copy_from_slice(&unread[..count]);
+        self.at = self.at.saturating_add(count);
         Ok(count)
     }
 

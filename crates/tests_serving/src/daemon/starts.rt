@@ -53,22 +53,30 @@ fn starts(rt: HostRuntime) {
     );
 }
 
-/// A journal that is long is replayed, and replaced by a checkpoint, which is replayed in turn; but not where a list may
-/// be open.
+/// A journal of version 1 that is long is replayed, and replaced by a checkpoint, which is replayed in turn; but not where
+/// a list may be open.
 #[test]
-fn long_journals(rt: HostRuntime) {
-    assert_long(
-        &rt,
-        rt.alloc(),
-        Kind::Tick,
-        "lock listen find open pages recovered begin begun pages recovered keep announce ",
-    );
-    assert_long(&rt, rt.alloc(), Kind::Oai, FOUND);
+fn long_journals_of_version_1(rt: HostRuntime) {
+    let replaced =
+        "lock listen find open pages recovered begin begun pages recovered keep announce ";
+    let goes_on = "lock listen find open pages recovered old announce ";
+    assert_long(&rt, rt.alloc(), Some("1"), Kind::Tick, replaced);
+    assert_long(&rt, rt.alloc(), Some("1"), Kind::Oai, goes_on);
 }
 
-/// A start on a journal with long records of that kind makes these calls.
-fn assert_long(rt: &impl Abort, alloc: Global, kind: Kind, calls: &str) {
+/// One of version 2 is served as it is.
+#[test]
+fn long_journal(rt: HostRuntime) {
+    assert_long(&rt, rt.alloc(), None, Kind::Tick, FOUND);
+}
+
+/// A start on a journal of that version with long records of that kind makes these calls.
+fn assert_long(rt: &impl Abort, alloc: Global, version: Option<&str>, kind: Kind, calls: &str) {
     let mut place = MemoryPlace::new(alloc, 100).expect(rt, "place");
+    if let Some(version) = version {
+        let text = std::str::from_utf8(configuration()).expect(rt, "from_utf8");
+        place.other = Some(format!(in alloc; "{version}\n{text}").expect(rt, "memory"));
+    }
     place.long = Some(kind);
     assert_start(rt, &mut place, ServerStop::Common(Stop::SocketFault), calls);
 }
