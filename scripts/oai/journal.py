@@ -5,6 +5,9 @@ import os
 # The open commit bytes, each of which is followed by a whole record.
 OPEN = (b"+", b"&")
 
+# The kinds of records that are parts of a checkpoint.
+PARTS = ("begin", "set", "item", "list", "gone")
+
 
 class Journal:
     """The records of a journal's file, read on from where it ended before."""
@@ -27,15 +30,27 @@ class Journal:
             held = file.read()
         if held[: self.at] != self.known:
             return None
-        records = []
-        while held[self.at : self.at + 1] in OPEN:
-            end = held.index(b"\n", self.at)
-            moment, kind, name, length, _ = held[self.at + 1 : end].decode().split(" ")
-            body = held[end + 1 : end + 1 + int(length)]
-            records.append((int(moment), kind, name, body.decode(errors="replace")))
-            self.at = end + 2 + int(length)
+        records, self.at = records_in(held, self.at)
         self.known = held[: self.at]
         return records
+
+
+def records_in(held, at=0):
+    """The records in the bytes of a journal's file from there on, and where they end."""
+    records = []
+    while held[at : at + 1] in OPEN:
+        end = held.index(b"\n", at)
+        moment, kind, name, length, _ = held[at + 1 : end].decode().split(" ")
+        body = held[end + 1 : end + 1 + int(length)]
+        records.append((int(moment), kind, name, body.decode(errors="replace")))
+        at = end + 2 + int(length)
+    return records, at
+
+
+def split_parts(records):
+    """The parts of a checkpoint that a journal begins with behind its first record, and the records behind them."""
+    end = next((it for it, record in enumerate(records) if it and record[1] not in PARTS), len(records))
+    return records[1:end], records[end:]
 
 
 def sip_hash(data):

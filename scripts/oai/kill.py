@@ -15,7 +15,7 @@ import time
 
 from oai import model as models
 from oai.clients import exchange
-from oai.journal import Journal
+from oai.journal import Journal, records_in, split_parts
 from oai.programs import oaihostd
 from oai.servers import serve_durably, write_configuration
 
@@ -57,9 +57,42 @@ ELEMENT = (
 ABOUT = {"oai_dc": ["<rights xmlns='http://host.example/rights/'>free</rights>", "<?xml version='1.0'?><p:note xmlns:p='urn:x' p:a='&#xe9;'/>"]}
 
 
+# After how many bytes the server writes a checkpoint: some times as long as half a second of messages.
+AFTER = 2_000
+
+
 def start(config, folder):
     """A server on that folder, which may not start."""
-    return serve_durably(config, folder, errors=tempfile.TemporaryFile("w+"), may_end=True)
+    behind = ("--checkpoint-after", str(AFTER))
+    return serve_durably(config, folder, behind=behind, errors=tempfile.TemporaryFile("w+"), may_end=True)
+
+
+class Follower(threading.Thread):
+    """Holds each file open that stands as the journal while a server serves: the one of before a checkpoint stays whole."""
+
+    def __init__(self, path):
+        super().__init__()
+        self.path, self.files, self.over = path, [open(path, "rb")], threading.Event()
+
+    def run(self):
+        while not self.over.wait(0.0005):
+            self.look()
+
+    def look(self):
+        """Opens the journal, if it is another file."""
+        if os.stat(self.path).st_ino != os.fstat(self.files[-1].fileno()).st_ino:
+            self.files.append(open(self.path, "rb"))
+
+    def end(self):
+        """What is in each of the files."""
+        self.over.set()
+        self.join()
+        self.look()
+        held = []
+        for it in self.files:
+            with it:
+                held.append(it.read())
+        return held
 
 
 class Known:
@@ -70,7 +103,7 @@ class Known:
         self.items, self.unanswered, self.touched = {}, {}, set()
         self.parts, self.numbers = {}, {}
         self.acknowledged = []
-        self.differences = 0
+        self.differences = self.switches = 0
 
     def differ(self, what):
         with self.lock:
@@ -215,6 +248,59 @@ def perform(model, record):
     return repository.tick(moment)
 
 
+def compare_begun(known, model, parts):
+    """Whether a checkpoint has the next numbers, the open lists and the items of the model."""
+    for name, repository in model.repositories.items():
+        mine = [it for it in parts if it[2] == name]
+        numbers = [int(body) for _, kind, _, body in mine if kind == "begin"]
+        lists = [int(body.split(" ")[0]) for _, kind, _, body in mine if kind == "list"]
+        items = {}
+        for _, kind, _, body in mine:
+            if kind == "item":
+                items[identifier_in(body)] = True
+            elif kind == "gone":
+                items.pop(body)
+        if numbers != [repository.next] or lists != sorted(repository.lists):
+            known.differ(f"a checkpoint of {name} has the number {numbers} and the lists {lists}")
+        if set(items) != set(repository.items):
+            known.differ(f"a checkpoint of {name} has other items: {len(items)}")
+
+
+def identifier_in(item):
+    """The identifier of an item, as a checkpoint spells it: behind a byte and eight more stands its length, in four."""
+    return re.search(r"oai:[ab]:[0-9-]+", item)[0]
+
+
+def perform_all(known, model, journal, held):
+    """Lets the model perform what came since, over all files that stood as the journal, and takes note of it. None where one has not the records of the one
+    before it, or where those of before are others now."""
+    records, _ = records_in(held[0], journal.at)
+    if held[0][: journal.at] != journal.known:
+        return None
+    came = [it for it in records if it[1] != "journal"]
+    before, done = split_parts(records_in(held[0])[0])[1], list(came)
+    for file in held[1:]:
+        parts, behind = split_parts(records_in(file)[0])
+        first = len(before) - len(came)
+        at = next((it for it in range(first, len(before) + 1) if before[it:] == behind[: len(before) - it]), None)
+        if at is None:
+            return None
+        for record in before[first:at]:
+            perform(model, record)
+        compare_begun(known, model, parts)
+        for record in before[at:]:
+            perform(model, record)
+        came = behind[len(before) - at :]
+        done += came
+        before = behind
+        known.switches += 1
+    for record in came:
+        perform(model, record)
+    if len(held) > 1:
+        journal.at, journal.known = 0, b""
+    return done
+
+
 def find_acknowledged(known, records):
     """Whether each exchange that was acknowledged stands among the records that came since."""
     came = {}
@@ -357,7 +443,7 @@ def attack(server, known, serial, chance, look):
     clients = [Client(server, known, it, serial + it) for it in range(CLIENTS)]
     for it in clients:
         it.start()
-    time.sleep(chance.choice([0.02, 0.1, 0.5, 1]) * (0.5 + chance.random()))
+    time.sleep(chance.choice([0.02, 0.1, 0.5, 1, 3]) * (0.5 + chance.random()))
     look()
     server.kill()
     for it in clients:
@@ -366,19 +452,19 @@ def attack(server, known, serial, chance, look):
 
 def rounds(config, folder, count, chance, known):
     model, journal = models.Host(CONFIGURATION, has_elements=True), Journal(f"{folder}/journal")
-    performed = -1
     server = start(config, folder)
     for number in range(count):
+        follower = Follower(f"{folder}/journal")
+        follower.start()
         attack(server, known, number * CLIENTS, chance, lambda: verified(folder, known))
-        records = journal.read_on()
+        records = perform_all(known, model, journal, follower.end())
         if records is None:
             known.differ("records that were in the journal are others now")
             return number + 1
-        performed += len(records)
+        journal.read_on()
+        performed = len(records_in(journal.known)[0]) - 1
         if verified(folder, known) != (performed, journal.at):
             known.differ(f"verify does not find {performed} records and {journal.at} bytes")
-        for record in records[(1 if number == 0 else 0):]:
-            perform(model, record)
         find_acknowledged(known, records)
         if number % 3 == 0:
             compare_torn(config, folder, known, journal, chance, performed)
@@ -410,19 +496,23 @@ def kill(count: int, seed: int = None):
     it has to find the same records there. Before every second start `checkpoint` is called, and half of the times
     killed somewhere in between: the journal is then as it was, or a checkpoint, at which all lists have ended.
 
+    The server writes a checkpoint once its journal is 2,000 bytes longer than twice what it was, which takes the place of the journal while the clients go on: it has
+    the next numbers, the open lists and the items of the model as it began, and behind them stand the same records.
+
     It writes its seed to standard error, and names each difference; its last line is `N kills, 0 differences`, and its
     status is 0 where there are none.
     """
     seed = random.randrange(1 << 32) if seed is None else seed
     print(f"seed {seed}", file=sys.stderr)
-    chance, kills, differences = random.Random(seed), 0, 0
+    chance, kills, differences, switches = random.Random(seed), 0, 0, 0
     with tempfile.TemporaryDirectory(prefix="kill-") as place:
         config = f"{place}/config.json"
         write_configuration(config, CONFIGURATION)
         while kills < count and not differences:
             known = Known()
             kills += rounds(config, f"{place}/folder", min(count - kills, ROUNDS), chance, known)
-            differences += known.differences
+            differences, switches = differences + known.differences, switches + known.switches
             shutil.rmtree(f"{place}/folder")
+    print(f"{switches} checkpoints while it served")
     print(f"{kills} kills, {differences} differences")
     return int(differences > 0)

@@ -59,6 +59,7 @@ GROUPS = {
         "hostile": "hostile",
         "recovery": "recovery",
         "checkpoint-size": "recovery",
+        "checkpoint-beside": "beside",
         "pool-speed": "speeds",
         "store-speed": "speeds",
         "journal-speed": "speeds",
