@@ -22,8 +22,8 @@ from oai.servers import serve_durably, write_configuration
 # For how many seconds an answer is waited for.
 PATIENCE = 60
 CLIENTS = 6
-# After how many kills a new folder is begun, so that a start does not take ever longer.
-ROUNDS = 25
+# After how many kills a new folder is begun: its journal is short at first, and becomes long for several checkpoints.
+ROUNDS = (1, 2, 3, 4, 15)
 # By how much `checkpoint` raises the number of each next list.
 RAISE = 1_000_000
 CHUNK = 3
@@ -57,7 +57,7 @@ ELEMENT = (
 ABOUT = {"oai_dc": ["<rights xmlns='http://host.example/rights/'>free</rights>", "<?xml version='1.0'?><p:note xmlns:p='urn:x' p:a='&#xe9;'/>"]}
 
 
-# After how many bytes the server writes a checkpoint: some times as long as half a second of messages.
+# By how many bytes the journal is longer than twice what it was, where a checkpoint begins.
 AFTER = 2_000
 
 
@@ -272,8 +272,8 @@ def identifier_in(item):
 
 
 def perform_all(known, model, journal, held):
-    """Lets the model perform what came since, over all files that stood as the journal, and takes note of it. None where one has not the records of the one
-    before it, or where those of before are others now."""
+    """Lets the model perform what came since, over all files that stood as the journal. None where one has not the records of the one before it, or where
+    those of before are others now."""
     records, _ = records_in(held[0], journal.at)
     if held[0][: journal.at] != journal.known:
         return None
@@ -496,8 +496,9 @@ def kill(count: int, seed: int = None):
     it has to find the same records there. Before every second start `checkpoint` is called, and half of the times
     killed somewhere in between: the journal is then as it was, or a checkpoint, at which all lists have ended.
 
-    The server writes a checkpoint once its journal is 2,000 bytes longer than twice what it was, which takes the place of the journal while the clients go on: it has
-    the next numbers, the open lists and the items of the model as it began, and behind them stand the same records.
+    The server writes a checkpoint once its journal is 2,000 bytes longer than twice what it was, which takes the place
+    of the journal while the clients go on: it has the next numbers, the open lists and the items of the model as it
+    began, and behind them stand the same records.
 
     It writes its seed to standard error, and names each difference; its last line is `N kills, 0 differences`, and its
     status is 0 where there are none.
@@ -510,7 +511,7 @@ def kill(count: int, seed: int = None):
         write_configuration(config, CONFIGURATION)
         while kills < count and not differences:
             known = Known()
-            kills += rounds(config, f"{place}/folder", min(count - kills, ROUNDS), chance, known)
+            kills += rounds(config, f"{place}/folder", min(count - kills, chance.choice(ROUNDS)), chance, known)
             differences, switches = differences + known.differences, switches + known.switches
             shutil.rmtree(f"{place}/folder")
     print(f"{switches} checkpoints while it served")
