@@ -5,8 +5,6 @@ mod dumps;
 mod elements;
 mod figures;
 mod growing;
-mod kept_places;
-mod long_journals;
 mod places;
 mod starts;
 mod stops;

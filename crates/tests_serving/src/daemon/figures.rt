@@ -87,9 +87,7 @@ fn page(rt: HostRuntime) {
     let mut place = MemoryPlace::new(rt.alloc(), 100).expect(&rt, "place");
     place.rounds = 12;
     place.sends = Some(SENT);
-    let written = received(rt.alloc(), &mut place, &Standing, configuration()).expect(
-        &rt, "served",
-    );
+    let written = received(&mut place, &Standing, configuration()).expect(&rt, "served");
     assert_eq!(&rt; str::from_utf8(&written), Ok(answers()));
 }
 

@@ -45,37 +45,34 @@ pub(crate) fn served<C: Clock>(
 }
 
 /// What the client of that place received of a service of the configuration in the text, with no keys.
-pub(crate) fn received<P: Place<Port = Quiet>, C: Clock>(
-    alloc: Global,
-    place: &mut P,
+pub(crate) fn received<C: Clock>(
+    place: &mut MemoryPlace,
     clock: &C,
     text: &[u8],
 ) -> Result<Vec<u8>, ServerStop> {
+    let alloc = place.alloc();
     let rings = Sequence::new(Vec::new(alloc));
     received_of(serve(alloc, place, clock, written_in(alloc, text)?, rings))
 }
 
-/// A copy of the bytes.
-pub(crate) fn copy_of(alloc: Global, bytes: &[u8]) -> Result<Vec<u8>, ServerStop> {
-    let mut copy = Vec::new(alloc);
-    copy.extend_from_slice(bytes)?;
-    Ok(copy)
-}
-
 /// The configuration in the text.
 fn written_in(alloc: Global, text: &[u8]) -> Result<WrittenConfig, ServerStop> {
-    match WrittenConfig::read(alloc, copy_of(alloc, text)?) {
+    let mut copy = Vec::new(alloc);
+    if copy.extend_from_slice(text).is_err() {
+        return Err(ServerStop::Common(Stop::NoMemory));
+    }
+    match WrittenConfig::read(alloc, copy) {
         Ok(written) => Ok(written),
         Err((stop, _)) => Err(ServerStop::Common(stop)),
     }
 }
 
 /// What the client received of that service, or why it did not begin.
-fn received_of<S: Drop, H: Drop>(
-    ended: Result<Ended<S, Quiet, H>, ServerStop>,
+fn received_of<S: Drop, K: OneClient + Drop, H: Drop>(
+    ended: Result<Ended<S, K, H>, ServerStop>,
 ) -> Result<Vec<u8>, ServerStop> {
     match ended {
-        Ok(ended) => Ok(ended.port.received),
+        Ok(ended) => Ok(ended.port.into_received()),
         Err(stop) => Err(stop),
     }
 }
@@ -280,11 +277,12 @@ impl Place for MemoryPlace {
 
     fn listen(&mut self) -> Result<Quiet, ServerStop> {
         self.call("listen")?;
-        let sends = match self.sends {
-            Some(sends) => Some(copy_of(self.alloc, sends)?),
-            None => None,
-        };
-        Ok(Quiet::new(self.alloc, self.rounds, sends, usize::MAX))
+        Ok(Quiet {
+            alloc: self.alloc,
+            rounds: self.rounds,
+            sends: self.sends,
+            received: Vec::new(self.alloc),
+        })
     }
 
     fn find_journal(&mut self) -> Result<bool, ServerStop> {
@@ -380,22 +378,20 @@ impl<K: Journal> Folder<K> for NoFolder {
 pub(crate) struct Quiet {
     alloc: Global,
     rounds: u32,
-    sends: Option<Vec<u8>>,
-    most: usize,
+    sends: Option<&'static [u8]>,
     /// What was written to the client, once its connection is over.
     received: Vec<u8>,
 }
 
-impl Quiet {
-    /// It can be waited for so often, and the client sends that, so many bytes in a round at most.
-    pub(crate) fn new(alloc: Global, rounds: u32, sends: Option<Vec<u8>>, most: usize) -> Quiet {
-        Quiet {
-            alloc,
-            rounds,
-            sends,
-            most,
-            received: Vec::new(alloc),
-        }
+/// A port at which one client comes at most.
+trait OneClient {
+    /// What the client received, once its connection is over.
+    fn into_received(self) -> Vec<u8>;
+}
+
+impl OneClient for Quiet {
+    fn into_received(self) -> Vec<u8> {
+        self.received
     }
 }
 
@@ -420,12 +416,7 @@ impl Sockets<Talk> for Quiet {
     fn accept(&mut self) -> io::Result<Option<Talk>> {
         let written = Vec::new(self.alloc);
         match self.sends.take() {
-            Some(sent) => Ok(Some(Talk {
-                sent,
-                most: self.most,
-                at: 0,
-                written,
-            })),
+            Some(unread) => Ok(Some(Talk { unread, written })),
             None => Ok(None),
         }
     }
@@ -439,24 +430,18 @@ impl Sockets<Talk> for Quiet {
     }
 }
 
-/// The stream of a client that sends its bytes, ends its side, and takes all.
+/// The stream of a client that sends its bytes at once, ends its side, and takes all.
 #[derive(Drop)]
 pub(crate) struct Talk {
-    sent: Vec<u8>,
-    /// The most bytes of a read, at least 1.
-    most: usize,
-    at: usize,
+    unread: &'static [u8],
     written: Vec<u8>,
 }
 
 impl Stream for Talk {
     fn read(&mut self, buffer: &mut [u8]) -> io::Result<usize> {
-        let Some(unread) = self.sent.get(self.at..) else {
-            return Ok(0);
-        };
-        let count = unread.len().min(buffer.len()).min(self.most);
-        buffer[..count].copy_from_slice(&unread[..count]);
-        self.at = self.at.saturating_add(count);
+        let count = self.unread.len().min(buffer.len());
+        buffer[..count].copy_from_slice(&self.unread[..count]);
+        self.unread = &self.unread[count..];
         Ok(count)
     }
 
