@@ -7,7 +7,7 @@ from oai.programs import TOP
 from oai.words import HEAD
 
 # The theorem, and where it stands.
-LAW, LAWS = "service_law", "oai_service/src/laws.rt"
+LAW, LAWS = "online_service_law", "oai_service/src/laws.rt"
 
 # A word of a definition: a name, or one behind an alias of a module.
 WORD = re.compile(r"[^\s(){}\[\],;:.λ]+(?:\.[^\s(){}\[\],;:.λ]+)?")
@@ -145,7 +145,7 @@ def lines_of_all():
 def statement():
     """Lists the definitions that the statement of the theorem rests on, file by file: who believes them believes what it says.
 
-    It begins with the contract of `service_law`, the traits that it names, and what their members are at the types that
+    It begins with the contract of `online_service_law`, the traits that it names, and what their members are at the types that
     it names, and follows each name to its definition. What is of the toolchain, or a type of the code, is counted by its
     crate. The last line is `D definitions of L lines, in F files of C crates; all definitions have A lines`.
     """
