@@ -9,7 +9,7 @@ use Rattle.oai_http.specs.declared.handlers.SettleFault.{SettleFault}
 use Rattle.oai_journal.specs.Journals.{IsLeft}
 use Rattle.oai_journal.specs.Records.{Entry}
 use Rattle.oai_journal.specs.declared.journals.Journal as journal
-use Rattle.oai_durable.specs.Checkpointed.{AreAll, Checkpointed, IsExchangeBeside, IsHeldBeside, IsInDoubt, IsKeptBeside, IsReadRight, IsReplaced, IsSettledBeside, IsSettlingSound, IsStepSound, LeavesFirst, MayLeaveBeside, StaysWritten, StepEnd, commits, fails, goes_on, refuses, switches}
+use Rattle.oai_durable.specs.Checkpointed.{AreAll, Checkpointed, IsExchangeBeside, IsHeldBeside, IsInDoubt, IsKeptBeside, IsReadRight, IsSwitched, IsSettledBeside, IsSettlingSound, IsStepSound, LeavesFirst, MayLeaveBeside, StaysWritten, StepEnd, commits, fails_to_commit, keeps_journal, refuses, switches}
 use Rattle.oai_durable.specs.Journaled.{IsHeld, IsSettled, Parts, Replaying}
 use Rattle.oai_durable.specs.OnlineCheckpoints.{IsWriting, LeavesSame, Writing}
 use Rattle.oai_durable.specs.Records.{Leaving, redone_all}
@@ -116,7 +116,7 @@ replaced_beside : {H J K : Type 0} (h : Replaying H) (j : journal.Ghosts J) (k :
     → ((new : K) (es : List Entry) (n : ℕ) → k.holds new es n → j.holds (second new) es n)
     → (read : Parts H J) (new : K) (result : Result (Unit {0}) SettleFault) (now : Checkpointed H J K) (file entries : List Entry)
     → IsHeld h j begun read file (length file) → StandInFor h.leaving begun entries (length entries) file (length file) → LeavesSame k h.leaving begun file new
-    → IsReplaced second read new result now → IsHeldBeside h j k emptied begun now entries (length entries)
+    → IsSwitched second read new result now → IsHeldBeside h j k emptied begun now entries (length entries)
 replaced_beside {H} {J} {K} h j k emptied second begun seconds read new result now file entries held stands leaves put =
     let there : IsHeld h j begun (record { handler = read.handler; journal = second new }) leaves.file (length leaves.file) =
     record { records = seconds new leaves.file (length leaves.file) leaves.holds; kept = λ honest. held.kept honest ∙ sym leaves.leaves } in
@@ -134,7 +134,7 @@ pub settled_beside : {H J K : Type 0} (h : Replaying H) (j : journal.Ghosts J) (
     → (before now : Checkpointed H J K) (entries : List Entry) (durable : ℕ) → IsHeldBeside h j k emptied begun before entries durable
     → (settles : IsSettledBeside h j k emptied second before (Ok tt) now) → IsSettlingSound h j k emptied second before (Ok tt) now settles
     → IsHeldBeside h j k emptied begun now entries (length entries)
-settled_beside h j k emptied second begun seconds begins before now entries durable is (fails done) sound = absurd (not_both tt done.fault done.err)
+settled_beside h j k emptied second begun seconds begins before now entries durable is (fails_to_commit done) sound = absurd (not_both tt done.fault done.err)
 settled_beside h j k emptied second begun seconds begins before now entries durable is (refuses fault err same) sound = absurd (not_both tt fault err)
 settled_beside {H} {J} {K} h j k emptied second begun seconds begins before now entries durable is (commits done) sound =
     let steps = done.steps in
@@ -146,7 +146,7 @@ settled_beside {H} {J} {K} h j k emptied second begun seconds begins before now 
         → StandInFor h.leaving begun entries (length entries) file (length file)
         → (ends : StepEnd h j k emptied second done.committed before.writing read (Ok tt) now)
         → IsStepSound h j k emptied second done.committed before.writing read (Ok tt) now ends → IsHeldBeside h j k emptied begun now entries (length entries)
-    by_end file read held all stands (goes_on goes) right = record {
+    by_end file read held all stands (keeps_journal goes) right = record {
       file = file;
       many = length file;
       held = subst (λ (p : Parts H J). IsHeld h j begun p file (length file)) (sym goes.parts) held;
@@ -217,7 +217,7 @@ pub unsettled_crashed : {H J K : Type 0} (h : Replaying H) (j : journal.Ghosts J
     → IsHeldBeside h j k emptied begun before entries durable
     → (settles : IsSettledBeside h j k emptied second before (Err fault) now) → IsSettlingSound h j k emptied second before (Err fault) now settles
     → MayLeaveBeside j k now left → IsLeftLike h.leaving begun entries durable left
-unsettled_crashed {H} {J} {K} h j k emptied second of_old of_new begun begins before now fault entries durable left few is (fails done) sound leaves =
+unsettled_crashed {H} {J} {K} h j k emptied second of_old of_new begun begins before now fault entries durable left few is (fails_to_commit done) sound leaves =
     crash_beside h j k of_old of_new begun now entries is.file durable is.many left (done.settled.err is.file is.many is.held.records) is.stands
     (subst (λ (new : Option K). IfSome new (λ new'. LeavesFirst k h.leaving begun entries durable new')) (sym done.unsynced) is.unsynced) leaves
 unsettled_crashed {H} {J} {K} h j k emptied second of_old of_new begun begins before now fault entries durable left few is (refuses cause err same) sound leaves =
@@ -230,7 +230,7 @@ unsettled_crashed {H} {J} {K} h j k emptied second of_old of_new begun begins be
         → StandInFor h.leaving begun entries (length entries) file (length file)
         → (ends : StepEnd h j k emptied second done.committed before.writing read (Err fault) now)
         → IsStepSound h j k emptied second done.committed before.writing read (Err fault) now ends → IsLeftLike h.leaving begun entries durable left
-    by_end file read held all stands (goes_on goes) right = absurd (not_both tt fault (sym goes.ok))
+    by_end file read held all stands (keeps_journal goes) right = absurd (not_both tt fault (sym goes.ok))
     by_end file read held all stands (switches put_in) right = elim put_in.is [
       | inl put ↦ absurd (not_both tt fault (sym put.ok))
       | inr doubt ↦ in_doubt doubt (put_in.may right begun file all)

@@ -40,8 +40,8 @@ pub record IsReadRight {H J : Type 0} (h : Replaying H) (j : journal.Ghosts J) (
   pub clean : IsTrue (j.is_clean read.journal)
 
 -- the new journal leaves what all records do, if what was read for it was right
-abbrev pub MayReplace : {H J K : Type 0} → (h : Replaying H) → journal.Ghosts J → journal.Ghosts K → (h.Kept → h.Kept) → Parts H J → Option (Writing K) → Parts H J → K → Type 0
-MayReplace h j k emptied before at read new =
+abbrev pub MaySwitch : {H J K : Type 0} → (h : Replaying H) → journal.Ghosts J → journal.Ghosts K → (h.Kept → h.Kept) → Parts H J → Option (Writing K) → Parts H J → K → Type 0
+MaySwitch h j k emptied before at read new =
     IsReadRight h j read → (begun : h.Kept) (entries : List Entry) → AreAll h j k emptied begun before at entries → LeavesSame k h.leaving begun entries new
 
 -- a checkpoint that is written behind a step is one of all records, if what was read for it was right
@@ -52,11 +52,11 @@ StaysWritten h j k emptied before at read now =
 -- where a step leads: the journal stays, or a new one that may take its place does so
 abbrev pub StepsTo : {H J K : Type 0} → (h : Replaying H) → journal.Ghosts J → journal.Ghosts K → (h.Kept → h.Kept) → Parts H J → Option (Writing K) → Parts H J → Stepped K → Type 0
 StepsTo h j k emptied before at read (Stays now) = StaysWritten h j k emptied before at read now
-StepsTo h j k emptied before at read (Replaced new records) = MayReplace h j k emptied before at read new
-StepsTo h j k emptied before at read (InDoubt new) = MayReplace h j k emptied before at read new
+StepsTo h j k emptied before at read (Replaced new records) = MaySwitch h j k emptied before at read new
+StepsTo h j k emptied before at read (InDoubt new) = MaySwitch h j k emptied before at read new
 
 -- a step of a checkpoint that leaves the journal: a checkpoint that is written then is one of all records
-pub record GoesOn {H J K : Type 0} (h : Replaying H) (j : journal.Ghosts J) (k : journal.Ghosts K) (emptied : h.Kept → h.Kept)
+pub record JournalStays {H J K : Type 0} (h : Replaying H) (j : journal.Ghosts J) (k : journal.Ghosts K) (emptied : h.Kept → h.Kept)
     (before : Parts H J) (at : Option (Writing K)) (read : Parts H J) (result : Result (Unit {0}) SettleFault) (after : Checkpointed H J K) : Type 0 where
   pub ok : result ≡ Ok tt
   pub parts : after.parts ≡ read
@@ -64,7 +64,7 @@ pub record GoesOn {H J K : Type 0} (h : Replaying H) (j : journal.Ghosts J) (k :
   pub written : StaysWritten h j k emptied before at read after.writing
 
 -- the new journal is in the place of the old one
-pub record IsReplaced {H J K : Type 0} (second : K → J) (read : Parts H J) (new : K) (result : Result (Unit {0}) SettleFault) (after : Checkpointed H J K) : Type 0 where
+pub record IsSwitched {H J K : Type 0} (second : K → J) (read : Parts H J) (new : K) (result : Result (Unit {0}) SettleFault) (after : Checkpointed H J K) : Type 0 where
   pub ok : result ≡ Ok tt
   pub parts : after.parts ≡ record { handler = read.handler; journal = second new }
   pub writing : after.writing ≡ None
@@ -82,17 +82,17 @@ pub record IsInDoubt {H J K : Type 0} (read : Parts H J) (new : K) (result : Res
 pub record Switches {H J K : Type 0} (h : Replaying H) (j : journal.Ghosts J) (k : journal.Ghosts K) (emptied : h.Kept → h.Kept) (second : K → J)
     (before : Parts H J) (at : Option (Writing K)) (read : Parts H J) (result : Result (Unit {0}) SettleFault) (after : Checkpointed H J K) : Type 0 where
   pub new : K
-  pub may : MayReplace h j k emptied before at read new
-  pub is : IsReplaced second read new result after ⊎ IsInDoubt read new result after
+  pub may : MaySwitch h j k emptied before at read new
+  pub is : IsSwitched second read new result after ⊎ IsInDoubt read new result after
 
 -- how a step ends: the journal stays, or a new one takes its place
 pub data StepEnd {H J K : Type 0} (h : Replaying H) (j : journal.Ghosts J) (k : journal.Ghosts K) (emptied : h.Kept → h.Kept) (second : K → J)
     (before : Parts H J) (at : Option (Writing K)) (read : Parts H J) (result : Result (Unit {0}) SettleFault) (after : Checkpointed H J K) : Type 0 where
-  goes_on : GoesOn h j k emptied before at read result after → StepEnd h j k emptied second before at read result after
+  keeps_journal : JournalStays h j k emptied before at read result after → StepEnd h j k emptied second before at read result after
   switches : Switches h j k emptied second before at read result after → StepEnd h j k emptied second before at read result after
 
 -- a step of a checkpoint, behind a commit: the records of the handler and its state stay, whatever is read
-pub record IsStep {H J K : Type 0} (h : Replaying H) (j : journal.Ghosts J) (k : journal.Ghosts K) (emptied : h.Kept → h.Kept) (second : K → J)
+pub record IsStepBeside {H J K : Type 0} (h : Replaying H) (j : journal.Ghosts J) (k : journal.Ghosts K) (emptied : h.Kept → h.Kept) (second : K → J)
     (before : Parts H J) (at : Option (Writing K)) (result : Result (Unit {0}) SettleFault) (after : Checkpointed H J K) : Type 0 where
   pub read : Parts H J
   pub held : (begun : h.Kept) (entries : List Entry) (durable : ℕ) → IsHeld h j begun before entries durable → IsHeld h j begun read entries durable
@@ -113,14 +113,14 @@ pub record CommitsAndSteps {H J K : Type 0} (h : Replaying H) (j : journal.Ghost
   pub synced : before.unsynced ≡ None
   pub committed : Parts H J
   pub commits : IsSettled j before.parts (Ok tt) committed
-  pub steps : IsStep h j k emptied second committed before.writing result after
+  pub steps : IsStepBeside h j k emptied second committed before.writing result after
 
 -- settling commits, and makes a step of a checkpoint; or the commit fails; or, where a folder could not be synced,
 -- nothing is done, and it fails
 pub data IsSettledBeside {H J K : Type 0} (h : Replaying H) (j : journal.Ghosts J) (k : journal.Ghosts K) (emptied : h.Kept → h.Kept) (second : K → J)
     (before : Checkpointed H J K) (result : Result (Unit {0}) SettleFault) (after : Checkpointed H J K) : Type 0 where
   commits : CommitsAndSteps h j k emptied second before result after → IsSettledBeside h j k emptied second before result after
-  fails : FailsToCommit j before result after → IsSettledBeside h j k emptied second before result after
+  fails_to_commit : FailsToCommit j before result after → IsSettledBeside h j k emptied second before result after
   refuses : (fault : SettleFault) → result ≡ Err fault → after ≡ before → IsSettledBeside h j k emptied second before result after
 
 -- ---- what is kept
@@ -129,14 +129,14 @@ pub data IsSettledBeside {H J K : Type 0} (h : Replaying H) (j : journal.Ghosts 
 abbrev pub IsStepSound : {H J K : Type 0} (h : Replaying H) (j : journal.Ghosts J) (k : journal.Ghosts K) (emptied : h.Kept → h.Kept) (second : K → J)
     (before : Parts H J) (at : Option (Writing K)) (read : Parts H J) (result : Result (Unit {0}) SettleFault) (after : Checkpointed H J K)
     → StepEnd h j k emptied second before at read result after → Type 0
-IsStepSound h j k emptied second before at read result after (goes_on goes) = IfSome after.writing (λ w. IsReadRight h j read)
+IsStepSound h j k emptied second before at read result after (keeps_journal goes) = IfSome after.writing (λ w. IsReadRight h j read)
 IsStepSound h j k emptied second before at read result after (switches put) = IsReadRight h j read
 
 abbrev pub IsSettlingSound : {H J K : Type 0} (h : Replaying H) (j : journal.Ghosts J) (k : journal.Ghosts K) (emptied : h.Kept → h.Kept) (second : K → J)
     (before : Checkpointed H J K) (result : Result (Unit {0}) SettleFault) (after : Checkpointed H J K) → IsSettledBeside h j k emptied second before result after → Type 0
 IsSettlingSound h j k emptied second before result after (commits done) =
     IsStepSound h j k emptied second done.committed before.writing done.steps.read result after done.steps.ends
-IsSettlingSound h j k emptied second before result after (fails done) = Unit {0}
+IsSettlingSound h j k emptied second before result after (fails_to_commit done) = Unit {0}
 IsSettlingSound h j k emptied second before result after (refuses fault err same) = Unit {0}
 
 -- the new journal leaves what the first of these records do, among them all that are durable

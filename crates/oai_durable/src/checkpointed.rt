@@ -1,5 +1,5 @@
 //! A journaled handler whose journal stays short while it serves.
-ghost use Rattle.oai_durable.specs.Checkpointed.{IsStep};
+ghost use Rattle.oai_durable.specs.Checkpointed.{IsStepBeside};
 ghost use Rattle.oai_durable.specs.Journaled.{promised};
 ghost use Rattle.oai_durable.specs.declared.either.EitherJournal.TheVariants.{First, Second};
 ghost use Rattle.std.specs.Prelude.{◌≡◌, None};
@@ -61,7 +61,7 @@ impl<H: Replayed, J: Journal + Measured, K: Journal + Measured, F: Folder<K>> Ch
     /// Makes a step of a checkpoint, behind a commit. The error is that the folder could not be synced.
     fn step(&mut self) -> Result<(), SettleFault>
         requires { self.old.unsynced ≡ None }
-        ensures { IsStep (promised H.Replayed) ⟦<EitherJournal<J, K> as Journal>⟧ K.Journal H.emptied Second
+        ensures { IsStepBeside (promised H.Replayed) ⟦<EitherJournal<J, K> as Journal>⟧ K.Journal H.emptied Second
             self.old.parts self.old.writing result self.new }
     {
         let writing = self.writing.take();

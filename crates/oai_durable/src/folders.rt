@@ -5,6 +5,7 @@ use crate::checkpoints::CheckpointFault;
 use crate::either::EitherJournal;
 use oai_journal::{FileJournal, Journal};
 use sqlite_disk::Disk;
+use std::time::Duration;
 
 /// A journal whose length is known.
 pub trait Measured {
@@ -23,7 +24,7 @@ pub enum Replacement {
     Unsynced,
 }
 
-/// What is said of a checkpoint that was written while its handler served.
+/// What is reported of a checkpoint that was written while its handler served.
 #[derive(Clone, Copy, Debug, PartialEq, Eq)]
 pub enum CheckpointNote {
     /// It took the place of the journal: with so many records behind its first one, and of so many bytes.
@@ -52,6 +53,9 @@ pub trait Folder<K: Journal> {
 
     /// Reports to the operator.
     fn tell(&mut self, note: CheckpointNote);
+
+    /// The time by a monotonic clock; zero if it cannot be read.
+    fn clock(&self) -> Duration;
 }
 
 impl<D: Disk + Drop> Measured for FileJournal<D> {

@@ -10,8 +10,8 @@ use oai_journal::{Journal, JournalFault, Tail, copy_some};
 use oai_replay::Replayed;
 use std::marker::Model;
 
-/// The bytes of records that are read back in a step: 1 MiB.
-const READ_BYTES: usize = 1_048_576;
+/// How many times as many bytes are read back in a step as are copied.
+const READS: usize = 4;
 
 /// A checkpoint that is written into a new journal while exchanges go on: first the parts of the state when it began,
 /// then the records behind it.
@@ -60,15 +60,15 @@ impl<K: Journal> OnlineCheckpoint<K> {
         }
     }
 
-    /// Reads the next records of the new journal back, each of which has to be as it was written; returns whether more may
-    /// be left.
-    fn read_back(&mut self) -> Result<bool, CheckpointFault>
+    /// Reads the next records of the new journal back, each of which has to be as it was written, until they have that
+    /// many bytes; returns whether more may be left.
+    fn read_back(&mut self, bytes: usize) -> Result<bool, CheckpointFault>
         ensures same { (entries : List Entry) (lasting : ℕ) → K.holds self.old.journal entries lasting
             → K.holds self.new.journal entries lasting }
         ensures tail { self.new.tail ≡ self.old.tail }
         ensures whole { self.new.whole ≡ self.old.whole }
     {
-        match read_some(&mut self.sink.journal, &mut self.reread, READ_BYTES) {
+        match read_some(&mut self.sink.journal, &mut self.reread, bytes) {
             Ok(more) => Ok(more),
             Err(fault) => Err(CheckpointFault::Journal(fault)),
         }
@@ -168,7 +168,7 @@ impl<H: Replayed, J: Journal> Journaled<H, J> {
         if more {
             return Ok(true);
         }
-        let unread = checkpoint.read_back()?;
+        let unread = checkpoint.read_back(bytes.saturating_mul(READS))?;
         Ok(unread)
     }
 

@@ -11,9 +11,16 @@ use crate::journaled::Journaled;
 use crate::online_checkpoints::OnlineCheckpoint;
 use oai_journal::{Journal, JournalFault};
 use oai_replay::Replayed;
+use std::time::Duration;
 
-/// The bytes of records that a step copies: 256 KiB.
+/// The bytes of records that a step copies at least: 256 KiB.
 const STEP_BYTES: usize = 262_144;
+
+/// How many times as many bytes a step copies as came after the last one, so that it catches up.
+const COPIES: usize = 2;
+
+/// How many times as long as a step took the next one rests, while exchanges come: these get two thirds of the time.
+const RESTS: u32 = 2;
 
 /// Where a step of a checkpoint leads.
 #[derive(Drop)]
@@ -34,6 +41,14 @@ pub(crate) struct Schedule<F> {
     base: usize,
     /// The moment of the last exchange, in seconds from 1970 on; 0 before the first.
     moment: i64,
+    /// The length of the journal at the last step.
+    seen: usize,
+    /// Whether more came between the last two steps than a step copies at least.
+    is_behind: bool,
+    /// Whether an exchange came after the last step.
+    is_asked: bool,
+    /// Until when the next step rests if exchanges come, by the folder's clock.
+    rested: Duration,
 }
 
 impl<F> Schedule<F> {
@@ -43,12 +58,56 @@ impl<F> Schedule<F> {
             folder,
             base: bytes.saturating_mul(2),
             moment: 0,
+            seen: bytes,
+            is_behind: false,
+            is_asked: false,
+            rested: Duration::ZERO,
         }
     }
 
     /// Notes the moment of an exchange.
     pub(crate) fn note(&mut self, moment: i64) {
         self.moment = moment;
+        self.is_asked = true;
+    }
+
+    /// How many bytes of records the next step copies, of a journal of that length.
+    fn step_bytes(&mut self, bytes: usize) -> usize {
+        let came = bytes.saturating_sub(self.seen);
+        self.seen = bytes;
+        self.is_behind = came > STEP_BYTES;
+        STEP_BYTES.saturating_add(came.saturating_mul(COPIES))
+    }
+
+    /// The time by the folder's clock.
+    fn clock<K: Journal>(&self) -> Duration
+    where
+        F: Folder<K>,
+    {
+        self.folder.clock()
+    }
+
+    /// Whether the next step rests, since exchanges come.
+    fn rests<K: Journal>(&self) -> bool
+    where
+        F: Folder<K>,
+    {
+        self.is_asked && self.folder.clock() < self.rested
+    }
+
+    /// Lets the next step rest after one that was begun at that time, unless records come faster than it copies.
+    fn rest<K: Journal>(&mut self, begun: Duration)
+    where
+        F: Folder<K>,
+    {
+        let now = self.folder.clock();
+        let spent = now.saturating_sub(begun);
+        self.rested = if self.is_behind {
+            now
+        } else {
+            now.saturating_add(spent.saturating_mul(RESTS))
+        };
+        self.is_asked = false;
     }
 
     /// Begins a journal beside the folder's.
@@ -95,8 +154,8 @@ impl<F> Schedule<F> {
     }
 }
 
-/// Makes a step of a checkpoint, behind a commit: it is begun if it is due, written on, or put in the place of the journal
-/// if it is whole. A fault ends the checkpoint alone.
+/// Makes a step of a checkpoint, behind a commit: it is begun if it is due, written on unless it rests, or put in the place
+/// of the journal if it is whole. A fault ends the checkpoint alone.
 pub(crate) fn make_step<H: Replayed, J: Journal + Measured, K: Journal + Measured, F: Folder<K>>(
     journaled: &mut Journaled<H, J>,
     schedule: &mut Schedule<F>,
@@ -108,10 +167,16 @@ pub(crate) fn make_step<H: Replayed, J: Journal + Measured, K: Journal + Measure
     ensures honesty { H.is_honest journaled.new.handler ≡ H.is_honest journaled.old.handler }
     ensures leads { StepsTo (promised H.Replayed) J.Journal K.Journal H.emptied journaled.old writing journaled.new result }
 {
-    match writing {
-        Some(checkpoint) => write(journaled, schedule, checkpoint),
-        None => Stepped::Stays(begin_if_due(journaled, schedule)),
+    let Some(checkpoint) = writing else {
+        return Stepped::Stays(begin_if_due(journaled, schedule));
+    };
+    if schedule.rests() {
+        return Stepped::Stays(Some(checkpoint));
     }
+    let begun = schedule.clock();
+    let stepped = write(journaled, schedule, checkpoint);
+    schedule.rest(begun);
+    stepped
 }
 
 /// Begins a checkpoint, if the journal is long.
@@ -160,7 +225,8 @@ fn write<H: Replayed, J: Journal + Measured, K: Journal + Measured, F: Folder<K>
     ensures leads { StepsTo (promised H.Replayed) J.Journal K.Journal H.emptied journaled.old (Some checkpoint)
         journaled.new result }
 {
-    let more = match journaled.write_checkpoint(&mut checkpoint, STEP_BYTES) {
+    let bytes = schedule.step_bytes(journaled.bytes());
+    let more = match journaled.write_checkpoint(&mut checkpoint, bytes) {
         Ok(more) => more,
         Err(fault) => {
             give_up(journaled, schedule, fault);

@@ -1,6 +1,6 @@
 -- Where a step of a checkpoint leads.
 use Rattle.std.proofs.Common.{◌∙◌, inl, inr, refl, ap}
-use Rattle.oai_durable.specs.Checkpointed.{goes_on, switches}
+use Rattle.oai_durable.specs.Checkpointed.{keeps_journal, switches}
 use Rattle.oai_durable.proofs.BesideLemmas.{parts_are}
 use Rattle.oai_durable.proofs.checkpointed.Checkpointed.step.Goals as goal
 
@@ -12,7 +12,7 @@ returns-in-Stays g c =
       read = c.make_step.new.journaled;
       held = c.make_step.ensures.held;
       honesty = c.make_step.ensures.honesty;
-      ends = goes_on (record { ok = refl; parts = refl; unsynced = synced; written = leads });
+      ends = keeps_journal (record { ok = refl; parts = refl; unsynced = synced; written = leads });
     })
 
 pub returns-in-Replaced : goal.returns-in-Replaced
