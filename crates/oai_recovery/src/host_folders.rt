@@ -1,11 +1,12 @@
 //! The folder of the system, while a server serves.
 use crate::begun_checkpoints::{begin_checkpoint, fault_of};
 use crate::folder_files::{FolderFiles, Fresh};
-use crate::moments::second_of;
+use crate::moments::{second_of, time_of};
 use oai_durable::{CheckpointFault, CheckpointNote, Folder, Replacement};
 use oai_item::Forms;
 use oai_journal::FileJournal;
 use sqlite_std_file::FileFrom;
+use std::time::Duration;
 
 /// The folder of a `HostPlace`, in which checkpoints are written while its server serves: as `journal.new`, which is
 /// renamed to `journal` once it is whole. They are reported to standard error.
@@ -91,5 +92,9 @@ impl Folder<FileJournal<FileFrom<Fresh>>> for HostFolder<'_> {
                 let _ = eprintln!(self.files.rt; "checkpoint: given up: {fault}");
             }
         }
+    }
+
+    fn clock(&self) -> Duration {
+        time_of(self.files.rt)
     }
 }

@@ -5,6 +5,7 @@ ghost use Rattle.std.specs.Prelude.{◌≡◌};
 use oai_archive::ServerStop;
 use oai_startup::Stop;
 use std::rt::Clock;
+use std::time::Duration;
 
 /// The clock's moment, in seconds from 1970 on. The error is `InputFault`.
 pub(crate) fn moment_of<C: Clock>(clock: &C) -> Result<i64, ServerStop> {
@@ -16,9 +17,14 @@ pub(crate) fn moment_of<C: Clock>(clock: &C) -> Result<i64, ServerStop> {
 
 /// The second of a monotonic clock; 0 if it cannot be read.
 pub fn second_of<C: Clock>(clock: &C) -> u64 {
+    time_of(clock).as_secs()
+}
+
+/// The time by a monotonic clock; zero if it cannot be read.
+pub(crate) fn time_of<C: Clock>(clock: &C) -> Duration {
     match clock.monotonic() {
-        Ok(time) => time.as_secs(),
-        Err(_) => 0,
+        Ok(time) => time,
+        Err(_) => Duration::ZERO,
     }
 }
 
