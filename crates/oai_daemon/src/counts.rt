@@ -81,14 +81,7 @@ impl Counts {
     /// Of no message, for the repositories of the configuration, in that second of a monotonic clock.
     pub(crate) fn new(alloc: Global, config: &Config, second: u64) -> Result<Counts, AllocError> {
         let tally = Rc::new(alloc, Tally::new(second))?;
-        let mut deposits = Vec::with_capacity(alloc, config.len())?;
-        for one in config.repositories() {
-            deposits.push(DepositCounts {
-                name: String::from_str(alloc, one.name.as_str())?,
-                accepted: 0,
-                denied: 0,
-            })?;
-        }
+        let deposits = deposits_of(alloc, config)?;
         Ok(Counts {
             startup: StartupFigures::new(),
             tally,
@@ -134,7 +127,26 @@ impl Counts {
     }
 }
 
+/// Of no deposit, for the repositories of the configuration.
+fn deposits_of(alloc: Global, config: &Config) -> Result<Vec<DepositCounts>, AllocError> {
+    let mut deposits = Vec::new(alloc);
+    for one in config.repositories() {
+        let name = String::from_str(alloc, one.name.as_str())?;
+        deposits.push(DepositCounts::new(name))?;
+    }
+    Ok(deposits)
+}
+
 impl DepositCounts {
+    /// Of no deposit, for the repository with that name.
+    fn new(name: String) -> DepositCounts {
+        DepositCounts {
+            name,
+            accepted: 0,
+            denied: 0,
+        }
+    }
+
     /// Counts an answer.
     fn count(&mut self, status: Status) {
         match status {

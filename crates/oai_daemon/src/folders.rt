@@ -3,9 +3,10 @@ use crate::tallies::Tally;
 use oai_durable::{CheckpointFault, CheckpointNote, Folder, Replacement};
 use oai_journal::Journal;
 use std::rc::Rc;
+use std::time::Duration;
 
-/// A folder; while a checkpoint is written in it, the event loop does not wait for connections. What it is told of one that
-/// was written is among the figures.
+/// A folder; while a checkpoint is written in it, the event loop does not wait for connections. What is reported of one
+/// that was written is among the figures.
 #[derive(Drop)]
 pub struct NotedFolder<F> {
     folder: F,
@@ -57,5 +58,9 @@ impl<K: Journal, F: Folder<K>> Folder<K> for NotedFolder<F> {
             CheckpointNote::GivenUp(_) => {}
         }
         self.folder.tell(note);
+    }
+
+    fn clock(&self) -> Duration {
+        self.folder.clock()
     }
 }

@@ -20,6 +20,7 @@ use oai_durable::{Checkpointed, EitherJournal, resume};
 use oai_figures::Figures;
 use oai_host::Host;
 use oai_http::Settled;
+use oai_item::Forms;
 use oai_journal::{FileJournal, Journal};
 use oai_keys::{Guarded, Ring};
 use oai_names::Sequence;
@@ -159,17 +160,30 @@ fn serve_over<'a, P: Place, H: Replayed + Figures + Drop, C: Clock>(
         forms,
         text,
     } = started;
-    let Listening { port, counts } = listening;
     let Some(journaled) = resume(alloc, handler, recovery, records) else {
         return Err(ServerStop::Common(Stop::InputFault));
     };
-    let folder = NotedFolder::new(place.folder(text, forms)?, counts.tally()?);
-    place.announce(&port)?;
+    let (folder, tally) = announce(place, &listening, text, forms)?;
     let checkpointed = Checkpointed::new(journaled, folder);
     let guarded = Guarded::new(alloc, checkpointed, rings);
-    let tally = counts.tally()?;
+    let Listening { port, counts } = listening;
     let watched = Watched::new(alloc, guarded, place, counts.after(startup));
     serve_at(alloc, clock, origin, watched, port, tally)
+}
+
+/// The folder of the place, of whose checkpoints the event loop knows, and what this counts; reports where the server
+/// listens.
+fn announce<P: Place>(
+    place: &mut P,
+    listening: &Listening<P::Port>,
+    text: Vec<u8>,
+    forms: Forms,
+) -> Result<(NotedFolder<P::Folder>, Rc<Tally>), ServerStop> {
+    let folder = place.folder(text, forms)?;
+    let folder = NotedFolder::new(folder, listening.counts.tally()?);
+    place.announce(&listening.port)?;
+    let tally = listening.counts.tally()?;
+    Ok((folder, tally))
 }
 
 /// Serves the handler until it is killed or cannot continue. The error is out of memory, before it served.
