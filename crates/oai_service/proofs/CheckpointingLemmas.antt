@@ -5,7 +5,7 @@ use Rattle.oai_host.specs.Hosts.{HostState, Repository}
 use Rattle.oai_journal.specs.Journals.{IsLeft}
 use Rattle.oai_journal.specs.Records.{Entry}
 use Rattle.oai_journal.specs.declared.journals.Journal as journal
-use Rattle.oai_durable.specs.Checkpointed.{Checkpointed, IsHeldBeside, IsSettledBeside, IsSettlingSound, LeavesFirst, MayLeaveBeside, StepEnd, commits, fails, goes_on, refuses, switches}
+use Rattle.oai_durable.specs.Checkpointed.{Checkpointed, IsHeldBeside, IsSettledBeside, IsSettlingSound, LeavesFirst, MayLeaveBeside, StepEnd, commits, fails_to_commit, keeps_journal, refuses, switches}
 use Rattle.oai_durable.specs.Journaled.{Parts, Replaying}
 use Rattle.oai_durable.specs.OnlineCheckpoints.{IsWriting, Writing}
 use Rattle.oai_durable.specs.Records.{redone_all}
@@ -27,7 +27,7 @@ none_said {A} P found is = subst (λ (o : Option A). IfSome o P) (sym is) tt
 
 step_leaves : {H J K : Type 0} (h : Replaying H) (j : journal.Ghosts J) (k : journal.Ghosts K) (emptied : h.Kept → h.Kept) (second : K → J) (before : Parts H J) (at : Option (Writing K)) (read : Parts H J)
     (result : Result (Unit {0}) SettleFault) (after : Checkpointed H J K) → StepEnd h j k emptied second before at read result after → after.parts.handler ≡ read.handler
-step_leaves {H} {J} {K} h j k emptied second before at read result after (goes_on goes) = ap (λ (parts : Parts H J). parts.handler) goes.parts
+step_leaves {H} {J} {K} h j k emptied second before at read result after (keeps_journal goes) = ap (λ (parts : Parts H J). parts.handler) goes.parts
 step_leaves {H} {J} {K} h j k emptied second before at read result after (switches new) = elim new.is [
   | inl put ↦ ap (λ (parts : Parts H J). parts.handler) put.parts
   | inr doubt ↦ ap (λ (parts : Parts H J). parts.handler) doubt.parts
@@ -37,7 +37,7 @@ still_honest : {H J K : Type 0} (h : Replaying H) (j : journal.Ghosts J) (k : jo
     (result : Result (Unit {0}) SettleFault) (after : Checkpointed H J K) → IsSettledBeside h j k emptied second before result after → h.is_honest after.parts.handler ≡ h.is_honest before.parts.handler
 still_honest h j k emptied second before result after (commits done) =
     ap h.is_honest (step_leaves h j k emptied second done.committed before.writing done.steps.read result after done.steps.ends) ∙ done.steps.honesty ∙ ap h.is_honest done.commits.handler
-still_honest h j k emptied second before result after (fails done) = ap h.is_honest done.settled.handler
+still_honest h j k emptied second before result after (fails_to_commit done) = ap h.is_honest done.settled.handler
 still_honest {H} {J} {K} h j k emptied second before result after (refuses fault err same) = ap (λ (state : Checkpointed H J K). h.is_honest state.parts.handler) same
 
 -- ---- the handler of a host

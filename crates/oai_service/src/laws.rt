@@ -80,7 +80,7 @@ pub fn service_on_files_law<S: Stream, P: PageDevice, D: Disk + Drop>()
 /// a whole one takes the place of the journal, which may then be of another kind. No list ends at it, so that lives with
 /// any number of them are one era. Provided that what a step read, of the store and of the journal, is what their disks
 /// have, in each step that wrote on at a checkpoint, or put one in the place of the journal (`IsSettlingSound`), all that
-/// is said of the records of a life holds of records for which those of its file stand: they leave the same state. A step
+/// is stated of the records of a life holds of records for which those of its file stand: they leave the same state. A step
 /// may fail in the store, so that the count of its faults may rise between two messages. A crash that comes while the
 /// folder of the journals is not synced may leave either of them. The function is empty.
 pub fn online_service_law<S: Stream, V: Versions + Drop, J: Journal, K: Journal>()
