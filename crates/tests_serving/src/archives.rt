@@ -1,4 +1,5 @@
 //! Archives over a journal that can crash.
+use crate::assertions::assert_same;
 use oai_device::{MemoryDevice, PageDevice};
 use oai_durable::{Journaled, Progress, recover, resume};
 use oai_host::{Config, Host};
@@ -11,7 +12,9 @@ use sqlite_disk::{Disk, Memory};
 use std::alloc::Global;
 use std::panic::Expect;
 use std::process::Abort;
-use tests_fixtures::{answer_to, body_of, exchange_in, worked_configuration, write_exchanged};
+use tests_fixtures::{
+    answer_to, body_of, exchange_in, wanted_in, worked_configuration, write_exchanged,
+};
 
 /// Of which configuration a host is, which forms its records may have, and how many pages its cache has.
 #[derive(Clone, Copy)]
@@ -147,4 +150,26 @@ pub(crate) fn tell<H: Settled>(
     let answer = answer_of(rt, alloc, handler, line);
     handler.settle().expect(rt, "settle");
     write_exchanged(&answer, output).expect(rt, "write_exchanged");
+}
+
+/// The handler answers the lines of the transcript that begin with `> ` as the others say.
+pub(crate) fn assert_told<H: Settled>(
+    rt: &impl Abort,
+    alloc: Global,
+    handler: &mut H,
+    transcript: &str,
+) {
+    let mut output = Vec::new(alloc);
+    for line in transcript.lines() {
+        if let Some(asked) = line.strip_prefix("> ") {
+            tell(rt, alloc, handler, asked, &mut output);
+        }
+    }
+    assert_wanted(rt, alloc, &output, transcript);
+}
+
+/// The answers are those of the transcript.
+pub(crate) fn assert_wanted(rt: &impl Abort, alloc: Global, answers: &[u8], transcript: &str) {
+    let wanted = wanted_in(alloc, transcript).expect(rt, "wanted_in");
+    assert_same(rt, answers, wanted.as_bytes());
 }

@@ -91,10 +91,15 @@ fn assert_pieces(rt: &impl Abort, bytes: &[u8], pieces: &[&[u8]]) {
     assert!(rt; rest.is_empty());
 }
 
+/// The bytes of the journal of a checkpoint of these parts are those of the pieces.
+fn assert_written(rt: &impl Abort, alloc: Global, parts: &[Part<'_>], pieces: &[&[u8]]) {
+    let disk = written(rt, alloc, parts).into_disk();
+    assert_pieces(rt, disk.bytes(), pieces);
+}
+
 #[test]
 fn checkpoint_has_these_bytes(rt: HostRuntime) {
-    let disk = written(&rt, rt.alloc(), &parts()).into_disk();
-    assert_pieces(&rt, disk.bytes(), &WRITTEN);
+    assert_written(&rt, rt.alloc(), &parts(), &WRITTEN);
 }
 
 /// A recovery whose progress is not reported.
@@ -117,15 +122,21 @@ fn recovered(
     recover(shelf, &mut recovery, &mut Quiet)
 }
 
+/// Of the checkpoint of these parts four records are restored, which are noted so.
+fn assert_restored(rt: &impl Abort, alloc: Global, parts: &[Part<'_>], notes: &[&[u8]]) {
+    let journal = written(rt, alloc, parts);
+    let mut shelf = Shelf::new(alloc, &[], None);
+    let count = recovered(rt, alloc, journal, &mut shelf);
+    assert!(rt; count == Ok(4));
+    assert_pieces(rt, shelf.notes(), notes);
+}
+
 #[test]
 fn checkpoint_is_restored(rt: HostRuntime) {
-    let alloc = rt.alloc();
-    let mut shelf = Shelf::new(alloc, &[], None);
-    let count = recovered(&rt, alloc, written(&rt, alloc, &parts()), &mut shelf);
-    assert!(&rt; count == Ok(4));
-    assert_pieces(
+    assert_restored(
         &rt,
-        shelf.notes(),
+        rt.alloc(),
+        &parts(),
         &[
             b"B\x00\x00\x00\x00\x69\x55\xb9\x03a 1000001\n",
             b"S\x00\x00\x00\x00\x69\x55\xb9\x03a m Maps and plans\n",
@@ -163,19 +174,15 @@ const LISTED: [&[u8]; 9] = [
 
 #[test]
 fn lists_have_these_bytes(rt: HostRuntime) {
-    let disk = written(&rt, rt.alloc(), &listed_parts()).into_disk();
-    assert_pieces(&rt, disk.bytes(), &LISTED);
+    assert_written(&rt, rt.alloc(), &listed_parts(), &LISTED);
 }
 
 #[test]
 fn lists_are_restored(rt: HostRuntime) {
-    let alloc = rt.alloc();
-    let mut shelf = Shelf::new(alloc, &[], None);
-    let count = recovered(&rt, alloc, written(&rt, alloc, &listed_parts()), &mut shelf);
-    assert!(&rt; count == Ok(4));
-    assert_pieces(
+    assert_restored(
         &rt,
-        shelf.notes(),
+        rt.alloc(),
+        &listed_parts(),
         &[
             b"B\x00\x00\x00\x00\x69\x55\xb9\x03a 8\n",
             b"I\x00\x00\x00\x00\x65\x92\x00\x80a ",
@@ -190,15 +197,21 @@ fn lists_are_restored(rt: HostRuntime) {
 /// A part that the handler does not restore ends the recovery, with the number of its record.
 #[test]
 fn part_that_does_not_fit(rt: HostRuntime) {
-    let alloc = rt.alloc();
     let [begin, set, item, _] = parts();
-    let journal = written(&rt, alloc, &[begin, Part { bytes: b"", ..set }, item]);
-    let mut shelf = Shelf::new(alloc, &[], None);
-    let count = recovered(&rt, alloc, journal, &mut shelf);
-    assert!(&rt; count == Err(RecoverFault::Performing(2, Fault::Damaged)));
+    let parts = [begin, Part { bytes: b"", ..set }, item];
+    assert_unfit(&rt, rt.alloc(), &parts);
 }
 
-/// Why no checkpoint of these parts is written, behind which the handler has that fault, and on a disk that takes so many calls.
+/// The second record of the checkpoint of these parts is not restored.
+fn assert_unfit(rt: &impl Abort, alloc: Global, parts: &[Part<'_>]) {
+    let journal = written(rt, alloc, parts);
+    let mut shelf = Shelf::new(alloc, &[], None);
+    let count = recovered(rt, alloc, journal, &mut shelf);
+    assert!(rt; count == Err(RecoverFault::Performing(2, Fault::Damaged)));
+}
+
+/// Why no checkpoint of these parts is written, behind which the handler has that fault, and on a disk that takes so
+/// many calls.
 fn fault_of(
     rt: &impl Abort,
     alloc: Global,

@@ -1,29 +1,6 @@
 //! An archive whose records may be elements, found after a crash: each record is of the kind that it was.
-use crate::archives::{Archive, Setting, begun, found_after, tell, worked};
-use crate::assertions::assert_same;
-use oai_device::MemoryDevice;
+use crate::archives::{Setting, assert_told, begun, found_after, worked};
 use oai_item::Forms;
-use std::alloc::Global;
-use std::panic::Expect;
-use std::process::Abort;
-use tests_fixtures::wanted_in;
-
-/// The archive answers the lines of the transcript that begin with `> ` as the others say.
-fn assert_told(
-    rt: &impl Abort,
-    alloc: Global,
-    archive: &mut Archive<MemoryDevice>,
-    transcript: &str,
-) {
-    let mut output = Vec::new(alloc);
-    for line in transcript.lines() {
-        if let Some(asked) = line.strip_prefix("> ") {
-            tell(rt, alloc, archive, asked, &mut output);
-        }
-    }
-    let wanted = wanted_in(alloc, transcript).expect(rt, "wanted_in");
-    assert_same(rt, output.as_slice(), wanted.as_bytes());
-}
 
 /// An element and a list of each format, a text that is no element, and a list of a field without a name.
 fn deposits() -> &'static str {

@@ -1,29 +1,50 @@
 //! Ends, and what goes on behind them.
-use crate::archives::{Archive, Setting, answer_of, begun, found_after, tell, worked};
+use crate::archives::{
+    Archive, Setting, answer_of, assert_told, assert_wanted, begun, found_after, tell, worked,
+};
+use crate::assertions::assert_same;
 use oai_device::MemoryDevice;
 use oai_http::{Settled, Status};
 use std::alloc::Global;
 use std::panic::Expect;
 use std::process::Abort;
-use tests_fixtures::{long, script, short, wanted_in};
+use tests_fixtures::{long, script, short};
 
-/// The two texts are the same.
-fn assert_same(rt: &impl Abort, found: &[u8], wanted: &[u8]) {
-    assert!(rt; found == wanted);
+/// The archive that goes on behind the exchange of the line and an end.
+fn exchanged(
+    rt: &impl Abort,
+    alloc: Global,
+    mut archive: Archive<MemoryDevice>,
+    line: &str,
+    setting: Setting,
+    output: &mut Vec<u8>,
+) -> Archive<MemoryDevice> {
+    tell(rt, alloc, &mut archive, line, output);
+    found_after(rt, alloc, archive, setting)
 }
 
-/// The archive ends after each exchange of the transcript and goes on from its journal; the answers are those of the transcript.
-fn assert_goes_on(rt: &impl Abort, alloc: Global, transcript: &str, setting: Setting) {
-    let mut output = Vec::new(alloc);
+/// Writes what an archive answers to the transcript that ends after each exchange and goes on from its journal.
+fn write_answers(
+    rt: &impl Abort,
+    alloc: Global,
+    transcript: &str,
+    setting: Setting,
+    output: &mut Vec<u8>,
+) {
     let mut archive = begun(rt, alloc, setting);
     for line in transcript.lines() {
         if let Some(line) = line.strip_prefix("> ") {
-            tell(rt, alloc, &mut archive, line, &mut output);
-            archive = found_after(rt, alloc, archive, setting);
+            archive = exchanged(rt, alloc, archive, line, setting, output);
         }
     }
-    let wanted = wanted_in(alloc, transcript).expect(rt, "wanted_in");
-    assert_same(rt, output.as_slice(), wanted.as_bytes());
+}
+
+/// The archive ends after each exchange of the transcript and goes on from its journal; the answers are those of the
+/// transcript.
+fn assert_goes_on(rt: &impl Abort, alloc: Global, transcript: &str, setting: Setting) {
+    let mut output = Vec::new(alloc);
+    write_answers(rt, alloc, transcript, setting, &mut output);
+    assert_wanted(rt, alloc, &output, transcript);
 }
 
 /// The script goes on over caches of 1, 2 and 64 pages.
@@ -92,33 +113,33 @@ fn deposit(number: u32) -> &'static str {
     }
 }
 
+/// The answer to the exchange of the line is 200.
+fn assert_ok<H: Settled>(rt: &impl Abort, alloc: Global, handler: &mut H, line: &str) {
+    let answer = answer_of(rt, alloc, handler, line);
+    assert_same(rt, answer.status, Status::Ok);
+}
+
+/// An archive of two deposits, of which the first one had settled.
+fn deposited_twice(rt: &impl Abort, alloc: Global) -> Archive<MemoryDevice> {
+    let mut archive = begun(rt, alloc, worked(1));
+    assert_ok(rt, alloc, &mut archive, deposit(1));
+    archive.settle().expect(rt, "settle");
+    assert_ok(rt, alloc, &mut archive, deposit(2));
+    archive
+}
+
 /// An answer that was held back may be lost, and what had settled is there.
 #[test]
 fn answer_that_was_held_back(rt: HostRuntime) {
     let alloc = rt.alloc();
-    let mut archive = begun(&rt, alloc, worked(1));
-    assert!(&rt; answer_of(&rt, alloc, &mut archive, deposit(1)).status == Status::Ok);
-    archive.settle().expect(&rt, "settle");
-    assert!(&rt; answer_of(&rt, alloc, &mut archive, deposit(2)).status == Status::Ok);
+    let archive = deposited_twice(&rt, alloc);
     let mut archive = found_after(&rt, alloc, archive, worked(1));
     assert_only_first(&rt, alloc, &mut archive);
 }
 
 /// Of the two items the first one is there, with its datestamp, and the other is not. The clock is that of the first.
-pub(crate) fn assert_only_first(
-    rt: &impl Abort,
-    alloc: Global,
-    archive: &mut Archive<MemoryDevice>,
-) {
-    let transcript = only_first();
-    let mut output = Vec::new(alloc);
-    for line in transcript.lines() {
-        if let Some(line) = line.strip_prefix("> ") {
-            tell(rt, alloc, archive, line, &mut output);
-        }
-    }
-    let wanted = wanted_in(alloc, transcript).expect(rt, "wanted_in");
-    assert_same(rt, output.as_slice(), wanted.as_bytes());
+pub(crate) fn assert_only_first<H: Settled>(rt: &impl Abort, alloc: Global, handler: &mut H) {
+    assert_told(rt, alloc, handler, only_first());
 }
 
 fn only_first() -> &'static str {

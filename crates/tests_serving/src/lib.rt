@@ -9,6 +9,8 @@ mod archives;
 #[cfg(test)]
 mod assertions;
 #[cfg(test)]
+mod checkpointed;
+#[cfg(test)]
 mod checkpoints;
 #[cfg(test)]
 mod connections;

@@ -1,6 +1,7 @@
 //! Twenty lives, one behind the other, as a model answers what is asked in them.
-use crate::archives::{Setting, begun, found_after};
+use crate::archives::{Archive, Setting, begun, found_after};
 use crate::written_lives::{configuration, lives};
+use oai_device::MemoryDevice;
 use oai_http::{Answer, Exchange, FORM, Handler, Settled, Target};
 use oai_item::Forms;
 use std::alloc::Global;
@@ -41,7 +42,8 @@ fn answer_to<H: Handler>(rt: &impl Abort, handler: &mut H, text: &str) -> Answer
     handler.exchange(moment.parse::<i64>().expect(rt, "a moment"), &exchange)
 }
 
-/// The answer is the one that the text describes: its status, its seconds, and how many bytes of which hash its body has.
+/// The answer is the one that the text describes: its status, its seconds, and how many bytes of which hash its body
+/// has.
 fn assert_told(rt: &impl Abort, answer: &Answer, text: &str) {
     let (status, text) = cut(text);
     let (seconds, text) = cut(text);
@@ -69,6 +71,21 @@ fn live<H: Settled>(rt: &impl Abort, handler: &mut H, line: &str) {
     assert_told(rt, &answer, line);
 }
 
+/// The archive behind what the line asks, or behind an end.
+fn behind(
+    rt: &impl Abort,
+    alloc: Global,
+    mut archive: Archive<MemoryDevice>,
+    line: &str,
+    setting: Setting,
+) -> Archive<MemoryDevice> {
+    if line == "end" {
+        return found_after(rt, alloc, archive, setting);
+    }
+    live(rt, &mut archive, line);
+    archive
+}
+
 /// All lives of the text, over a cache of so many pages.
 fn assert_lives(rt: &impl Abort, alloc: Global, cache: usize) {
     let setting = Setting {
@@ -78,11 +95,7 @@ fn assert_lives(rt: &impl Abort, alloc: Global, cache: usize) {
     };
     let mut archive = begun(rt, alloc, setting);
     for line in lives().lines() {
-        if line == "end" {
-            archive = found_after(rt, alloc, archive, setting);
-        } else {
-            live(rt, &mut archive, line);
-        }
+        archive = behind(rt, alloc, archive, line, setting);
     }
 }
 

@@ -1,13 +1,15 @@
 //! What is performed and leaves no log record.
 use crate::archives::{answer_of, begun, worked};
-use oai_http::{Answer, Settled};
+use oai_http::Settled;
 use oai_journal::Recovery;
 use sqlite_disk::Memory;
+use std::alloc::Global;
 use std::panic::Expect;
 use std::process::Abort;
 
-/// It is 200, with no line.
-fn assert_no_line(rt: &impl Abort, answer: &Answer) {
+/// The answer to the exchange of the line is 200, with no line.
+fn assert_no_line<H: Settled>(rt: &impl Abort, alloc: Global, handler: &mut H, line: &str) {
+    let answer = answer_of(rt, alloc, handler, line);
     assert!(rt; answer.fault.is_none());
     assert!(rt; answer.status.number() == 200);
     assert!(rt; answer.body.as_slice().is_empty());
@@ -26,8 +28,7 @@ fn blank_lines_leave_no_record(rt: HostRuntime) {
     let alloc = rt.alloc();
     let mut archive = begun(&rt, alloc, worked(1));
     let line = "1704067207 POST /deposit/a | - |  ¶\t¶\r¶¶ ";
-    let answer = answer_of(&rt, alloc, &mut archive, line);
-    assert_no_line(&rt, &answer);
+    assert_no_line(&rt, alloc, &mut archive, line);
     archive.settle().expect(&rt, "settle");
     assert_no_record(&rt, archive.into_journal().crash(alloc));
 }

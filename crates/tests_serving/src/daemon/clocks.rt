@@ -1,6 +1,8 @@
 //! Clocks in memory, and what a server does whose clock jumps.
+use crate::assertions::assert_same;
 use crate::daemon::places::{MemoryPlace, configuration, served};
 use oai_archive::ServerStop;
+use oai_startup::Stop;
 use std::alloc::Global;
 use std::cell::Cell;
 use std::io;
@@ -45,34 +47,30 @@ impl Clock for Gaining {
     }
 }
 
-/// A server ends whose clock gained a day and a second between two readings, and says to which second it jumped: the start reads it
-/// once, and each round once.
-#[test]
-fn clock_jumps(rt: HostRuntime) {
+/// A service whose clock gains so many seconds with each reading ends so.
+fn assert_ended(rt: &impl Abort, alloc: Global, seconds: u64, wanted: ServerStop) {
     let clock = Gaining {
-        seconds: 86_401,
+        seconds,
         shown: Cell::new(FIRST),
     };
-    let mut place = MemoryPlace::new(rt.alloc(), 100).expect(&rt, "place");
+    let mut place = MemoryPlace::new(alloc, 100).expect(rt, "place");
     place.rounds = 10;
     let ended = served(&mut place, &clock, configuration());
-    assert_eq!(&rt; ended, Ok(Err(ServerStop::Jumped(1_704_240_002))));
+    assert_same(rt, ended, Ok(Err(wanted)));
+}
+
+/// A server ends whose clock gained a day and a second between two readings, and says to which second it jumped: the
+/// start reads it once, and each round once.
+#[test]
+fn clock_jumps(rt: HostRuntime) {
+    assert_ended(&rt, rt.alloc(), 86_401, ServerStop::Jumped(1_704_240_002));
 }
 
 /// One that gained a day goes on.
 #[test]
 fn clock_gains_a_day(rt: HostRuntime) {
-    let clock = Gaining {
-        seconds: 86_400,
-        shown: Cell::new(FIRST),
-    };
-    let mut place = MemoryPlace::new(rt.alloc(), 100).expect(&rt, "place");
-    place.rounds = 10;
-    let ended = served(&mut place, &clock, configuration());
-    assert_eq!(&rt;
-        ended,
-        Ok(Err(ServerStop::Common(oai_startup::Stop::SocketFault)))
-    );
+    let waits = ServerStop::Common(Stop::SocketFault);
+    assert_ended(&rt, rt.alloc(), 86_400, waits);
 }
 
 /// A start in a place whose journal ends with a tick at that moment makes these calls.
@@ -80,14 +78,12 @@ fn assert_calls(rt: &impl Abort, alloc: Global, moment: i64, calls: &str) {
     let mut place = MemoryPlace::new(alloc, 100).expect(rt, "place");
     place.tick = Some(moment);
     let ended = served(&mut place, &Standing, configuration());
-    assert_eq!(rt;
-        ended,
-        Ok(Err(ServerStop::Common(oai_startup::Stop::SocketFault)))
-    );
-    assert_eq!(rt; place.calls.as_str(), calls);
+    assert_same(rt, ended, Ok(Err(ServerStop::Common(Stop::SocketFault))));
+    assert_same(rt, place.calls.as_str(), calls);
 }
 
-/// A clock that is more than 366 days ahead of the last record, or more than an hour behind it, is reported, and ends nothing.
+/// A clock that is more than 366 days ahead of the last record, or more than an hour behind it, is reported, and ends
+/// nothing.
 #[test]
 fn clock_is_far_from_the_journal(rt: HostRuntime) {
     let near = "lock listen find open pages recovered announce ";

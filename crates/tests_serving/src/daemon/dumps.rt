@@ -1,4 +1,5 @@
 //! What a repository holds, as the lines of a dump.
+use crate::assertions::assert_same;
 use crate::daemon::places::{add_record, first_body};
 use oai_archive::{ServerStop, dump_repository};
 use oai_journal::{FileJournal, Kind, LogRecord};
@@ -54,12 +55,12 @@ pub(crate) fn assert_dumped<D: Disk + Drop>(
 ) {
     let mut written = Vec::new(alloc);
     let done = dump_repository(alloc, disk, name, &mut written);
-    assert_eq!(rt; done, wanted);
-    assert_eq!(rt; written.as_slice(), text.as_bytes());
+    assert_same(rt, done, wanted);
+    assert_same(rt, written.as_slice(), text.as_bytes());
 }
 
-/// Sets stand first, in the order in which they were added, then the items in theirs; of a deleted one its deposit and its deletion. Texts are
-/// escaped as JSON wants it.
+/// Sets stand first, in the order in which they were added, then the items in theirs; of a deleted one its deposit and
+/// its deletion. Texts are escaped as JSON wants it.
 #[test]
 fn dumped_lines(rt: HostRuntime) {
     let alloc = rt.alloc();

@@ -1,4 +1,6 @@
-//! Journals whose records may be elements, dumped and loaded again; and journals of version 1, whose records are lists of fields.
+//! Journals whose records may be elements, dumped and loaded again; and journals of version 1, whose records are lists
+//! of fields.
+use crate::assertions::assert_same;
 use crate::daemon::clocks::Standing;
 use crate::daemon::dumps::{assert_dumped, begun_with, deposit};
 use crate::daemon::places::{MemoryPlace, configuration, first_body, served};
@@ -36,6 +38,12 @@ fn assert_dump_of(rt: &impl Abort, alloc: Global, body: &[u8], lines: &str, want
     let mut journal = begun_with(rt, alloc, body);
     deposit(rt, &mut journal, 0, lines);
     assert_dumped(rt, alloc, journal.into_disk(), "a", Ok(()), wanted);
+}
+
+/// What is dumped by a journal of version 1 of a deposit of these lines.
+fn assert_old_dump_of(rt: &impl Abort, alloc: Global, lines: &str, wanted: &str) {
+    let old = old_body(rt, alloc);
+    assert_dump_of(rt, alloc, old.as_bytes(), lines, wanted);
 }
 
 /// Elements and lists; of a deleted item nothing is left; and one that is refused.
@@ -102,8 +110,7 @@ fn puts_are_recorded(rt: HostRuntime) {
     let dump = r#"{"deposit":"oai:a:1","records":{"oai_dc":[["title","U"]]},"sets":[]}
 "#;
     assert_dump_of(&rt, alloc, element_body(), lines, dump);
-    let old = old_body(&rt, alloc);
-    assert_dump_of(&rt, alloc, old.as_bytes(), lines, "");
+    assert_old_dump_of(&rt, alloc, lines, "");
 }
 
 /// An element, which a journal of version 1 refuses as it was refused then, and a list.
@@ -123,19 +130,18 @@ fn journals_of_version_1_have_no_elements(rt: HostRuntime) {
     assert_dump_of(&rt, alloc, first_body(), lines_of_both(), element);
     let list = r#"{"deposit":"oai:a:2","records":{"oai_dc":[["title","T"]]},"sets":[]}
 "#;
-    let old = old_body(&rt, alloc);
-    assert_dump_of(&rt, alloc, old.as_bytes(), lines_of_both(), list);
+    assert_old_dump_of(&rt, alloc, lines_of_both(), list);
 }
 
-/// A start on a journal of version 1, with the configuration in the text, whose first record would have that body, makes these
-/// calls.
+/// A start on a journal of version 1, with the configuration in the text, whose first record would have that body,
+/// makes these calls.
 fn assert_calls(rt: &impl Abort, alloc: Global, body: &'static [u8], text: &[u8], calls: &str) {
     let mut place = MemoryPlace::new(alloc, 100).expect(rt, "place");
     place.other = Some(old_body(rt, alloc));
     place.body = body;
     let ended = served(&mut place, &Standing, text);
-    assert_eq!(rt; ended, Ok(Err(ServerStop::Common(Stop::SocketFault))));
-    assert_eq!(rt; place.calls.as_str(), calls);
+    assert_same(rt, ended, Ok(Err(ServerStop::Common(Stop::SocketFault))));
+    assert_same(rt, place.calls.as_str(), calls);
 }
 
 /// It is gone on with, and that is reported; with a format that has no fields the server goes on by a checkpoint.

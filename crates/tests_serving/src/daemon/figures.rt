@@ -1,9 +1,12 @@
 //! The figures of a server: the page that is answered, and the line that is reported each hour.
+use crate::assertions::assert_same;
 use crate::daemon::clocks::Standing;
 use crate::daemon::places::{MemoryPlace, configuration, received, served};
+use std::alloc::Global;
 use std::cell::Cell;
 use std::io;
 use std::panic::Expect;
+use std::process::Abort;
 use std::rt::Clock;
 use std::time::Duration;
 
@@ -81,14 +84,20 @@ oaihostd_page_cache_misses_total 0\n\
 HTTP/1.1 405 Method Not Allowed\r\nAllow: GET\r\nConnection: close\r\nContent-Length: 0\r\n\r\n"
 }
 
+/// What the client received.
+fn answered(rt: &impl Abort, alloc: Global) -> Vec<u8> {
+    let mut place = MemoryPlace::new(alloc, 100).expect(rt, "place");
+    place.rounds = 12;
+    place.sends = Some(SENT);
+    received(&mut place, &Standing, configuration()).expect(rt, "served")
+}
+
 /// Each message is counted, but those for the figures.
 #[test]
 fn page(rt: HostRuntime) {
-    let mut place = MemoryPlace::new(rt.alloc(), 100).expect(&rt, "place");
-    place.rounds = 12;
-    place.sends = Some(SENT);
-    let written = received(&mut place, &Standing, configuration()).expect(&rt, "served");
-    assert_eq!(&rt; str::from_utf8(&written), Ok(answers()));
+    let written = answered(&rt, rt.alloc());
+    let text = str::from_utf8(&written).expect(&rt, "from_utf8");
+    assert_same(&rt, text, answers());
 }
 
 /// A clock whose seconds since some moment gain 900 with each reading; the time stands.
@@ -109,26 +118,35 @@ impl Clock for Running {
     }
 }
 
-/// Each round reads the clock once, so it takes 900 seconds: the first line comes in the second, the second in the sixth.
-#[test]
-fn lines(rt: HostRuntime) {
+/// A place behind a service of nine rounds by that clock.
+fn served_place(rt: &impl Abort, alloc: Global) -> MemoryPlace {
     let clock = Running {
         shown: Cell::new(0),
     };
-    let mut place = MemoryPlace::new(rt.alloc(), 100).expect(&rt, "place");
+    let mut place = MemoryPlace::new(alloc, 100).expect(rt, "place");
     place.rounds = 9;
     drop(served(&mut place, &clock, configuration()));
-    assert_eq!(&rt;
+    place
+}
+
+/// Each round reads the clock once, so it takes 900 seconds: the first line comes in the second, the second in the
+/// sixth.
+#[test]
+fn lines(rt: HostRuntime) {
+    let place = served_place(&rt, rt.alloc());
+    assert_same(
+        &rt,
         place.calls.as_str(),
-        "lock listen find open pages recovered announce figures figures "
+        "lock listen find open pages recovered announce figures figures ",
     );
-    assert_eq!(&rt;
+    assert_same(
+        &rt,
         place.figures.as_str(),
         "up 1, start_time_seconds 1704067200, recovery_seconds 900, recovered_records 0, \
 checkpoint_time_seconds 1704067200, checkpoint_bytes 0, connections 0, connections_total 0, \
 requests_total{status=\"200\"} 0, requests_total{status=\"400\"} 0, requests_total{status=\"401\"} 0, \
 requests_total{status=\"404\"} 0, requests_total{status=\"405\"} 0, requests_total{status=\"415\"} 0, \
 requests_total{status=\"500\"} 0, requests_total{status=\"503\"} 0, journal_records 0, journal_bytes 331, \
-pages 0, page_cache_hits_total 0, page_cache_misses_total 0"
+pages 0, page_cache_hits_total 0, page_cache_misses_total 0",
     );
 }

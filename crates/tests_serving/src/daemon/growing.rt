@@ -1,4 +1,5 @@
 //! Journals to which a server writes while they are read, and damaged ones, verified and dumped.
+use crate::assertions::assert_same;
 use crate::daemon::dumps::{assert_dumped, begun, deposit};
 use oai_archive::{ServerStop, verify_journal};
 use sqlite_disk::{Disk, Tally};
@@ -7,7 +8,8 @@ use std::io::{self, ErrorKind};
 use std::panic::Expect;
 use std::process::Abort;
 
-/// A file to which a server writes while it is read: a reader that looks how long it is finds some of its bytes at first, and then all.
+/// A file to which a server writes while it is read: a reader that looks how long it is finds some of its bytes at
+/// first, and then all.
 #[derive(Drop)]
 struct Growing {
     bytes: Vec<u8>,
@@ -138,8 +140,14 @@ fn assert_verified(
 ) {
     let mut written = Vec::new(alloc);
     let done = verify_journal(alloc, file, &mut written);
-    assert_eq!(rt; done, wanted);
-    assert_eq!(rt; written.as_slice(), text.as_bytes());
+    assert_same(rt, done, wanted);
+    assert_same(rt, written.as_slice(), text.as_bytes());
+}
+
+/// What is dumped of the journal without so many bytes at first.
+fn assert_dump_shown(rt: &impl Abort, alloc: Global, hidden: usize, wanted: &str) {
+    let file = partly_shown(rt, alloc, hidden);
+    assert_dumped(rt, alloc, file, "a", Ok(()), wanted);
 }
 
 /// The second deposit is read, whose end is not found at first.
@@ -149,41 +157,45 @@ fn dump_beside_a_server(rt: HostRuntime) {
 {"deposit":"oai:a:2","records":{"oai_dc":[["title","T"]]},"sets":[]}
 "#;
     let alloc = rt.alloc();
-    assert_dumped(&rt, alloc, partly_shown(&rt, alloc, 0), "a", Ok(()), wanted);
-    assert_dumped(&rt, alloc, partly_shown(&rt, alloc, 5), "a", Ok(()), wanted);
+    assert_dump_shown(&rt, alloc, 0, wanted);
+    assert_dump_shown(&rt, alloc, 5, wanted);
+}
+
+/// Where the gate stands of a journal of so many deposits.
+fn gate_behind(rt: &impl Abort, alloc: Global, deposits: usize) -> usize {
+    bytes(rt, alloc, deposits).len().saturating_sub(1)
+}
+
+/// What is written where the journal is verified without so many bytes at first.
+fn assert_verified_shown(rt: &impl Abort, alloc: Global, hidden: usize, wanted: &str) {
+    let file = partly_shown(rt, alloc, hidden);
+    assert_verified(rt, alloc, file, Ok(()), wanted);
 }
 
 /// So too where it is verified.
 #[test]
 fn verify_beside_a_server(rt: HostRuntime) {
     let alloc = rt.alloc();
-    let end = bytes(&rt, alloc, 2).len().saturating_sub(1);
+    let end = gate_behind(&rt, alloc, 2);
     let wanted = format!(in alloc; "ok 2 {end}\n").expect(&rt, "memory");
-    assert_verified(
-        &rt,
-        alloc,
-        partly_shown(&rt, alloc, 0),
-        Ok(()),
-        wanted.as_str(),
-    );
-    assert_verified(
-        &rt,
-        alloc,
-        partly_shown(&rt, alloc, 5),
-        Ok(()),
-        wanted.as_str(),
-    );
+    assert_verified_shown(&rt, alloc, 0, wanted.as_str());
+    assert_verified_shown(&rt, alloc, 5, wanted.as_str());
 }
 
-/// A changed byte in the body of the last record, in its digest, and behind its body is damage at its gate, of which nothing is written.
+/// A journal whose byte so many before its end was changed is damaged at that gate, and nothing is written of it.
+fn assert_damaged(rt: &impl Abort, alloc: Global, before: usize, gate: usize) {
+    let file = changed(rt, alloc, before);
+    assert_verified(rt, alloc, file, Err(ServerStop::Damaged(gate)), "");
+    let file = changed(rt, alloc, before);
+    assert_dumped(rt, alloc, file, "a", Err(ServerStop::Damaged(gate)), "");
+}
+
+/// A changed byte in the body of the last record, in its digest, and behind its body is damage at its gate, of which
+/// nothing is written.
 #[test]
 fn damage(rt: HostRuntime) {
-    let alloc = rt.alloc();
-    let gate = bytes(&rt, alloc, 1).len().saturating_sub(1);
+    let gate = gate_behind(&rt, rt.alloc(), 1);
     for before in [2usize, 9, 80] {
-        let wanted = Err(ServerStop::Damaged(gate));
-        assert_verified(&rt, alloc, changed(&rt, alloc, before), wanted, "");
-        let wanted = Err(ServerStop::Damaged(gate));
-        assert_dumped(&rt, alloc, changed(&rt, alloc, before), "a", wanted, "");
+        assert_damaged(&rt, rt.alloc(), before, gate);
     }
 }

@@ -39,9 +39,10 @@ pub(crate) fn served<C: Clock>(
     clock: &C,
     text: &[u8],
 ) -> Result<Result<(), ServerStop>, ServerStop> {
-    let alloc = place.alloc();
-    let rings = Sequence::new(Vec::new(alloc));
-    outcome_of(serve(alloc, place, clock, written_in(alloc, text)?, rings))
+    match service(place, clock, text) {
+        Ok(service) => Ok(service.outcome),
+        Err(stop) => Err(stop),
+    }
 }
 
 /// What the client of that place received of a service of the configuration in the text, with no keys.
@@ -50,9 +51,29 @@ pub(crate) fn received<C: Clock>(
     clock: &C,
     text: &[u8],
 ) -> Result<Vec<u8>, ServerStop> {
+    match service(place, clock, text) {
+        Ok(service) => Ok(service.received),
+        Err(stop) => Err(stop),
+    }
+}
+
+/// A service that has ended: how, and what its client received.
+#[derive(Drop)]
+struct EndedService {
+    outcome: Result<(), ServerStop>,
+    received: Vec<u8>,
+}
+
+/// The service of the configuration in the text, with no keys.
+fn service<C: Clock>(
+    place: &mut MemoryPlace,
+    clock: &C,
+    text: &[u8],
+) -> Result<EndedService, ServerStop> {
     let alloc = place.alloc();
+    let written = written_in(alloc, text)?;
     let rings = Sequence::new(Vec::new(alloc));
-    received_of(serve(alloc, place, clock, written_in(alloc, text)?, rings))
+    service_of(serve(alloc, place, clock, written, rings))
 }
 
 /// The configuration in the text.
@@ -67,22 +88,15 @@ fn written_in(alloc: Global, text: &[u8]) -> Result<WrittenConfig, ServerStop> {
     }
 }
 
-/// What the client received of that service, or why it did not begin.
-fn received_of<S: Drop, K: OneClient + Drop, H: Drop>(
+/// The service that has ended, or why it did not begin.
+fn service_of<S: Drop, K: OneClient + Drop, H: Drop>(
     ended: Result<Ended<S, K, H>, ServerStop>,
-) -> Result<Vec<u8>, ServerStop> {
+) -> Result<EndedService, ServerStop> {
     match ended {
-        Ok(ended) => Ok(ended.port.into_received()),
-        Err(stop) => Err(stop),
-    }
-}
-
-/// How the service ended, or why it did not begin.
-fn outcome_of<S: Drop, K: Drop, H: Drop>(
-    ended: Result<Ended<S, K, H>, ServerStop>,
-) -> Result<Result<(), ServerStop>, ServerStop> {
-    match ended {
-        Ok(ended) => Ok(ended.outcome()),
+        Ok(ended) => Ok(EndedService {
+            outcome: ended.outcome(),
+            received: ended.port.into_received(),
+        }),
         Err(stop) => Err(stop),
     }
 }
@@ -137,7 +151,7 @@ impl MemoryPlace {
     }
 
     /// Where its memory comes from.
-    pub(crate) fn alloc(&self) -> Global {
+    fn alloc(&self) -> Global {
         self.alloc
     }
 
@@ -370,10 +384,14 @@ impl<K: Journal> Folder<K> for NoFolder {
     fn discard(&mut self) {}
 
     fn tell(&mut self, _note: CheckpointNote) {}
+
+    fn clock(&self) -> Duration {
+        Duration::ZERO
+    }
 }
 
-/// A port at which one client comes, or nobody, and that can be waited for so often. Each wait reports that the client's
-/// stream can be read and written, and that it ended its side.
+/// A port at which one client comes, or nobody, and that can be waited for so often. Each wait reports that the
+/// client's stream can be read and written, and that it ended its side.
 #[derive(Drop)]
 pub(crate) struct Quiet {
     alloc: Global,

@@ -1,6 +1,7 @@
 //! The order of the steps at startup, and where startup stops.
+use crate::assertions::assert_same;
 use crate::daemon::clocks::Standing;
-use crate::daemon::places::{MemoryPlace, configuration, served};
+use crate::daemon::places::{MemoryPlace, configuration, first_body, served};
 use oai_archive::{Aspect, Difference, ServerStop};
 use oai_journal::Kind;
 use oai_startup::Stop;
@@ -19,8 +20,15 @@ fn assert_start(rt: &impl Abort, place: &mut MemoryPlace, wanted: ServerStop, ca
         Ok(ended) => ended,
         Err(stop) => Err(stop),
     };
-    assert_eq!(rt; stop, Err(wanted));
-    assert_eq!(rt; place.calls.as_str(), calls);
+    assert_same(rt, stop, Err(wanted));
+    assert_same(rt, place.calls.as_str(), calls);
+}
+
+/// A start with a journal, or without one, goes so far that the server waits, which fails.
+fn assert_waits(rt: &impl Abort, alloc: Global, found: bool, calls: &str) {
+    let mut place = MemoryPlace::new(alloc, 100).expect(rt, "place");
+    place.found = found;
+    assert_start(rt, &mut place, ServerStop::Common(Stop::SocketFault), calls);
 }
 
 /// How many calls were made.
@@ -36,47 +44,37 @@ fn calls(place: &MemoryPlace) -> usize {
 /// With and without a journal, all is done in order; then the server waits, which fails here.
 #[test]
 fn starts(rt: HostRuntime) {
-    let mut place = MemoryPlace::new(rt.alloc(), 100).expect(&rt, "place");
-    assert_start(
-        &rt,
-        &mut place,
-        ServerStop::Common(Stop::SocketFault),
-        FOUND,
-    );
-    let mut place = MemoryPlace::new(rt.alloc(), 100).expect(&rt, "place");
-    place.found = false;
-    assert_start(
-        &rt,
-        &mut place,
-        ServerStop::Common(Stop::SocketFault),
-        BEGUN,
-    );
+    assert_waits(&rt, rt.alloc(), true, FOUND);
+    assert_waits(&rt, rt.alloc(), false, BEGUN);
 }
 
-/// A journal of version 1 that is long is replayed, and replaced by a checkpoint, which is replayed in turn; but not where
-/// a list may be open.
+/// A journal of version 1 that is long is replayed, and replaced by a checkpoint, which is replayed in turn; but not
+/// where a list may be open.
 #[test]
 fn long_journals_of_version_1(rt: HostRuntime) {
     let replaced =
         "lock listen find open pages recovered begin begun pages recovered keep announce ";
     let goes_on = "lock listen find open pages recovered old announce ";
-    assert_long(&rt, rt.alloc(), Some("1"), Kind::Tick, replaced);
-    assert_long(&rt, rt.alloc(), Some("1"), Kind::Oai, goes_on);
+    assert_long(&rt, rt.alloc(), "1", Kind::Tick, replaced);
+    assert_long(&rt, rt.alloc(), "1", Kind::Oai, goes_on);
 }
 
 /// One of version 2 is served as it is.
 #[test]
 fn long_journal(rt: HostRuntime) {
-    assert_long(&rt, rt.alloc(), None, Kind::Tick, FOUND);
+    assert_long(&rt, rt.alloc(), "2", Kind::Tick, FOUND);
+}
+
+/// The configuration behind that version, as the first record of a journal has it.
+fn body_with(rt: &impl Abort, alloc: Global, version: &str) -> String {
+    let text = std::str::from_utf8(configuration()).expect(rt, "from_utf8");
+    format!(in alloc; "{version}\n{text}").expect(rt, "memory")
 }
 
 /// A start on a journal of that version with long records of that kind makes these calls.
-fn assert_long(rt: &impl Abort, alloc: Global, version: Option<&str>, kind: Kind, calls: &str) {
+fn assert_long(rt: &impl Abort, alloc: Global, version: &str, kind: Kind, calls: &str) {
     let mut place = MemoryPlace::new(alloc, 100).expect(rt, "place");
-    if let Some(version) = version {
-        let text = std::str::from_utf8(configuration()).expect(rt, "from_utf8");
-        place.other = Some(format!(in alloc; "{version}\n{text}").expect(rt, "memory"));
-    }
+    place.other = Some(body_with(rt, alloc, version));
     place.long = Some(kind);
     assert_start(rt, &mut place, ServerStop::Common(Stop::SocketFault), calls);
 }
@@ -91,42 +89,58 @@ fn begun_journal_has_a_record(rt: HostRuntime) {
     assert_start(&rt, &mut place, ServerStop::CannotWrite, calls);
 }
 
+/// A fault of the call behind so many ends a start without a journal there.
+fn assert_fault(rt: &impl Abort, alloc: Global, count: u32) {
+    let mut place = MemoryPlace::new(alloc, count).expect(rt, "place");
+    place.found = false;
+    let stop = served(&mut place, &Standing, configuration());
+    assert_same(rt, stop, Err(ServerStop::Common(Stop::DeviceFault)));
+    assert!(rt; BEGUN.starts_with(place.calls.as_str()));
+    assert_same(rt, calls(&place), (count as usize).wrapping_add(1));
+}
+
 /// A fault at any step ends a start there, but one of a report.
 #[test]
 fn faults_at_each_step(rt: HostRuntime) {
     for count in [0u32, 1, 2, 3, 4, 5, 7, 8] {
-        let mut place = MemoryPlace::new(rt.alloc(), count).expect(&rt, "place");
-        place.found = false;
-        let stop = served(&mut place, &Standing, configuration());
-        assert_eq!(&rt; stop, Err(ServerStop::Common(Stop::DeviceFault)));
-        assert!(&rt; BEGUN.starts_with(place.calls.as_str()));
-        assert_eq!(&rt; calls(&place), count as usize + 1);
+        assert_fault(&rt, rt.alloc(), count);
     }
+}
+
+/// A start on a journal whose first record has that name and body stops so, once it is opened.
+fn assert_not_read(
+    rt: &impl Abort,
+    alloc: Global,
+    name: &'static [u8],
+    body: &'static [u8],
+    wanted: ServerStop,
+) {
+    let mut place = MemoryPlace::new(alloc, 100).expect(rt, "place");
+    place.name = name;
+    place.body = body;
+    assert_start(rt, &mut place, wanted, "lock listen find open ");
 }
 
 /// Another program, another version.
 #[test]
 fn other_journals(rt: HostRuntime) {
-    let begun = "lock listen find open ";
-    let mut place = MemoryPlace::new(rt.alloc(), 100).expect(&rt, "place");
-    place.name = b"other";
-    assert_start(&rt, &mut place, ServerStop::NotOurs, begun);
-    let mut place = MemoryPlace::new(rt.alloc(), 100).expect(&rt, "place");
-    place.body = b"3\n{}";
-    assert_start(&rt, &mut place, ServerStop::OfVersion(3), begun);
-    let mut place = MemoryPlace::new(rt.alloc(), 100).expect(&rt, "place");
-    place.body = b"{}";
-    assert_start(&rt, &mut place, ServerStop::NotOurs, begun);
+    let alloc = rt.alloc();
+    let ours = b"oaihostd";
+    assert_not_read(&rt, alloc, b"other", first_body(), ServerStop::NotOurs);
+    assert_not_read(&rt, alloc, ours, b"3\n{}", ServerStop::OfVersion(3));
+    assert_not_read(&rt, alloc, ours, b"{}", ServerStop::NotOurs);
 }
 
-/// A journal of a configuration whose repository has that name, that number of pages in the cache, granularity and title.
+/// A journal of a configuration whose repository has that name, that number of pages in the cache, granularity and
+/// title.
 fn body_of(
+    rt: &impl Abort,
     alloc: Global,
     name: &str,
     cache: u32,
     granularity: &str,
     title: &str,
-) -> Option<String> {
+) -> String {
     let earliest = if granularity == "days" {
         "2024-01-01"
     } else {
@@ -134,77 +148,49 @@ fn body_of(
     };
     let first = format!(in alloc;
         "2\n{{\"cache\": {cache}, \"base\":\"http://host.example\",\"repositories\":[{{\"name\":\"{name}\","
-    ).ok()?;
+    ).expect(rt, "memory");
     let second = format!(in alloc;
-        "{first}\"repositoryName\":\"{title}\",\"adminEmail\":[\"a@host.example\"],"
-    ).ok()?;
-    let third = format!(in alloc;
-        "{second}\"earliestDatestamp\":\"{earliest}\",\"deletedRecord\":\"persistent\","
-    ).ok()?;
+        "\"repositoryName\":\"{title}\",\"adminEmail\":[\"a@host.example\"],\"earliestDatestamp\":\"{earliest}\","
+    ).expect(rt, "memory");
     format!(in alloc;
-        "{third}\"granularity\":\"{granularity}\",\"chunk\":2,\"lifetime\":60,\"lists\":1,\"items\":100,\"formats\":[]}}]}}"
-    ).ok()
+        "{first}{second}\"deletedRecord\":\"persistent\",\"granularity\":\"{granularity}\",\"chunk\":2,\"lifetime\":60,\"lists\":1,\"items\":100,\"formats\":[]}}]}}"
+    ).expect(rt, "memory")
 }
 
-/// A start on a journal of that configuration ends so, behind these calls.
-fn assert_other(
-    rt: &impl Abort,
-    alloc: Global,
-    body: Option<String>,
-    wanted: ServerStop,
-    calls: &str,
-) {
-    let body = body.expect(rt, "memory");
+/// A start on a journal of that body ends so, behind these calls.
+fn assert_other(rt: &impl Abort, alloc: Global, body: String, wanted: ServerStop, calls: &str) {
     let mut place = MemoryPlace::new(alloc, 100).expect(rt, "place");
     place.other = Some(body);
     assert_start(rt, &mut place, wanted, calls);
 }
 
-/// That the server cannot go on with another aspect of the repository.
-fn differs(alloc: Global, repository: &str, aspect: Aspect) -> Option<ServerStop> {
-    let repository = String::from_str(alloc, repository).ok()?;
-    Some(ServerStop::OtherConfig(Difference { repository, aspect }))
+/// A start on a journal of a repository `a` with that cache and title makes these calls, and waits.
+fn assert_goes_on(rt: &impl Abort, alloc: Global, cache: u32, title: &str, calls: &str) {
+    let body = body_of(rt, alloc, "a", cache, "seconds", title);
+    let waits = ServerStop::Common(Stop::SocketFault);
+    assert_other(rt, alloc, body, waits, calls);
 }
 
-/// Another order of members and another cache are the same configuration; with another name for people the server goes on by a checkpoint; and
-/// with a repository that is missing, or has another granularity, it does not.
+/// A start on a journal of a repository with that name and granularity stops: the server cannot go on with another
+/// aspect of it.
+fn assert_differs(rt: &impl Abort, alloc: Global, name: &str, granularity: &str, aspect: Aspect) {
+    let body = body_of(rt, alloc, name, 1, granularity, "A");
+    let repository = String::from_str(alloc, name).expect(rt, "memory");
+    let stop = ServerStop::OtherConfig(Difference { repository, aspect });
+    assert_other(rt, alloc, body, stop, "lock listen find open ");
+}
+
+/// Another order of members and another cache are the same configuration; with another name for people the server goes
+/// on by a checkpoint; and with a repository that is missing, or has another granularity, it does not.
 #[test]
 fn other_configurations(rt: HostRuntime) {
     let alloc = rt.alloc();
-    let waits = ServerStop::Common(Stop::SocketFault);
-    assert_other(
-        &rt,
-        alloc,
-        body_of(alloc, "a", 7, "seconds", "A"),
-        waits,
-        FOUND,
-    );
-    let waits = ServerStop::Common(Stop::SocketFault);
+    assert_goes_on(&rt, alloc, 7, "A", FOUND);
     let by_a_checkpoint =
         "lock listen find open pages recovered begin begun pages recovered keep other announce ";
-    assert_other(
-        &rt,
-        alloc,
-        body_of(alloc, "a", 1, "seconds", "B"),
-        waits,
-        by_a_checkpoint,
-    );
-    let stop = differs(alloc, "b", Aspect::Name).expect(&rt, "memory");
-    assert_other(
-        &rt,
-        alloc,
-        body_of(alloc, "b", 1, "seconds", "A"),
-        stop,
-        "lock listen find open ",
-    );
-    let stop = differs(alloc, "a", Aspect::Granularity).expect(&rt, "memory");
-    assert_other(
-        &rt,
-        alloc,
-        body_of(alloc, "a", 1, "days", "A"),
-        stop,
-        "lock listen find open ",
-    );
+    assert_goes_on(&rt, alloc, 1, "B", by_a_checkpoint);
+    assert_differs(&rt, alloc, "b", "seconds", Aspect::Name);
+    assert_differs(&rt, alloc, "a", "days", Aspect::Granularity);
 }
 
 /// A configuration that is none stops it before anything is opened.
@@ -216,5 +202,5 @@ fn no_configuration(rt: HostRuntime) {
         Err(ServerStop::Common(Stop::BadConfig(_))) => {}
         _ => assert!(&rt; false),
     }
-    assert_eq!(&rt; place.calls.as_str(), "");
+    assert_same(&rt, place.calls.as_str(), "");
 }

@@ -1,4 +1,5 @@
 //! What a server says where it stops, and with which status.
+use crate::assertions::assert_same;
 use oai_archive::{Aspect, Difference, ServerStop};
 use oai_item::Fault;
 use oai_recovery::Notice;
@@ -10,16 +11,14 @@ use std::process::Abort;
 
 /// The value is shown so.
 fn assert_shown<T: Display + Drop>(rt: &impl Abort, alloc: Global, value: &T, wanted: &str) {
-    assert_eq!(rt;
-        value.to_string(alloc).expect(rt, "memory").as_str(),
-        wanted
-    );
+    let shown = value.to_string(alloc).expect(rt, "memory");
+    assert_same(rt, shown.as_str(), wanted);
 }
 
 /// The stop has that text and that status.
 fn assert_stop(rt: &impl Abort, alloc: Global, stop: ServerStop, text: &str, status: u8) {
     assert_shown(rt, alloc, &stop, text);
-    assert_eq!(rt; stop.status(), status);
+    assert_same(rt, stop.status(), status);
 }
 
 #[test]
