@@ -24,6 +24,27 @@ LINES = [
 ]
 
 
+def order_of(folder, calls):
+    """Says where the calls come in another order than they should, up to the one that opens the journal once more."""
+    new, old = f"{folder}/journal.new", f"{folder}/journal"
+    syncs = ("fsync", "fdatasync")
+
+    def last(names, text, before=len(calls)):
+        places = [at for at, (name, rest) in enumerate(calls) if at < before and name in names and text in rest]
+        return places[-1] if places else -1
+
+    renamed = last(("rename", "renameat", "renameat2"), f'"{new}"')
+    written = last(("write", "pwrite64", "ftruncate"), f"<{new}>")
+    synced = last(syncs, f"<{new}>", renamed)
+    opened = next((at for at, (_, rest) in enumerate(calls) if at > renamed and f'"{old}"' in rest), len(calls))
+    kept = last(syncs, f"<{folder}>", opened)
+    if not 0 <= written < synced < renamed < kept:
+        yield f"written at {written}, synced at {synced}, renamed at {renamed}, the folder synced at {kept}"
+    for name, rest in calls[:renamed]:
+        if f'"{old}"' in rest and (name.startswith("unlink") or "O_TRUNC" in rest):
+            yield f"the journal of before: {name}({rest}"
+
+
 class Checkpoints:
     """A program, a folder with a journal, and what of it is compared."""
 
@@ -79,26 +100,6 @@ class Checkpoints:
             found = [CALL.match(line) for line in trace]
         return [(call[2], call[3]) for call in found if call]
 
-    def look_at_order(self, folder, calls):
-        """Says where the calls come in another order than they should, up to the one that opens the journal once more."""
-        new, old = f"{folder}/journal.new", f"{folder}/journal"
-        syncs = ("fsync", "fdatasync")
-
-        def last(names, text, before=len(calls)):
-            places = [at for at, (name, rest) in enumerate(calls) if at < before and name in names and text in rest]
-            return places[-1] if places else -1
-
-        renamed = last(("rename", "renameat", "renameat2"), f'"{new}"')
-        written = last(("write", "pwrite64", "ftruncate"), f"<{new}>")
-        synced = last(syncs, f"<{new}>", renamed)
-        opened = next((at for at, (_, rest) in enumerate(calls) if at > renamed and f'"{old}"' in rest), len(calls))
-        kept = last(syncs, f"<{folder}>", opened)
-        if not 0 <= written < synced < renamed < kept:
-            self.differ(f"written at {written}, synced at {synced}, renamed at {renamed}, the folder synced at {kept}")
-        for name, rest in calls[:renamed]:
-            if f'"{old}"' in rest and (name.startswith("unlink") or "O_TRUNC" in rest):
-                self.differ(f"the journal of before: {name}({rest}")
-
     def records(self, folder):
         """The records of the journal there, its first one apart, and how many bytes it has of them; None where it is none."""
         try:
@@ -141,7 +142,8 @@ class Checkpoints:
         dumps = self.dumps(self.folder)
         whole = self.copy("whole")
         calls = self.calls(whole)
-        self.look_at_order(whole, calls)
+        for what in order_of(whole, calls):
+            self.differ(what)
         checkpoint = self.records(whole)
         first = next(at for at, (_, rest) in enumerate(calls) if f'"{whole}/journal.new"' in rest)
         olds = []

@@ -18,10 +18,16 @@ from oai.servers import Process, Server
 
 def by_wrk(port, target, clients, seconds, scheme="http"):
     """Answers a second, where each of the clients asks again once it is answered."""
+    return answers_and_waits(port, target, clients, seconds, scheme)[0]
+
+
+def answers_and_waits(port, target, clients, seconds, scheme="http"):
+    """The same, and how long an answer took: at the median, at the 99th of 100, and at most, as wrk writes it."""
     threads = "1" if clients == 1 else "2"
-    command = ["wrk", f"-t{threads}", f"-c{clients}", f"-d{seconds}", f"{scheme}://127.0.0.1:{port}{target}"]
+    command = ["wrk", "--latency", f"-t{threads}", f"-c{clients}", f"-d{seconds}", f"{scheme}://127.0.0.1:{port}{target}"]
     said = subprocess.run(command, capture_output=True, text=True, check=True).stdout
-    return float(re.search(r"Requests/sec:\s+([\d.]+)", said)[1])
+    waits = [re.search(rf"^ +{it}\s+(\S+)", said, re.MULTILINE)[1] for it in ("50%", "99%", r"Latency\s+\S+\s+\S+")]
+    return float(re.search(r"Requests/sec:\s+([\d.]+)", said)[1]), waits
 
 
 class Others:

@@ -39,6 +39,8 @@ GROUPS = {
     "What goes wrong around them": {
         "kill": "kill",
         "checkpoint-kills": "checkpoint_kills",
+        "switch-kills": "switch_kills",
+        "open-list": "beside",
         "full-disk": "disks",
         "daemon-full-disk": "disks",
         "idle-clients": "idle",

@@ -45,8 +45,8 @@ APART = re.compile(r"^(?:fn|enum|struct|trait|impl|help|warning|statements|crate
 # What a check says of a definition that the edit made one that cannot be read: then nothing was tried.
 OF_SPECS = re.compile(r"^(?:\./)?specs/\S+: error: ", re.M)
 
-# The line of an edit that names the crate of tests that refuses it, where no clause does.
-BY_TESTS = re.compile(r"^refused: by (tests_\w+)$", re.M)
+# The line of an edit that names the crate of tests or the script that refuses it, where no clause does.
+BY_TESTS = re.compile(r"^refused: by (tests_\w+|scripts/run [\w-]+)$", re.M)
 
 # What is reported of a mutant that a check judged.
 REFUSED, NAMED, TESTED, PROVED = "refused", "only named", "proved: refused by its tests alone", "NOT REFUSED"
