@@ -9,8 +9,6 @@ mod archives;
 #[cfg(test)]
 mod assertions;
 #[cfg(test)]
-mod checkpointed;
-#[cfg(test)]
 mod checkpoints;
 #[cfg(test)]
 mod connections;
