@@ -29,8 +29,7 @@ class Life:
 
     def __init__(self, config, folder):
         self.config, self.folder = config, folder
-        self.stamps, self.unanswered = {}, None
-        self.listed, self.tokens, self.wanted = [], [], []
+        self.stamps, self.listed, self.tokens, self.wanted = {}, [], [], []
 
     def start(self, front=()):
         behind = ("--checkpoint-after", str(AFTER))
@@ -40,12 +39,9 @@ class Life:
         """Deposits an item, and notes its datestamp."""
         identifier = f"oai:a:{number:03}"
         line = {"deposit": identifier, "sets": [], "records": {"oai_dc": [["title", "t" * 200]]}}
-        self.unanswered = identifier
         status, said = exchange(connection, "/deposit/a", json.dumps(line))
         if status == 200 and said.startswith("ok "):
             self.stamps[identifier] = said.split()[1]
-            self.unanswered = None
-        return status
 
     def ask(self, connection, query):
         """Asks for a part of the list, and notes what it has and the token of the next one; whether there is a next one."""
@@ -120,7 +116,7 @@ class Switches:
         return Life(self.config, f"{self.top}/{self.number}")
 
     def calls(self):
-        """The calls of a server that is left in peace, as pairs of a name and the rest of the line, from the one that begins a checkpoint on."""
+        """The calls of a server that is left in peace, as pairs of a name and the rest of the line; and the place of the one that creates its journal."""
         life, path = self.life(), f"{self.top}/trace"
         server = life.start(front=["strace", "-f", "-y", "-e", f"trace={','.join(CALLS)}", "-o", path])
         replaced = life.live(server)
@@ -178,8 +174,8 @@ def switch_kills():
     """Kills a server at each of its system calls while it writes a checkpoint, and lets each of them fail.
 
     A client deposits items, begins a list, and deposits more until a checkpoint has taken the place of the journal; then
-    it asks for the second part of the list, and deposits once more. From the checkpoint's beginning on the server is
-    killed at each system call that it makes on files, in turn; then each of these fails, with EIO, but for `close`.
+    it asks for the second part of the list, and deposits once more. From where it creates its journal the server is
+    killed at each system call that it makes on files, in turn; and each of these fails, with EIO, but for `close`.
     Behind each another server has each item that was acknowledged, with its datestamp, the parts of the list that were
     given, and all others up to its end; and no new journal is left. And of a server that is left in peace: the new file
     is synced behind its last write, only then renamed, then the folder is synced, and the journal of before is never
