@@ -1,3 +1,4 @@
 pub mod Device
+pub mod HeldBytes
 pub mod PageFile
 pub mod Written

@@ -1,13 +1,14 @@
 -- Records that an item holds as the bytes of their spelling.
-use Rattle.std.proofs.Common.{◌≡◌, ◌∙◌, ◌+◌, ◌≤◌, ℕ, true, List, [], ◌++◌, length, take, drop, Ok, sym, ap, subst, arith}
+use Rattle.std.proofs.Common.{◌≡◌, ◌∙◌, ◌+◌, ◌≤◌, ℕ, true, List, [], ◌++◌, length, take, drop, ◌-◌, Ok, refl, sym, ap, subst, arith}
 use Rattle.std.specs.List.{list_all}
-use Rattle.std.proofs.lemmas.List.{append-nil, drop_all, take_at}
-use Rattle.oai_item.specs.Encoding.{IsMeasure, Spells, encoded_list, encoded_record, encoded_text, is_text_record}
+use Rattle.std.proofs.lemmas.List.{append-nil, drop_all, drop_at, length-append, length-drop, length-take-le, take_all, take_at}
+use Rattle.oai_item.specs.Encoding.{IsMeasure, Spells, encoded, encoded_list, encoded_record, encoded_text, is_text_record}
 use Rattle.oai_item.specs.Held.{AreWhole, records_in}
 use Rattle.oai_item.specs.Item.{ItemState, Metadata, are_prefixed}
 use Rattle.oai_item.specs.declared.sizes.TheConstants.{MAX_ITEM_BYTES}
 use Rattle.oai_item.specs.SpellingParts.{Stands, Writes, are_records}
 use Rattle.oai_item.specs.Walks.{is_record}
+use Rattle.oai_device.proofs.HeldLemmas.{part_of_part}
 use Rattle.oai_item.proofs.Placed.{few_left}
 use Rattle.oai_item.proofs.ReadBack.{records_back}
 use Rattle.oai_item.proofs.Spelled.{all_so, parts_spelled, records_from, text_record_from}
@@ -62,3 +63,47 @@ records_written formats old new items bytes n size len prefixed texts measure lo
     let size_is : length new ≡ length piece = ap length is in
     let whole : bytes ≡ piece = same ∙ take_at new (drop (length new) items) len (omega (arith, measure.0)) ∙ is in
     records_whole formats bytes whole (subst (λ m. m ≤ MAX_ITEM_BYTES) (sym (ap length whole)) few) (records_from formats prefixed texts)
+
+-- the end of bytes that spell an item, as long as its records' spelling, is that
+pub record IsEnd (piece bytes : List ℕ) : Type 0 where
+  pub few : length piece ≤ length bytes
+  pub end : take (length piece) (drop (length bytes - length piece) bytes) ≡ piece
+
+end_is : (front piece bytes : List ℕ) → bytes ≡ front ++ piece → IsEnd piece bytes
+end_is front piece bytes is =
+    let long : length bytes ≡ length front + length piece = ap length is ∙ length-append front piece in
+    let place : length bytes - length piece ≡ length front = omega (arith, long) in
+    record {
+      few = omega (arith, long);
+      end = ap (λ (n : ℕ). take (length piece) (drop n bytes)) place
+          ∙ ap (λ (b : List ℕ). take (length piece) (drop (length front) b)) is
+          ∙ ap (take (length piece)) (drop_at front piece (length front) refl)
+          ∙ take_all (length piece) piece (omega arith);
+    }
+
+pub records_are_end : (bytes : List ℕ) (item : ItemState) → Spells bytes item → IsEnd (encoded_list encoded_record item.formats) bytes
+unfolding encoded
+records_are_end bytes item s = end_is _ (encoded_list encoded_record item.formats) bytes s.spelling
+
+-- where bytes from one place to another spell an item, the end of them, as long as its records' spelling, is that
+pub record IsRecordsEnd (piece bytes : List ℕ) (to : ℕ) : Type 0 where
+  pub few : length piece ≤ to
+  pub within : to - length piece + length piece ≤ length bytes
+  pub is : take (length piece) (drop (to - length piece) bytes) ≡ piece
+
+pub records_at_end : (bytes : List ℕ) (from to : ℕ) (item : ItemState) → from ≤ to → to ≤ length bytes → Spells (take (to - from) (drop from bytes)) item
+    → IsRecordsEnd (encoded_list encoded_record item.formats) bytes to
+records_at_end bytes from to item order within s =
+    let text : List ℕ = take (to - from) (drop from bytes) in
+    let piece : List ℕ = encoded_list encoded_record item.formats in
+    let long : length text ≡ to - from = length-take-le (to - from) (drop from bytes) (omega (arith, length-drop from bytes)) in
+    let e : IsEnd piece text = records_are_end text item s in
+    let few : length piece ≤ length text = e.few in
+    let place : from + (length text - length piece) ≡ to - length piece = omega (arith, long, few) in
+    record {
+      few = omega (arith, long, few);
+      within = omega (arith, long, few);
+      is = ap (λ (n : ℕ). take (length piece) (drop n bytes)) (sym place)
+          ∙ part_of_part bytes from (to - from) (length text - length piece) (length piece) (omega (arith, few))
+          ∙ e.end;
+    }

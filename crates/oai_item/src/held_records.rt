@@ -1,4 +1,4 @@
-//! The records that an item owns: each allocated, or all of them encoded in one buffer.
+//! The records of an item: each allocated, or all of them encoded.
 
 ghost use Rattle.std.specs.Prelude.{◌≡◌, ◌<◌, ◌≤◌, ◌+◌, true, length, IfOk, MatchOption};
 ghost use Rattle.std.specs.List.{list_all};
@@ -13,6 +13,7 @@ use crate::fields::Field;
 use crate::fronts::first_records;
 use crate::item_records::ItemRecords;
 use crate::sizes::{MAX_ITEM_BYTES, TooLarge, plus, with_records};
+use oai_device::HeldBytes;
 use oai_names::{Prefix, Sequence, Text};
 use std::alloc::{AllocError, Global};
 use std::marker::Model;
@@ -23,8 +24,8 @@ enum Held {
     /// Each allocated: those of an item that was made from its parts, those of a tombstone, and those of a deposit that
     /// have too many bytes to be encoded.
     Typed(Sequence<(Prefix, Sequence<Field>)>),
-    /// Encoded in one buffer: those of a deposit, and those of an item that was read from a store.
-    Spelled(Sequence<u8>),
+    /// Encoded: those of a deposit, and those of an item that was read from a store.
+    Spelled(HeldBytes),
 }
 
 /// The records of an item.
@@ -62,8 +63,18 @@ impl HeldRecords {
         ensures { IfOk result (λ records. records ≡ records_in bytes.now) }
     {
         Ok(HeldRecords {
-            held: Held::Spelled(copy_bytes(alloc, bytes)?),
+            held: Held::Spelled(HeldBytes::copied(alloc, bytes)?),
         })
+    }
+
+    /// The records that the bytes, all of them, encode. Allocates nothing.
+    pub(crate) fn held(bytes: HeldBytes) -> HeldRecords
+        requires { AreWhole bytes }
+        ensures { result ≡ records_in bytes }
+    {
+        HeldRecords {
+            held: Held::Spelled(bytes),
+        }
     }
 
     /// These records of a deposit, each under a prefix, encoded in one buffer; None if they have more bytes than an
@@ -83,7 +94,7 @@ impl HeldRecords {
         let mut bytes = Vec::from_elem(alloc, 0u8, size)?;
         put_records(&mut bytes[..], records);
         Ok(Some(HeldRecords {
-            held: Held::Spelled(Sequence::new(bytes)),
+            held: Held::Spelled(HeldBytes::own(bytes)),
         }))
     }
 
@@ -131,13 +142,4 @@ impl HeldRecords {
             Held::Spelled(bytes) => put_bytes(out, bytes.as_slice()),
         }
     }
-}
-
-/// A copy of the bytes. The error is out of memory.
-fn copy_bytes(alloc: Global, bytes: &[u8]) -> Result<Sequence<u8>, AllocError>
-    ensures { IfOk result (λ copy. copy ≡ bytes.now) }
-{
-    let mut copy = Vec::with_capacity(alloc, bytes.len())?;
-    copy.extend_from_slice(bytes)?;
-    Ok(Sequence::new(copy))
 }

@@ -2,7 +2,7 @@
 
 ghost use Rattle.std.specs.Prelude.{◌≡◌, ◌≤◌, ◌&&◌, ℕ, List, Some, IfOk, IsSome, OnErr, is_some, length};
 ghost use Rattle.oai_item.specs.Decoding.{IsReadInPlace, item_in};
-ghost use Rattle.oai_item.specs.Encoding.{Spells, encoded};
+ghost use Rattle.oai_item.specs.Encoding.{Spells, encoded, encoded_list, encoded_record};
 ghost use Rattle.oai_item.specs.Held.{AreWhole, records_in};
 ghost use Rattle.oai_item.specs.Item.{IsItem, ItemState, are_rising, has_record, have_no_fields, may_be_records};
 ghost use Rattle.oai_item.specs.Items as items;
@@ -128,6 +128,7 @@ impl<'a> Spelling<'a> {
     pub(crate) fn records_bytes(&self) -> &'a [u8]
         ensures spelled { AreWhole result.now }
         ensures records { records_in result.now ≡ self.now.formats }
+        ensures end { result.now ≡ encoded_list encoded_record self.now.formats }
     {
         let (_, rest) = first_sets(self.rest);
         rest

@@ -1,6 +1,7 @@
-ghost use Rattle.std.specs.Prelude.{◌≡◌, ◌≢◌, ◌≤◌, ℕ, List, [], true, length, take, Result, IfOk};
+ghost use Rattle.std.specs.Prelude.{◌≡◌, ◌≢◌, ◌≤◌, ◌-◌, ℕ, List, [], Some, true, length, take, drop, Result, IfOk, IsSome};
 ghost use Rattle.std.specs.List.{list_all};
 ghost use Rattle.std.specs.Option.{option_map};
+ghost use Rattle.oai_item.specs.Decoding.{item_in};
 ghost use Rattle.oai_item.specs.Encoding.{GivesBack, IsDecoding, IsEncoding, IsMeasure, Spells, encoded};
 ghost use Rattle.oai_item.specs.declared.decodings.DecodeFault.{DecodeFault};
 ghost use Rattle.oai_item.specs.declared.sizes.TheConstants.{MAX_ITEM_BYTES};
@@ -16,6 +17,7 @@ use crate::in_place::Spelling;
 use crate::item_records::{Fields, ItemRecords};
 use crate::reductions::reduced;
 use crate::sizes::{TooLarge, with_sets, with_text};
+use oai_device::HeldBytes;
 use oai_names::{Identifier, Prefix, Sequence, SetSpec};
 use std::alloc::{AllocError, Global};
 use std::marker::Model;
@@ -233,12 +235,44 @@ impl Item {
     pub fn spelled(alloc: Global, spelling: &Spelling<'_>) -> Result<Item, AllocError>
         ensures { IfOk result (λ item. item ≡ spelling.now) }
     {
+        let records = HeldRecords::spelled(alloc, spelling.records_bytes())?;
+        Item::with_records(alloc, spelling, records)
+    }
+
+    /// The item that the bytes from byte `from` to byte `to` encode, as `is_spelling` says of them. Its records are not
+    /// copied if the bytes are those of a page, which then stays in memory with the item. The error is out of memory.
+    pub fn held(
+        alloc: Global,
+        bytes: &HeldBytes,
+        from: usize,
+        to: usize,
+    ) -> Result<Item, AllocError>
+        requires order { from ≤ to }
+        requires within { to ≤ length bytes.now }
+        requires item { IsSome (item_in (take (to - from) (drop from bytes.now))) }
+        ensures { IfOk result (λ item. item_in (take (to - from) (drop from bytes.now)) ≡ Some item) }
+    {
+        let spelling = Spelling::new(&bytes.as_slice()[from..to]);
+        let size = spelling.records_bytes().len();
+        let records = HeldRecords::held(bytes.part(alloc, to - size, size)?);
+        Item::with_records(alloc, &spelling, records)
+    }
+
+    /// The item that was read in place, with these records, which are its own. The error is out of memory.
+    fn with_records(
+        alloc: Global,
+        spelling: &Spelling<'_>,
+        formats: HeldRecords,
+    ) -> Result<Item, AllocError>
+        requires { formats ≡ spelling.now.formats }
+        ensures { IfOk result (λ item. item ≡ spelling.now) }
+    {
         Ok(Item {
             identifier: Identifier::new(alloc, spelling.identifier())?,
             stamp: spelling.stamp(),
             live: spelling.is_live(),
             sets: sets_in_memory(alloc, spelling.sets())?,
-            formats: HeldRecords::spelled(alloc, spelling.records_bytes())?,
+            formats,
         })
     }
 }

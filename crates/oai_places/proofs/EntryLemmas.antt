@@ -1,9 +1,13 @@
 -- Entries one after the other: how many bytes they have, where each ends, and what stands between two places of them.
-use Rattle.std.proofs.Common.{◌≡◌, ◌∙◌, ◌+◌, ◌-◌, ◌<◌, ◌≤◌, ℕ, suc, zero, List, [], ◌∷◌, ◌++◌, length, take, drop, get_or, pos, refl, sym, ap, subst, arith, add-one, length-append}
+use Rattle.std.proofs.Common.{◌≡◌, ◌∙◌, ◌+◌, ◌-◌, ◌<◌, ◌≤◌, ℕ, suc, zero, Result, Ok, Err, Some, IfOk, HoldsAt, List, [], ◌∷◌, ◌++◌, length, take, drop, get_or, pos, refl, sym, ap, subst, arith, add-one, length-append}
 use Rattle.std.specs.Prelude.{map}
+use Rattle.std.proofs.Math.Nat.{min-le_left}
 use Rattle.std.proofs.lemmas.Grind.{flat_map-append}
-use Rattle.std.proofs.lemmas.List.{append-nil, drop_at, length-take-le, take-append-drop, take-take, take_all, take_at, take_more}
+use Rattle.std.proofs.lemmas.List.{append-nil, drop-drop, drop-take, drop_at, length-take, length-take-le, take-append-drop, take-take, take_all, take_at, take_more}
+use Rattle.std.proofs.lemmas.Option.{same_Some}
 use Rattle.std.proofs.lemmas.Slice.{between_is}
+use Rattle.std.specs.declared.alloc.AllocError.{AllocError}
+use Rattle.oai_item.specs.Decoding.{item_in}
 use Rattle.oai_item.specs.Encoding.{Spells, encoded}
 use Rattle.oai_item.specs.Item.{ItemState}
 use Rattle.oai_item.proofs.Around.{only_place}
@@ -207,3 +211,41 @@ fields_are bytes ends items view h = record {
 
 pub many_fields : (bytes ends : List ℕ) (items : List ItemState) → AreFields bytes ends items → length ends ≡ length items
 many_fields bytes ends items f = ap length f.ending ∙ length-ends_from 0 items
+
+-- ---- where an item stands
+
+-- between the two places the bytes spell the item, behind the number that precedes it
+pub record IsItemBetween (bytes : List ℕ) (items : List ItemState) (at start end : ℕ) : Type 0 where
+  pub order : start + 4 ≤ end
+  pub within : end ≤ length bytes
+  pub item : (d : ItemState) → Spells (take (end - (start + 4)) (drop (start + 4) bytes)) (get_or items at d)
+
+behind_four : (bytes : List ℕ) (start end : ℕ) → start + 4 ≤ end → drop 4 (take (end - start) (drop start bytes)) ≡ take (end - (start + 4)) (drop (start + 4) bytes)
+behind_four bytes start end order =
+    let sum : end - start ≡ 4 + (end - (start + 4)) = omega (arith, order) in
+    ap (λ (n : ℕ). drop 4 (take n (drop start bytes))) sum
+    ∙ drop-take 4 (end - (start + 4)) (drop start bytes)
+    ∙ ap (take (end - (start + 4))) (drop-drop 4 start bytes)
+
+pub item_between : (bytes : List ℕ) (items : List ItemState) (at start end : ℕ) → bytes ≡ entries_of items → AreStorable items → at < length items
+    → start ≡ size_of (take at items) → end ≡ size_of (take (at + 1) items) → IsItemBetween bytes items at start end
+item_between bytes items at start end e storable within starts ends =
+    let entry : take (end - start) (drop start bytes) ≡ entries_of (between at (at + 1) items) =
+    entries_part bytes items at (at + 1) start end e (omega arith) starts ends
+    in
+    let four : 4 ≤ length (take (end - start) (drop start bytes)) = entry_long _ items at entry within in
+    let few : length (take (end - start) (drop start bytes)) ≤ end - start =
+    subst (λ (n : ℕ). n ≤ end - start) (sym (length-take (end - start) (drop start bytes))) (min-le_left (end - start) (length (drop start bytes)))
+    in
+    let order : start + 4 ≤ end = omega (arith, four, few) in
+    record {
+      order = order;
+      within = omega (arith, ends, size_of-cut items (at + 1), size_is bytes items e);
+      item = λ d. subst (λ (text : List ℕ). Spells text (get_or items at d)) (behind_four bytes start end order) (spelling_at _ items at d entry storable within);
+    }
+
+-- what is read of the bytes that spell the item is the item
+pub read_there : (result : Result ItemState AllocError) (items : List ItemState) (at : ℕ) (text : List ℕ) → IfOk result (λ item. item_in text ≡ Some item) → ((d : ItemState) → item_in text ≡ Some (get_or items at d))
+    → IfOk result (λ item. HoldsAt (λ own. item ≡ own) items at)
+read_there (Ok item) items at text read is = λ d. same_Some item (get_or items at d) (sym read ∙ is d)
+read_there (Err fault) items at text read is = tt

@@ -2,7 +2,6 @@ pub mod Pages
 pub mod PageNumbers
 pub mod Entries
 pub mod Finding
-pub mod HeldBytes
 pub mod Places
 pub mod Searches
 pub mod Parts

@@ -14,12 +14,11 @@ ghost use Rattle.oai_places.specs.Places.{AreSetCounts, have_records};
 ghost use Rattle.oai_places.specs.declared.sizes.TheConstants.{MAX_ENTRY_BYTES, MAX_WHOLE_BYTES};
 
 use crate::entry_bytes::{
-    are_zeros, common, copied, copied_ends, ends_of, entry_of, fill_with, first_number, has_each,
-    joined, prefixes_of, push_moved, read_ends,
+    are_zeros, common, copied_ends, ends_of, entry_of, fill_with, first_number, has_each, joined,
+    prefixes_of, push_moved, read_ends,
 };
-use crate::held_bytes::HeldBytes;
 use crate::sizes::{FRONT_BYTES, FULL_BYTES, MAX_ENTRY_BYTES, MAX_WHOLE_BYTES, NUMBER_BYTES};
-use oai_device::PAGE_BYTES;
+use oai_device::{HeldBytes, PAGE_BYTES};
 use oai_item::{DecodeFault, Item, ItemKey, Spelling};
 use oai_names::{Identifier, Prefix, Sequence};
 use oai_pool::Page;
@@ -78,7 +77,7 @@ impl Entries {
         let count = first_number(page);
         let (ends, size) = read_ends(alloc, &page[NUMBER_BYTES..], count)?;
         let (entries, _) = page[NUMBER_BYTES..].split_at(size);
-        let bytes = HeldBytes::own(copied(alloc, entries)?);
+        let bytes = HeldBytes::copied(alloc, entries)?;
         Entries::ending(page, bytes, ends, size)
     }
 
@@ -91,7 +90,7 @@ impl Entries {
         let all = &page[..];
         let count = first_number(all);
         let (ends, size) = ends_of(alloc, &all[NUMBER_BYTES..], count)?;
-        let bytes = HeldBytes::on_page(page.clone()?, size);
+        let bytes = HeldBytes::on_page(page.clone()?, NUMBER_BYTES, size);
         Entries::ending(all, bytes, ends, size)
     }
 
@@ -180,13 +179,15 @@ impl Entries {
         len == 0 || self.order_to(len - 1, key) == Ordering::Less
     }
 
-    /// The decoded item at that position. The error is out of memory.
+    /// The decoded item at that position. If the entries are those of a page, its records are not copied, and the page
+    /// stays in memory with it. The error is out of memory.
     pub(crate) fn item(&self, alloc: Global, at: usize) -> Result<Item, AllocError>
         requires { at < length self.now }
         ensures { IfOk result (λ item. HoldsAt (λ own. item ≡ own) self.now at) }
     {
-        let item = Item::spelled(alloc, &self.spelled(at))?;
-        Ok(item)
+        let to = self.end(at);
+        let from = self.start(at) + NUMBER_BYTES;
+        Item::held(alloc, &self.bytes, from, to)
     }
 
     /// The items, which fit on one page, with that one, whose encoding has at most `MAX_ITEM_BYTES` of oai_item, in

@@ -10,9 +10,8 @@ ghost use Rattle.oai_places.specs.Entries.{HasEntries, HasEntry, IsEntryReading}
 ghost use Rattle.oai_places.specs.Pages.{AreStorable, entries_of, entry_of, filled, first_number};
 ghost use Rattle.oai_places.specs.declared.sizes.TheConstants.{NUMBER_BYTES};
 
-use crate::held_bytes::HeldBytes;
 use crate::sizes::NUMBER_BYTES;
-use oai_device::PAGE_BYTES;
+use oai_device::{HeldBytes, PAGE_BYTES};
 use oai_item::{DecodeFault, Item, Spelling, is_spelling};
 use oai_names::Prefix;
 use oai_pool::Page;
@@ -175,15 +174,6 @@ pub(crate) fn are_zeros(bytes: &[u8]) -> bool
         zeros = zeros & (*byte == 0);
     }
     zeros
-}
-
-/// A copy of the bytes.
-pub(crate) fn copied(alloc: Global, bytes: &[u8]) -> Result<Vec<u8>, AllocError>
-    ensures { IfOk result (λ copy. copy.items ≡ bytes.now) }
-{
-    let mut copy = Vec::with_capacity(alloc, bytes.len())?;
-    copy.extend_from_slice(bytes)?;
-    Ok(copy)
 }
 
 /// A copy of the numbers, with room for that many in all.

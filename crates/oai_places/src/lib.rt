@@ -8,7 +8,6 @@ mod entry_bytes;
 mod faults;
 mod finding;
 mod groups;
-mod held_bytes;
 mod known;
 mod leaves;
 mod names;

@@ -242,10 +242,9 @@ fn take_in(
         if part.len() >= portion.most {
             break;
         }
-        let item = entries.spelled(at);
-        if is_item_wanted(&item, portion.wanted) {
+        if is_item_wanted(&entries.spelled(at), portion.wanted) {
             if left == 0 {
-                part.push(Item::spelled(alloc, &item)?)?;
+                part.push(entries.item(alloc, at)?)?;
             } else {
                 left -= 1;
             }

@@ -3,7 +3,7 @@ use Rattle.std.proofs.lemmas.Int.{to_z-of_z}
 use Rattle.oai_item.specs.Item.{IsItem, ItemState}
 use Rattle.oai_item.proofs.Numbers.{stamp_fits}
 use Rattle.oai_item.proofs.Wholes.{same_parts}
-use Rattle.oai_item.proofs.items.Item.spelled.Goals as goal
+use Rattle.oai_item.proofs.items.Item.with_records.Goals as goal
 
 -- the item is the one that was read in place, which keeps the rules
 pub invariant_of-result : goal.invariant_of-result
@@ -14,11 +14,11 @@ invariant_of-result c =
       stamp = c.stamp.result;
       live = c.is_live.result;
       sets = c.in_ok-sets_in_memory.field-0;
-      formats = c.in_ok-spelled.field-0;
+      formats = c.args.formats;
     } in
     let identifier : made.identifier ≡ item.identifier = search rules in
     let sets : made.sets ≡ item.sets = search rules in
-    let formats : made.formats ≡ item.formats = search rules in
+    let formats : made.formats ≡ item.formats = c.requires in
     let is : made ≡ item = same_parts made item c.is_live.ensures c.stamp.ensures identifier sets formats in
     let valid : IsItem made = subst IsItem (sym is) c.identifier.ensures.valid in
     let fits : FitsSigned w64 c.stamp.result = stamp_fits c.stamp.result valid.stamped in
