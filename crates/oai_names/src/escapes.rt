@@ -1,4 +1,4 @@
-ghost use Rattle.std.specs.Prelude.{◌≡◌, ◌≢◌, ◌<◌, ◌≤◌, ◌++◌, ℕ, List, [], ◌∷◌, false, length, slice_index, take, unwrap_or, OnOk, OnErr};
+ghost use Rattle.std.specs.Prelude.{◌≡◌, ◌≢◌, ◌<◌, ◌+◌, ◌≤◌, ◌++◌, ℕ, List, [], ◌∷◌, false, length, slice_index, take, unwrap_or, OnOk, OnErr};
 ghost use Rattle.std.specs.List.{list_all, list_any};
 ghost use Rattle.std.specs.Option.{option_copied};
 ghost use Rattle.memchr.specs.Find.{is_byte3};
@@ -60,15 +60,27 @@ pub fn escape_law()
         → spec.escaped_attribute value ≡ spec.escaped_attribute other → value ≡ other }
 {}
 
-/// Whether each byte stands for itself in an element, as in most texts: such a text is appended in one piece. It is
-/// tested in blocks, the last of which may overlap the one before it, so that no bytes are left to be tested one by one.
+/// Whether each byte stands for itself in an element, as in most texts: such a text is appended in one piece.
 #[inline(never)]
 fn is_bare(bytes: &[u8]) -> bool
     ensures { result ≡ list_all is_bare_byte bytes.now }
 {
-    if bytes.len() < BLOCK {
-        return are_bare(bytes);
+    match bytes.len() {
+        64.. => is_bare_in_blocks(bytes),
+        32.. => is_bare_at_ends(32, bytes),
+        16.. => is_bare_at_ends(16, bytes),
+        8.. => is_bare_at_ends(8, bytes),
+        4.. => is_bare_at_ends(4, bytes),
+        _ => are_bare(bytes),
     }
+}
+
+/// The same of a long text, in blocks. The last may overlap the one before it, so that no bytes are left to be tested
+/// one by one.
+fn is_bare_in_blocks(bytes: &[u8]) -> bool
+    requires { BLOCK ≤ length bytes.now }
+    ensures { result ≡ list_all is_bare_byte bytes.now }
+{
     let last = bytes.len() - BLOCK;
     let mut bare = true;
     let mut at = 0;
@@ -77,6 +89,16 @@ fn is_bare(bytes: &[u8]) -> bool
         at += BLOCK;
     }
     bare & are_bare(&bytes[last..])
+}
+
+/// The same of a text of one to two lengths: the first bytes and the last, which may overlap.
+#[inline(always)]
+fn is_bare_at_ends(len: usize, bytes: &[u8]) -> bool
+    requires within { len ≤ length bytes.now }
+    requires enough { length bytes.now ≤ len + len }
+    ensures { result ≡ list_all is_bare_byte bytes.now }
+{
+    are_bare(&bytes[..len]) & are_bare(&bytes[bytes.len() - len..])
 }
 
 /// Whether each of a few bytes stands for itself in an element. The loop ends only at the last byte, so that it can be

@@ -1,4 +1,4 @@
-ghost use Rattle.std.specs.Prelude.{◌≡◌, IfOk};
+ghost use Rattle.std.specs.Prelude.{◌≡◌, ◌+◌, ◌≤◌, length, IfOk};
 ghost use Rattle.std.specs.List.{list_all};
 ghost use Rattle.std.specs.String.{string_bytes};
 ghost use Rattle.oai_names.specs.Characters as spec;
@@ -27,15 +27,27 @@ fn are_xml_chars(text: &str) -> bool
 }
 
 /// Whether each byte is an ASCII character from the space on, or tab, LF or CR, as in most texts. Such a text needs no
-/// decoding: all of these are characters of XML. It is tested in blocks, the last of which may overlap the one before it,
-/// so that no bytes are left to be tested one by one.
+/// decoding: all of these are characters of XML.
 #[inline(never)]
 fn are_plain(bytes: &[u8]) -> bool
     ensures { result ≡ list_all is_plain_byte bytes.now }
 {
-    if bytes.len() < BLOCK {
-        return are_few_plain(bytes);
+    match bytes.len() {
+        64.. => are_plain_in_blocks(bytes),
+        32.. => are_plain_at_ends(32, bytes),
+        16.. => are_plain_at_ends(16, bytes),
+        8.. => are_plain_at_ends(8, bytes),
+        4.. => are_plain_at_ends(4, bytes),
+        _ => are_few_plain(bytes),
     }
+}
+
+/// The same of a long text, in blocks. The last may overlap the one before it, so that no bytes are left to be tested
+/// one by one.
+fn are_plain_in_blocks(bytes: &[u8]) -> bool
+    requires { BLOCK ≤ length bytes.now }
+    ensures { result ≡ list_all is_plain_byte bytes.now }
+{
     let last = bytes.len() - BLOCK;
     let mut plain = true;
     let mut at = 0;
@@ -44,6 +56,16 @@ fn are_plain(bytes: &[u8]) -> bool
         at += BLOCK;
     }
     plain & are_few_plain(&bytes[last..])
+}
+
+/// The same of a text of one to two lengths: the first bytes and the last, which may overlap.
+#[inline(always)]
+fn are_plain_at_ends(len: usize, bytes: &[u8]) -> bool
+    requires within { len ≤ length bytes.now }
+    requires enough { length bytes.now ≤ len + len }
+    ensures { result ≡ list_all is_plain_byte bytes.now }
+{
+    are_few_plain(&bytes[..len]) & are_few_plain(&bytes[bytes.len() - len..])
 }
 
 /// Whether each of a few bytes is such a character. The loop ends only at the last byte, so that it can be vectorized.

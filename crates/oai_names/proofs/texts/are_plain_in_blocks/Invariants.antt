@@ -1,7 +1,7 @@
 use Rattle.std.proofs.Common.{◌≡◌, ◌-◌, ◌≤◌, length, take}
 use Rattle.std.specs.List.{list_all}
 use Rattle.oai_names.specs.ByteTests.{is_plain_byte}
-use Rattle.oai_names.proofs.texts.are_plain.Given as goal
+use Rattle.oai_names.proofs.texts.are_plain_in_blocks.Given as goal
 
 -- whether the bytes so far are such characters
 abbrev pub invariant-loop-at : goal.invariant-loop-at

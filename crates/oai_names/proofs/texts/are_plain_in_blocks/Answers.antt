@@ -4,7 +4,7 @@ use Rattle.std.specs.Prelude.{◌&&◌}
 use Rattle.std.proofs.lemmas.List.{take_rest}
 use Rattle.oai_names.specs.ByteTests.{is_plain_byte}
 use Rattle.oai_names.proofs.Blocks.{all_of_blocks, all_of_next}
-use Rattle.oai_names.proofs.texts.are_plain.Goals as goal
+use Rattle.oai_names.proofs.texts.are_plain_in_blocks.Goals as goal
 
 pub loop-at-preserved : goal.loop-at-preserved
 loop-at-preserved c = (
@@ -15,5 +15,5 @@ loop-at-preserved c = (
 pub returns : goal.returns
 returns c =
     let last = length c.args.bytes.now - 64 in
-    (λ k. c.loop-at.invariant.1 k && (c.are_few_plain-2.ensures ∙ ap (list_all is_plain_byte) (take_rest c.args.bytes.now last)) k)
+    (λ k. c.loop-at.invariant.1 k && (c.are_few_plain.ensures ∙ ap (list_all is_plain_byte) (take_rest c.args.bytes.now last)) k)
     ∙ all_of_blocks is_plain_byte c.args.bytes.now c.loop-at.at last (omega (arith, c.loop-at-test.false)) c.loop-at.invariant.0

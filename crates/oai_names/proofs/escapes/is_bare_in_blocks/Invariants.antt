@@ -1,7 +1,7 @@
 use Rattle.std.proofs.Common.{◌≡◌, ◌-◌, ◌≤◌, length, take}
 use Rattle.std.specs.List.{list_all}
 use Rattle.oai_names.specs.ByteTests.{is_bare_byte}
-use Rattle.oai_names.proofs.escapes.is_bare.Given as goal
+use Rattle.oai_names.proofs.escapes.is_bare_in_blocks.Given as goal
 
 -- whether the bytes so far stand for themselves
 abbrev pub invariant-loop-at : goal.invariant-loop-at

@@ -4,7 +4,7 @@ use Rattle.std.specs.Prelude.{◌&&◌}
 use Rattle.std.proofs.lemmas.List.{take_rest}
 use Rattle.oai_names.specs.ByteTests.{is_bare_byte}
 use Rattle.oai_names.proofs.Blocks.{all_of_blocks, all_of_next}
-use Rattle.oai_names.proofs.escapes.is_bare.Goals as goal
+use Rattle.oai_names.proofs.escapes.is_bare_in_blocks.Goals as goal
 
 pub loop-at-preserved : goal.loop-at-preserved
 loop-at-preserved c = (
@@ -15,5 +15,5 @@ loop-at-preserved c = (
 pub returns : goal.returns
 returns c =
     let last = length c.args.bytes.now - 64 in
-    (λ k. c.loop-at.invariant.1 k && (c.are_bare-2.ensures ∙ ap (list_all is_bare_byte) (take_rest c.args.bytes.now last)) k)
+    (λ k. c.loop-at.invariant.1 k && (c.are_bare.ensures ∙ ap (list_all is_bare_byte) (take_rest c.args.bytes.now last)) k)
     ∙ all_of_blocks is_bare_byte c.args.bytes.now c.loop-at.at last (omega (arith, c.loop-at-test.false)) c.loop-at.invariant.0
