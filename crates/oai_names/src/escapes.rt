@@ -7,7 +7,7 @@ ghost use Rattle.oai_names.specs.Escapes as spec;
 ghost use Rattle.oai_names.specs.Names.{is_one_of};
 ghost use Rattle.oai_names.specs.declared.escapes.Place.TheVariants.{Attribute, Element};
 
-use crate::texts::BLOCK;
+use crate::byte_tests::{ByteTest, all_pass};
 use memchr::{memchr, memchr3};
 use std::alloc::AllocError;
 
@@ -27,7 +27,7 @@ pub fn escape_text(text: &str, out: &mut Vec<u8>) -> Result<(), AllocError>
     ensures ok { OnOk result (out.new.items ≡ out.old.items ++ spec.escaped_text text.now) }
     ensures err { OnErr result (out.new.items ≡ out.old.items) }
 {
-    if is_bare(text.as_bytes()) {
+    if all_pass::<Bare>(text.as_bytes()) {
         return out.extend_from_slice(text.as_bytes());
     }
     escape(Place::Element, text, out)
@@ -39,7 +39,7 @@ pub fn escape_attr(text: &str, out: &mut Vec<u8>) -> Result<(), AllocError>
     ensures ok { OnOk result (out.new.items ≡ out.old.items ++ spec.escaped_attribute text.now) }
     ensures err { OnErr result (out.new.items ≡ out.old.items) }
 {
-    if is_bare_value(text.as_bytes()) {
+    if all_pass::<BareInValue>(text.as_bytes()) {
         return out.extend_from_slice(text.as_bytes());
     }
     escape(Place::Attribute, text, out)
@@ -60,83 +60,27 @@ pub fn escape_law()
         → spec.escaped_attribute value ≡ spec.escaped_attribute other → value ≡ other }
 {}
 
-/// Whether each byte stands for itself in an element, as in most texts: such a text is appended in one piece.
-#[inline(never)]
-fn is_bare(bytes: &[u8]) -> bool
-    ensures { result ≡ list_all is_bare_byte bytes.now }
-{
-    match bytes.len() {
-        64.. => is_bare_in_blocks(bytes),
-        32.. => is_bare_at_ends(32, bytes),
-        16.. => is_bare_at_ends(16, bytes),
-        8.. => is_bare_at_ends(8, bytes),
-        4.. => is_bare_at_ends(4, bytes),
-        _ => are_bare(bytes),
+/// Whether a byte stands for itself in an element, as each does in most texts: such a text is appended in one piece.
+struct Bare;
+
+impl ByteTest for Bare {
+    ghost passes = { is_bare_byte };
+
+    fn passes(b: u8) -> bool {
+        (b != b'&') & (b != b'<') & (b != b'>') & (b != b'\r')
     }
 }
 
-/// The same of a long text, in blocks. The last may overlap the one before it, so that no bytes are left to be tested
-/// one by one.
-fn is_bare_in_blocks(bytes: &[u8]) -> bool
-    requires { BLOCK ≤ length bytes.now }
-    ensures { result ≡ list_all is_bare_byte bytes.now }
-{
-    let last = bytes.len() - BLOCK;
-    let mut bare = true;
-    let mut at = 0;
-    while at < last {
-        bare = bare & are_bare(&bytes[at..at + BLOCK]);
-        at += BLOCK;
+/// Whether a byte stands for itself in the value of an attribute, and is no space: so does each of most identifiers,
+/// names and URLs. It stands behind `&`, and is no other markup: the white space and the quote stand before it.
+struct BareInValue;
+
+impl ByteTest for BareInValue {
+    ghost passes = { is_bare_in_value };
+
+    fn passes(b: u8) -> bool {
+        (b > b'&') & (b != b'<') & (b != b'>')
     }
-    bare & are_bare(&bytes[last..])
-}
-
-/// The same of a text of one to two lengths: the first bytes and the last, which may overlap.
-#[inline(always)]
-fn is_bare_at_ends(len: usize, bytes: &[u8]) -> bool
-    requires within { len ≤ length bytes.now }
-    requires enough { length bytes.now ≤ len + len }
-    ensures { result ≡ list_all is_bare_byte bytes.now }
-{
-    are_bare(&bytes[..len]) & are_bare(&bytes[bytes.len() - len..])
-}
-
-/// Whether each of a few bytes stands for itself in an element. The loop ends only at the last byte, so that it can be
-/// vectorized.
-fn are_bare(bytes: &[u8]) -> bool
-    ensures { result ≡ list_all is_bare_byte bytes.now }
-{
-    let mut bare = true;
-    for b in bytes {
-        bare = bare & is_bare_byte(*b);
-    }
-    bare
-}
-
-/// Whether the byte stands for itself in an element. All four comparisons are made, so that there is no branch.
-fn is_bare_byte(b: u8) -> bool
-    ensures { result ≡ is_bare_byte b }
-{
-    (b != b'&') & (b != b'<') & (b != b'>') & (b != b'\r')
-}
-
-/// The same of the value of an attribute, with no space in it: so are most identifiers, names and URLs.
-#[inline(never)]
-fn is_bare_value(bytes: &[u8]) -> bool
-    ensures { result ≡ list_all is_bare_in_value bytes.now }
-{
-    let mut bare = true;
-    for b in bytes {
-        bare = bare & is_bare_in_value(*b);
-    }
-    bare
-}
-
-/// Whether the byte stands behind `&`, and is no other markup: the white space and the quote stand before it.
-fn is_bare_in_value(b: u8) -> bool
-    ensures { result ≡ is_bare_in_value b }
-{
-    (b > b'&') & (b != b'<') & (b != b'>')
 }
 
 /// Appends the text, each of its characters as the table spells it.

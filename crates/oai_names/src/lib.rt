@@ -2,6 +2,7 @@
 //! a text is escaped in a document; `Text` and `Sequence`, which contracts see as plain lists.
 #![tactic(auto)]
 
+mod byte_tests;
 mod escapes;
 mod identifiers;
 mod limits;

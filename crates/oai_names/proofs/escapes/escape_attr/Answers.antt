@@ -16,8 +16,8 @@ bare (b ∷ text) all =
     let parts = and_parts (is_bare_in_value b) (list_all is_bare_in_value text) all in
     rw (bare_byte b parts.0) (ap (λ (bs : List ℕ). b ∷ bs) (bare text parts.1))
 
-pub returns-then-is_bare_value-clause-ok : goal.returns-then-is_bare_value-clause-ok
-returns-then-is_bare_value-clause-ok c =
+pub returns-then-all_pass-clause-ok : goal.returns-then-all_pass-clause-ok
+returns-then-all_pass-clause-ok c =
     let all : list_all is_bare_in_value c.args.text.now ≡ true =
-    sym (ap (list_all is_bare_in_value) c.as_bytes.ensures.value) ∙ sym c.is_bare_value.ensures ∙ c.if-is_bare_value.true in
+    sym (ap (list_all is_bare_in_value) c.as_bytes.ensures.value) ∙ sym c.all_pass.ensures ∙ c.if-all_pass.true in
     rw (bare c.args.text.now all) (search rules)

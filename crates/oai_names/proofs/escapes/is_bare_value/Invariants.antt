@@ -1,8 +1,0 @@
-use Rattle.std.proofs.Common.{◌≡◌, take}
-use Rattle.std.specs.List.{list_all}
-use Rattle.oai_names.specs.ByteTests.{is_bare_in_value}
-use Rattle.oai_names.proofs.escapes.is_bare_value.Given as goal
-
--- whether the bytes so far stand for themselves
-abbrev pub invariant-loop-b : goal.invariant-loop-b
-invariant-loop-b l = l.bare ≡ list_all is_bare_in_value (take l.b-index l.bytes)
