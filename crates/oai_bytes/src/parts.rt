@@ -1,7 +1,9 @@
 //! The parts of a line, between single spaces.
 ghost use Rattle.std.specs.Prelude.{◌≡◌, ◌≤◌, length};
-ghost use Rattle.std.specs.List.{position, position_or_len};
+ghost use Rattle.std.specs.List.{position_or_len};
 ghost use Rattle.oai_bytes.specs.Parts as spec;
+
+use memchr::memchr;
 
 /// What precedes the first space, and what follows it; everything and nothing if there is none.
 pub fn split_at_space(text: &[u8]) -> (&[u8], &[u8])
@@ -21,15 +23,5 @@ fn front_len(text: &[u8]) -> usize
     ensures length { result ≡ position_or_len spec.is_separator text.now }
     ensures within { result ≤ length text.now }
 {
-    match first_space(text) {
-        Some(at) => at,
-        None => text.len(),
-    }
-}
-
-/// The position of the first space.
-fn first_space(text: &[u8]) -> Option<usize>
-    ensures { result ≡ position spec.is_separator text.now }
-{
-    text.iter().position(|b| *b == b' ')
+    memchr(b' ', text).unwrap_or(text.len())
 }
