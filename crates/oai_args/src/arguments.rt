@@ -32,7 +32,7 @@ pub(crate) struct Arguments {
 impl Arguments {
     /// The arguments of no pairs.
     #[tactic(auto, unfolding(crate::specs::Arguments::arguments_in, crate::specs::Arguments::given, crate::specs::Pairs::values_of, crate::specs::Pairs::has_only_keys, crate::specs::Pairs::has_xml_values))]
-    fn new() -> Arguments
+    pub(crate) fn new() -> Arguments
         ensures { result ≡ arguments_in [] }
     {
         Arguments {
@@ -49,19 +49,9 @@ impl Arguments {
         }
     }
 
-    /// The arguments of a query, by one pass over its pairs.
-    pub(crate) fn read(alloc: Global, query: &[u8]) -> Result<Arguments, AllocError>
-        ensures read { IfOk result (λ given. given ≡ arguments_in (decoded_pairs query.now)) }
-        ensures memory { OnErr result (decoded_pairs query.now ≢ []) }
-    {
-        let mut arguments = Arguments::new();
-        arguments.add_all(alloc, query)?;
-        Ok(arguments)
-    }
-
-    /// Adds the pairs of a query to arguments that have none.
+    /// Adds the pairs of a query to arguments that have none, by one pass over them.
     #[tactic(auto, unfolding(crate::specs::Pairs::decoded_pairs))]
-    fn add_all(&mut self, alloc: Global, query: &[u8]) -> Result<(), AllocError>
+    pub(crate) fn add_all(&mut self, alloc: Global, query: &[u8]) -> Result<(), AllocError>
         requires { self.old ≡ arguments_in [] }
         ensures read { IfOk result (λ _. self.new ≡ arguments_in (decoded_pairs query.now)) }
         ensures memory { OnErr result (decoded_pairs query.now ≢ []) }

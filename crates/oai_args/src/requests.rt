@@ -72,8 +72,9 @@ pub fn read_request(alloc: Global, query: &[u8], granularity: Granularity) -> Re
     ensures read { IsReadFrom granularity (decoded_pairs query.now) result }
     ensures lists { IfOk result (λ ask. is_by_record_verb ask ≡ true) }
 {
-    match Arguments::read(alloc, query) {
-        Ok(mut arguments) => arguments.take_request(granularity),
+    let mut arguments = Arguments::new();
+    match arguments.add_all(alloc, query) {
+        Ok(()) => arguments.take_request(granularity),
         Err(_) => Err(ArgFault::NoMemory),
     }
 }

@@ -17,8 +17,8 @@ unfolding request_of
 answer granularity pairs given result is same = is ∙ ap (λ (a : Arguments). result_of (request_in granularity a)) same
 
 pub returns-in-Ok-clause-read : goal.returns-in-Ok-clause-read
-returns-in-Ok-clause-read c = read_from c.args.granularity _ _ (answer _ _ _ _ c.take_request.ensures c.in-Ok.ensures.read)
+returns-in-Ok-clause-read c = read_from c.args.granularity _ _ (answer _ _ _ _ c.take_request.ensures (rw c.in-Ok.is at c.add_all.ensures.read))
 
 pub returns-in-Ok-clause-lists : goal.returns-in-Ok-clause-lists
 returns-in-Ok-clause-lists c =
-    records_read c.args.granularity _ _ (read_from c.args.granularity _ _ (answer _ _ _ _ c.take_request.ensures c.in-Ok.ensures.read))
+    records_read c.args.granularity _ _ (read_from c.args.granularity _ _ (answer _ _ _ _ c.take_request.ensures (rw c.in-Ok.is at c.add_all.ensures.read)))
