@@ -70,7 +70,11 @@ impl HeldBytes {
     {
         match &self.held {
             Held::Own(bytes) => HeldBytes::copied(alloc, &bytes[from..from + size]),
-            Held::OnPage(page, first, _) => Ok(HeldBytes::on_page(page.clone()?, *first + from, size)),
+            Held::OnPage(page, first, _) => Ok(HeldBytes::on_page(
+                page.clone()?,
+                *first + from,
+                size,
+            )),
         }
     }
 
