@@ -22,4 +22,4 @@ split_at-requires c =
     omega (arith, within)
 
 pub ending-requires-clause-bytes : goal.ending-requires-clause-bytes
-ending-requires-clause-bytes c = c.own-bytes.ensures ∙ c.in_ok-copied.ensures ∙ c.split_at.ensures.front ∙ ap (take c.in_ok-ends.size) (take_rest c.args.page.now 4)
+ending-requires-clause-bytes c = c.in_ok-bytes.ensures ∙ c.split_at.ensures.front ∙ ap (take c.in_ok-ends.size) (take_rest c.args.page.now 4)
