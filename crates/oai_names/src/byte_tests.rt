@@ -6,7 +6,7 @@ ghost use Rattle.std.specs.List.{list_all};
 const BLOCK: usize = 64;
 
 /// A test of a byte.
-pub(crate) trait ByteTest {
+pub trait ByteTest {
     ghost passes: { ℕ → Bool };
 
     /// Whether the byte passes. Each comparison is made, so that there is no branch.
@@ -17,7 +17,7 @@ pub(crate) trait ByteTest {
 /// Whether each byte passes. A test of so many bytes as the compiler knows is vectorized, so a text is tested in such
 /// parts, which may overlap: no bytes are left to be tested one by one.
 #[inline(never)]
-pub(crate) fn all_pass<T: ByteTest>(bytes: &[u8]) -> bool
+pub fn all_pass<T: ByteTest>(bytes: &[u8]) -> bool
     ensures { result ≡ list_all T.passes bytes.now }
 {
     match bytes.len() {

@@ -14,6 +14,7 @@ mod set_specs;
 mod set_trees;
 mod texts;
 
+pub use byte_tests::{ByteTest, all_pass};
 pub use escapes::{escape_attr, escape_law, escape_text};
 pub use identifiers::{Identifier, may_be_identifier};
 pub use limits::{MAX_IDENTIFIER_BYTES, MAX_PREFIX_BYTES, MAX_SET_SPEC_BYTES, MAX_SETS, limit_law};
