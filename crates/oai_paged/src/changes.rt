@@ -1,10 +1,11 @@
 //! Changes a directory in place, copy-on-write: adds leaf pages of new entries, then swaps their leaves in for old
 //! ones, by steps that cannot fail.
-ghost use Rattle.std.specs.Prelude.{◌≡◌, ◌+◌, ◌*◌, ◌<◌, ◌≤◌, ◌++◌, ◌∷◌, ℕ, List, [], true, length, take, drop, vec_capacity, vec_len, IfOk, OnErr, OnOk};
+ghost use Rattle.std.specs.Prelude.{◌≡◌, ◌+◌, ◌*◌, ◌<◌, ◌≤◌, ◌++◌, ◌∷◌, ℕ, List, [], true, length, take, drop, HoldsAt, vec_capacity, vec_len, IfOk, OnErr, OnOk};
 ghost use Rattle.oai_catalogue.specs.Store.{Spares, Spends};
 ghost use Rattle.oai_item.specs.Item.{ItemState};
 ghost use Rattle.oai_item.specs.Order.{are_in_order};
-ghost use Rattle.oai_pool.specs.Counts.{count_of};
+ghost use Rattle.oai_pool.specs.Calls.{IsAdded, SparesNumbers, SpendsNumbers};
+ghost use Rattle.oai_pool.specs.Counts.{KeepsNamed, count_of};
 ghost use Rattle.oai_places.specs.Calls.{Renames};
 ghost use Rattle.oai_paged.specs.Changes.{Adds, AddsPages, HasWayBack, IsRange, PutsRun};
 ghost use Rattle.oai_places.specs.Directory.{IsRunWithin, MayStand, StandsIn};
@@ -19,7 +20,7 @@ use oai_device::PAGE_BYTES;
 use oai_item::Fault;
 use oai_names::{Prefix, Sequence};
 use oai_places::{Cuts, Entries, SharedPlace, Statistics, drop_all, drop_numbers, fault_of};
-use oai_pool::{PageKind, PageNo, PagePool};
+use oai_pool::{Page, PageKind, PageNo, PagePool, PoolFault};
 use oai_sums::SetNames;
 use std::alloc::{AllocError, Global};
 use std::rc::Rc;
@@ -298,10 +299,8 @@ fn add_numbers<P: PagePool>(
     let overflow = entries.overflow(from, to);
     let kind = kind_for(overflow);
     let mut numbers = Vec::with_capacity(alloc, 1 + overflow)?;
-    let mut page = [0; PAGE_BYTES];
     for at in 0..1 + overflow {
-        entries.fill_page(from, to, at, &mut page);
-        match pages.add(&page, kind) {
+        match add_filled(alloc, pages, range, at, kind) {
             Ok(number) => numbers.push(number).unwrap(),
             Err(fault) => {
                 drop_numbers(pages, numbers.as_slice());
@@ -310,6 +309,70 @@ fn add_numbers<P: PagePool>(
         }
     }
     Ok(numbers)
+}
+
+/// Adds the page of the entries in the range at that index, of that kind, and returns its number.
+fn add_filled<P: PagePool>(
+    alloc: Global,
+    pages: &mut P,
+    range: EntryRange<'_>,
+    at: usize,
+    kind: PageKind,
+) -> Result<PageNo, PoolFault>
+    requires order { range.from < range.to }
+    requires within { range.to ≤ length range.entries.now }
+    requires alone { FitAlone (between range.from range.to range.entries.now) }
+    requires there { at < length (pages_of (between range.from range.to range.entries.now)) }
+    requires kind { kind ≡ kind_for (overflow_of (between range.from range.to range.entries.now)) }
+    ensures added { IfOk result (λ no. HoldsAt (λ own. IsAdded P.counts P.pages own no pages.old pages.new) (pages_of (between range.entry.from range.entry.to range.entry.entries.now)) at) }
+    ensures err { OnErr result (P.counts pages.new ≡ P.counts pages.old) }
+    ensures kept { KeepsNamed (P.counts pages.old) (P.pages pages.old) (P.pages pages.new) }
+    ensures pool { SpendsNumbers P.room P.failures P.cache_size P.honest 1 result pages.old pages.new }
+{
+    let _all = range.entries.len();
+    let page = filled_page(alloc, pages, range, at)?;
+    pages.add(page, kind)
+}
+
+/// The page of the entries in the range at that index, in one from the pool. The error is out of memory.
+fn filled_page<P: PagePool>(
+    alloc: Global,
+    pages: &mut P,
+    range: EntryRange<'_>,
+    at: usize,
+) -> Result<Rc<Page>, AllocError>
+    requires order { range.from < range.to }
+    requires within { range.to ≤ length range.entries.now }
+    requires alone { FitAlone (between range.from range.to range.entries.now) }
+    requires there { at < length (pages_of (between range.from range.to range.entries.now)) }
+    ensures value { IfOk result (λ page. HoldsAt (λ own. page.value ≡ own) (pages_of (between range.entry.from range.entry.to range.entry.entries.now)) at) }
+    ensures counts { P.counts pages.new ≡ P.counts pages.old }
+    ensures same { P.pages pages.new ≡ P.pages pages.old }
+    ensures pool { SparesNumbers P.room P.failures P.cache_size P.honest pages.old pages.new }
+{
+    let EntryRange { entries, from, to } = range;
+    let mut page = pages.page_to_fill()?;
+    match Rc::get_mut(&mut page) {
+        Some(bytes) => {
+            entries.fill_page(from, to, at, bytes);
+            Ok(page)
+        }
+        None => filled_anew(alloc, range, at),
+    }
+}
+
+/// The page of the entries in the range at that index, in a new one. The error is out of memory.
+fn filled_anew(alloc: Global, range: EntryRange<'_>, at: usize) -> Result<Rc<Page>, AllocError>
+    requires order { range.from < range.to }
+    requires within { range.to ≤ length range.entries.now }
+    requires alone { FitAlone (between range.from range.to range.entries.now) }
+    requires there { at < length (pages_of (between range.from range.to range.entries.now)) }
+    ensures { IfOk result (λ page. HoldsAt (λ own. page.value ≡ own) (pages_of (between range.entry.from range.entry.to range.entry.entries.now)) at) }
+{
+    let EntryRange { entries, from, to } = range;
+    let mut bytes = [0; PAGE_BYTES];
+    entries.fill_page(from, to, at, &mut bytes);
+    Ok(Rc::new(alloc, bytes)?)
 }
 
 /// The kind of leaf pages with that many overflow pages.

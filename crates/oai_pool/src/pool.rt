@@ -7,10 +7,10 @@ use crate::kinds::PageKind;
 use crate::names::Names;
 use crate::pools::{MAX_PAGES, PageNo, PagePool, PoolFault};
 use crate::testing::is_of;
-use crate::transfers::{copied, load, load_range, store};
+use crate::transfers::{load, load_range, room_for_a_page, store};
 use oai_device::{Page, PageDevice};
 use oai_figures::{Exposition, Figures};
-use std::alloc::Global;
+use std::alloc::{AllocError, Global};
 use std::num::NonZeroUsize;
 use std::rc::Rc;
 
@@ -47,11 +47,15 @@ impl<D: PageDevice> PagePool for Pool<D> {
 
     ghost cache_size = { λ p. p.cache.pages.cap };
 
-    fn add(&mut self, page: &Page, kind: PageKind) -> Result<PageNo, PoolFault> {
+    fn page_to_fill(&mut self) -> Result<Rc<Page>, AllocError> {
+        room_for_a_page(self.alloc, self.spare.take())
+    }
+
+    fn add(&mut self, page: Rc<Page>, kind: PageKind) -> Result<PageNo, PoolFault> {
         let no = self.names.next()?;
-        store(&mut self.device, no, page)?;
+        store(&mut self.device, no, &page)?;
         self.names.name();
-        self.keep_copy(no, page, kind);
+        self.keep(no, page, kind);
         Ok(no)
     }
 
@@ -75,7 +79,7 @@ impl<D: PageDevice> PagePool for Pool<D> {
         if !is_of(self.alloc, kind, &page[..])? {
             return Err(PoolFault::Damaged);
         }
-        self.keep(no, &page, kind);
+        self.keep_clone(no, &page, kind);
         Ok(page)
     }
 
@@ -84,7 +88,7 @@ impl<D: PageDevice> PagePool for Pool<D> {
             return Ok(known);
         }
         let loaded = load(self.alloc, &mut self.device, no, self.spare.take())?;
-        self.keep(no, &loaded, PageKind::Bytes);
+        self.keep_clone(no, &loaded, PageKind::Bytes);
         Ok((loaded, PageKind::Bytes))
     }
 
@@ -143,22 +147,20 @@ impl<D: PageDevice> Pool<D> {
         })
     }
 
-    /// Stores a copy of the page, which is of that kind, in the cache, if there is memory for one.
-    fn keep_copy(&mut self, no: PageNo, page: &Page, kind: PageKind)
-        requires kind { is_of kind page.now ≡ true }
+    /// Stores the page, which is of that kind, in the cache, if there is memory for its place there.
+    fn keep(&mut self, no: PageNo, page: Rc<Page>, kind: PageKind)
+        requires kind { is_of kind page.value ≡ true }
         requires named { 0 < count_of self.old.names.counts.items no }
-        requires own { IsTrue (D.honest (device_of self.old)) → D.pages (device_of self.old) no ≡ Some page.now }
+        requires own { IsTrue (D.honest (device_of self.old)) → D.pages (device_of self.old) no ≡ Some page.value }
         ensures names { self.new.names ≡ self.old.names }
         ensures device { device_of self.new ≡ device_of self.old }
         ensures size { self.new.cache.pages.cap ≡ self.old.cache.pages.cap }
     {
-        if let Ok(copy) = copied(self.alloc, self.spare.take(), page) {
-            self.spare = self.cache.keep(no, copy, kind);
-        }
+        self.spare = self.cache.keep(no, page, kind);
     }
 
-    /// Stores the page, which is of that kind, in the cache, if its reference count can be raised.
-    fn keep(&mut self, no: PageNo, page: &Rc<Page>, kind: PageKind)
+    /// As `keep`, if the page's reference count can be raised.
+    fn keep_clone(&mut self, no: PageNo, page: &Rc<Page>, kind: PageKind)
         requires kind { is_of kind page.now.value ≡ true }
         requires named { 0 < count_of self.old.names.counts.items no }
         requires own { IsTrue (D.honest (device_of self.old)) → D.pages (device_of self.old) no ≡ Some page.now.value }
@@ -167,7 +169,7 @@ impl<D: PageDevice> Pool<D> {
         ensures size { self.new.cache.pages.cap ≡ self.old.cache.pages.cap }
     {
         if let Ok(kept) = page.clone() {
-            self.spare = self.cache.keep(no, kept, kind);
+            self.keep(no, kept, kind);
         }
     }
 

@@ -76,11 +76,18 @@ pub trait PagePool {
     /// The capacity of the cache in pages.
     ghost cache_size: { Self → ℕ };
 
+    /// A page for the caller to fill and to add, which nobody else references: one that was dropped from the cache, or a
+    /// new one. Its bytes are any. The error is out of memory.
+    fn page_to_fill(&mut self) -> Result<Rc<Page>, AllocError>
+        ensures counts { counts self.new ≡ counts self.old }
+        ensures same { pages self.new ≡ pages self.old }
+        ensures pool { SparesNumbers room failures cache_size honest self.old self.new };
+
     /// Adds a page of that kind under an unreferenced number, and sets its reference count to 1. Freed numbers are
-    /// reused first. The errors: Device, NoMemory or TooManyPages.
-    fn add(&mut self, page: &Page, kind: PageKind) -> Result<PageNo, PoolFault>
-        requires { is_of kind page.now ≡ true }
-        ensures added { IfOk result (λ no. IsAdded counts pages page.now no self.old self.new) }
+    /// reused first. The page itself is cached, and not copied. The errors: Device, NoMemory or TooManyPages.
+    fn add(&mut self, page: Rc<Page>, kind: PageKind) -> Result<PageNo, PoolFault>
+        requires { is_of kind page.value ≡ true }
+        ensures added { IfOk result (λ no. IsAdded counts pages page.value no self.old self.new) }
         ensures dense { OnOk result (length (counts self.new)
             ≡ max (length (counts self.old)) (used_of (counts self.old) + 1)) }
         ensures err { OnErr result (counts self.new ≡ counts self.old) }

@@ -52,24 +52,6 @@ pub(crate) fn load<D: PageDevice>(
     }
 }
 
-/// A copy of the page, in the page `spare` if nobody else references it, and otherwise in a new one.
-pub(crate) fn copied(
-    alloc: Global,
-    spare: Option<Rc<Page>>,
-    page: &Page,
-) -> Result<Rc<Page>, AllocError>
-    ensures { IfOk result (λ copy. copy.value ≡ page.now) }
-{
-    let mut copy = room_for_a_page(alloc, spare)?;
-    match Rc::get_mut(&mut copy) {
-        Some(bytes) => {
-            *bytes = *page;
-            Ok(copy)
-        }
-        None => Ok(Rc::new(alloc, *page)?),
-    }
-}
-
 /// The page with that number, read from the device into a new page.
 fn load_anew<D: PageDevice>(alloc: Global, device: &mut D, no: u32) -> Result<Rc<Page>, PoolFault>
     requires { IsSome (D.pages device.old no) }
@@ -129,10 +111,16 @@ pub(crate) fn load_range<D: PageDevice>(
     }
 }
 
-/// The spare page, or a new one of zeros, which is allocated in place and not copied there.
-fn room_for_a_page(alloc: Global, spare: Option<Rc<Page>>) -> Result<Rc<Page>, AllocError> {
-    match spare {
-        Some(page) => Ok(page),
-        None => Ok(Rc::new(alloc, [0; PAGE_BYTES])?),
+/// The spare page if nobody else references it, and otherwise a new one of zeros, which is allocated in place and not
+/// copied there.
+pub(crate) fn room_for_a_page(
+    alloc: Global,
+    spare: Option<Rc<Page>>,
+) -> Result<Rc<Page>, AllocError> {
+    if let Some(page) = spare {
+        if Rc::strong_count(&page) == 1 {
+            return Ok(page);
+        }
     }
+    Ok(Rc::new(alloc, [0; PAGE_BYTES])?)
 }

@@ -2,7 +2,8 @@
 ghost use Rattle.std.specs.Prelude.{◌≡◌, ◌<◌, ℕ};
 ghost use Rattle.oai_pool.specs.Counts.{count_of};
 
-use crate::devices::numbered_pages::{assert_page, page_of};
+use crate::devices::numbered_pages::assert_page;
+use crate::devices::steps::add;
 use oai_pool::{PageKind, PagePool};
 use std::panic::Expect;
 use std::process::Abort;
@@ -12,9 +13,7 @@ pub(crate) fn fill<P: PagePool>(rt: &impl Abort, pool: &mut P, pages: u16)
     ensures { (n : ℕ) → n < pages → 0 < count_of (P.counts pool.new) n }
 {
     for number in 0..pages {
-        let no = pool
-            .add(&page_of(number), PageKind::Bytes)
-            .expect(rt, "add");
+        let no = add(rt, pool, number);
         assert!(rt; no == u32::from(number));
     }
 }

@@ -3,8 +3,8 @@ ghost use Rattle.std.specs.Prelude.{◌<◌};
 ghost use Rattle.oai_pool.specs.Counts.{StaysNamed, count_of};
 
 use crate::assertions::assert_same;
-use crate::devices::numbered_pages::{assert_page, page_of};
-use crate::devices::steps::{drop_name, share_and_drop};
+use crate::devices::numbered_pages::assert_page;
+use crate::devices::steps::{add, drop_name, filled, share_and_drop};
 use oai_device::{FaultyDevice, MemoryDevice, PageDevice};
 use oai_pool::{PageKind, PageNo, PagePool, Pool, PoolFault};
 use std::alloc::Global;
@@ -18,13 +18,13 @@ fn add_again<P: PagePool>(rt: &impl Abort, pool: &mut P, number: u16) -> PageNo
     ensures named { StaysNamed (P.counts pool.old) (P.counts pool.new) }
 {
     let used = pool.used();
-    match pool.add(&page_of(number), PageKind::Bytes) {
+    let page = filled(rt, pool, number);
+    match pool.add(page, PageKind::Bytes) {
         Ok(no) => no,
         Err(fault) => {
             assert_same(rt, fault, PoolFault::Device);
             assert_same(rt, pool.used(), used);
-            pool.add(&page_of(number), PageKind::Bytes)
-                .expect(rt, "add")
+            add(rt, pool, number)
         }
     }
 }

@@ -5,9 +5,9 @@ ghost use Rattle.oai_pool.specs.Counts.{StaysNamed, count_of};
 
 use crate::assertions::{assert_same, assert_shown};
 use crate::devices::filled::{assert_filled, fill};
-use crate::devices::numbered_pages::{assert_page, page_of};
+use crate::devices::numbered_pages::assert_page;
 use crate::devices::saturated::WornDevice;
-use crate::devices::steps::{add, assert_both, assert_named, drop_name, share_and_drop};
+use crate::devices::steps::{add, assert_both, assert_named, drop_name, filled, share_and_drop};
 use oai_device::{FaultyDevice, FlippingDevice, MemoryDevice, PageDevice};
 use oai_pool::{PageKind, PageNo, PagePool, Pool, PoolFault};
 use std::panic::Expect;
@@ -48,11 +48,8 @@ fn assert_given_again<P: PagePool>(rt: &impl Abort, pool: &mut P, goes: PageNo, 
 fn pool_over_a_device_that_fails(rt: HostRuntime) {
     let device = FaultyDevice::new(MemoryDevice::new(rt.alloc()), 1);
     let mut pool = Pool::new(rt.alloc(), device, 8).expect(&rt, "Pool::new");
-    assert_same(
-        &rt,
-        pool.add(&page_of(1), PageKind::Bytes),
-        Err(PoolFault::Device),
-    );
+    let page = filled(&rt, &mut pool, 1);
+    assert_same(&rt, pool.add(page, PageKind::Bytes), Err(PoolFault::Device));
     assert_same(&rt, (pool.used(), pool.cached()), (0, 0));
     let no = add(&rt, &mut pool, 1);
     assert_same(&rt, (no, pool.used()), (0, 1));
@@ -66,11 +63,8 @@ fn pool_over_a_worn_device(rt: HostRuntime) {
         inner: MemoryDevice::new(rt.alloc()),
     };
     let mut pool = Pool::new(rt.alloc(), FaultyDevice::new(inner, 1), 8).expect(&rt, "Pool::new");
-    assert_same(
-        &rt,
-        pool.add(&page_of(1), PageKind::Bytes),
-        Err(PoolFault::Device),
-    );
+    let page = filled(&rt, &mut pool, 1);
+    assert_same(&rt, pool.add(page, PageKind::Bytes), Err(PoolFault::Device));
     assert_same(&rt, pool.used(), 0);
     let no = add(&rt, &mut pool, 1);
     assert_named(&rt, &mut pool, no, 1);

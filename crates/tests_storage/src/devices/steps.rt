@@ -6,9 +6,10 @@ ghost use Rattle.oai_pool.specs.Counts.{StaysNamed, count_of};
 use crate::assertions::assert_same;
 use crate::devices::numbered_pages::{assert_page, page_of};
 use oai_device::{DeviceFault, PAGE_BYTES, PageDevice};
-use oai_pool::{PageKind, PageNo, PagePool};
+use oai_pool::{Page, PageKind, PageNo, PagePool};
 use std::panic::Expect;
 use std::process::Abort;
+use std::rc::Rc;
 
 /// Writes the page of `number` on the device.
 pub(crate) fn write<D: PageDevice>(rt: &impl Abort, device: &mut D, no: u32, number: u16)
@@ -38,13 +39,22 @@ pub(crate) fn assert_read_fails<D: PageDevice>(rt: &impl Abort, device: &mut D, 
     assert_same(rt, read, Err(DeviceFault::Failed));
 }
 
+/// The page of `number`, in one of the pool's.
+pub(crate) fn filled<P: PagePool>(rt: &impl Abort, pool: &mut P, number: u16) -> Rc<Page>
+    ensures counts { P.counts pool.new ≡ P.counts pool.old }
+{
+    let mut page = pool.page_to_fill().expect(rt, "page_to_fill");
+    *Rc::get_mut(&mut page).expect(rt, "get_mut") = page_of(number);
+    page
+}
+
 /// Adds the page of `number` to the pool.
 pub(crate) fn add<P: PagePool>(rt: &impl Abort, pool: &mut P, number: u16) -> PageNo
     ensures added { 0 < count_of (P.counts pool.new) result }
     ensures named { StaysNamed (P.counts pool.old) (P.counts pool.new) }
 {
-    pool.add(&page_of(number), PageKind::Bytes)
-        .expect(rt, "add")
+    let page = filled(rt, pool, number);
+    pool.add(page, PageKind::Bytes).expect(rt, "add")
 }
 
 /// The pool gives the page of `number`.

@@ -1,4 +1,4 @@
-use Rattle.std.proofs.Common.{◌≡◌, ◌∙◌, ◌+◌, ◌<◌, ◌≤◌, ◌++◌, ◌∷◌, [], ℕ, List, is_ok, true, ap, arith, length, subst, sym, take}
+use Rattle.std.proofs.Common.{◌≡◌, ◌∙◌, ◌+◌, ◌<◌, ◌≤◌, ◌++◌, ◌∷◌, [], ℕ, List, is_ok, true, ap, arith, get_or, length, subst, sym, take}
 use Rattle.std.proofs.lemmas.List.{take_all, take_more}
 use Rattle.oai_item.specs.Item.{ItemState}
 use Rattle.oai_places.specs.Calls.{fault_of}
@@ -9,7 +9,6 @@ use Rattle.oai_places.proofs.EntryLemmas.{storable-between}
 use Rattle.oai_places.proofs.OverflowLemmas.{few_overflow, length-pages}
 use Rattle.oai_places.proofs.RecountLemmas.{named_while_shared, undone_after}
 use Rattle.oai_places.proofs.SpendingLemmas.{err_of, ok_of, spends_both, spends_call, spends_fault, spends_freed_err, spends_more, spends_none, spends_ok}
-use Rattle.oai_places.proofs.TestedLemmas.{kind_fits}
 use Rattle.oai_paged.proofs.changes.add_numbers.Goals as goal
 
 pub overflow_add-overflow : goal.overflow_add-overflow
@@ -25,16 +24,9 @@ loop-at-init g c = record {
   room = c.in_ok-numbers.ensures.capacity;
 }
 
-pub fill_page-requires-clause-there : goal.fill_page-requires-clause-there
-fill_page-requires-clause-there g c =
+pub add_filled-requires-clause-there : goal.add_filled-requires-clause-there
+add_filled-requires-clause-there g c =
     omega (arith, c.loop-at-test.true, c.overflow-overflow.ensures, length-pages (between c.args.range.from c.args.range.to c.args.range.entries.now))
-
-pub add-requires : goal.add-requires
-add-requires g c =
-    let items : List ItemState = between c.args.range.from c.args.range.to c.args.range.entries.now in
-    kind_fits items _ c.loop-at.at c.fill_page.new.page c.kind_for-kind.result c.kind_for-kind.ensures c.overflow-overflow.ensures
-    (omega (arith, c.loop-at-test.true, c.overflow-overflow.ensures, length-pages items)) (c.fill_page.ensures [])
-    (storable-between c.args.range.from c.args.range.to c.args.range.entries.now c.len-all.ensures.storable) c.requires.alone
 
 pub unwrap-requires : goal.unwrap-requires
 unwrap-requires g c = c.push.ensures.succeeds (omega (arith, c.loop-at-test.true, c.loop-at.invariant.len, c.loop-at.invariant.room))
@@ -44,16 +36,16 @@ loop-at-preserved g c =
     let G = g.P.PagePool in
     let p = c.args.pages.now in
     let q = c.loop-at.pages in
-    let r = c.add.new.self in
+    let r = c.add_filled.new.pages in
     let so_far = c.loop-at.invariant in
     let all : List (List ℕ) = pages_of (between c.args.range.from c.args.range.to c.args.range.entries.now) in
     let at = c.loop-at.at in
     let within : at < length all = omega (arith, c.loop-at-test.true, c.overflow-overflow.ensures, length-pages (between c.args.range.from c.args.range.to c.args.range.entries.now)) in
     let done : is_ok c.push.result ≡ true = c.push.ensures.succeeds (omega (arith, c.loop-at-test.true, so_far.len, so_far.room)) in
     let pushed : c.push.new.self.items ≡ c.loop-at.numbers.items ++ c.in-Ok.number ∷ [] = rw done at c.push.ensures.items in
-    let next : take (at + 1) all ≡ take at all ++ c.fill_page.new.page ∷ [] = take_more all at [] within ∙ ap (λ page. take at all ++ page ∷ []) (sym (c.fill_page.ensures [])) in
+    let next : take (at + 1) all ≡ take at all ++ get_or all at [] ∷ [] = take_more all at [] within in
     record {
-      added = rw (next, pushed) (adds_number G (take at all) c.loop-at.numbers.items c.in-Ok.number c.fill_page.new.page p q r so_far.added c.in-Ok.ensures.added.free c.in-Ok.ensures.added.counts c.add.ensures.kept c.in-Ok.ensures.added.page);
+      added = rw (next, pushed) (adds_number G (take at all) c.loop-at.numbers.items c.in-Ok.number (get_or all at []) p q r so_far.added (c.in-Ok.ensures.added []).free (c.in-Ok.ensures.added []).counts c.add_filled.ensures.kept (c.in-Ok.ensures.added []).page);
       taken = spends_both G at 1 at (ok_of (at + 1)) p q r so_far.taken (spends_call G 1 c.in-Ok.number (at + 1) q r c.in-Ok.ensures.pool);
       len = rw done at c.push.ensures.len ∙ ap (λ n. n + 1) so_far.len;
       room = omega (arith, so_far.room, c.push.ensures.capacity);
@@ -63,15 +55,15 @@ pub drop_numbers-requires : goal.drop_numbers-requires
 drop_numbers-requires g c =
     let G = g.P.PagePool in
     let q = c.loop-at.pages in
-    let r = c.add.new.self in
-    rw c.as_slice.ensures.value (named_while_shared G c.loop-at.numbers.items c.args.pages.now q r c.loop-at.invariant.added.names (recounts_kept G q r c.in-Err.ensures.err c.add.ensures.kept))
+    let r = c.add_filled.new.pages in
+    rw c.as_slice.ensures.value (named_while_shared G c.loop-at.numbers.items c.args.pages.now q r c.loop-at.invariant.added.names (recounts_kept G q r c.in-Err.ensures.err c.add_filled.ensures.kept))
 
 pub returns-in-Err-clause-undone : goal.returns-in-Err-clause-undone
 returns-in-Err-clause-undone g c =
     let G = g.P.PagePool in
     let q = c.loop-at.pages in
-    let r = c.add.new.self in
-    undone_after G c.loop-at.numbers.items c.args.pages.now q r c.drop_numbers.new.pages c.loop-at.invariant.added.names (recounts_kept G q r c.in-Err.ensures.err c.add.ensures.kept)
+    let r = c.add_filled.new.pages in
+    undone_after G c.loop-at.numbers.items c.args.pages.now q r c.drop_numbers.new.pages c.loop-at.invariant.added.names (recounts_kept G q r c.in-Err.ensures.err c.add_filled.ensures.kept)
     (rw c.as_slice.ensures.value at c.drop_numbers.ensures.names)
 
 pub returns-in-Err-clause-pool : goal.returns-in-Err-clause-pool
@@ -79,7 +71,7 @@ returns-in-Err-clause-pool g c =
     let G = g.P.PagePool in
     let p = c.args.pages.now in
     let q = c.loop-at.pages in
-    let r = c.add.new.self in
+    let r = c.add_filled.new.pages in
     let s = c.drop_numbers.new.pages in
     let items : List ItemState = between c.args.range.from c.args.range.to c.args.range.entries.now in
     let at = c.loop-at.at in
