@@ -1,5 +1,6 @@
 -- Entries of pages that are known to spell items, and the pages of which that is known.
 use Rattle.std.proofs.Common.{◌≡◌, ◌∙◌, ◌+◌, ◌-◌, ◌^◌, ◌<◌, ◌≤◌, ◌&&◌, nat_le, ℕ, suc, zero, Bool, true, false, Option, Some, IsSome, is_some, unwrap_or, List, [], ◌∷◌, ◌++◌, length, take, drop, get_or, refl, sym, ap, subst, arith, append_assoc, length-append, length-drop}
+use Rattle.std.specs.List.{list_all}
 use Rattle.std.specs.Prelude.{replicate}
 use Rattle.std.proofs.lemmas.Bool.{and_parts}
 use Rattle.std.proofs.lemmas.Bool.Decides.{nat_tests}
@@ -23,7 +24,7 @@ use Rattle.oai_places.specs.declared.sizes.TheConstants.{MAX_ENTRY_BYTES}
 use Rattle.oai_places.proofs.InsidePlaces.{few_items}
 use Rattle.oai_places.proofs.OverflowLemmas.{joined_pages-one, long_from, overflow-one, pages-one}
 use Rattle.oai_places.proofs.PageLemmas.{behind_number, entries_of-cons, entry_parts, length-entry, number_back, page_parts}
-use Rattle.oai_places.proofs.ReadLemmas.{has_entry, no_entries, one_more, page_read, some_from}
+use Rattle.oai_places.proofs.ReadLemmas.{all_zeros, has_entry, is_zero, no_entries, one_more, page_read, some_from}
 use Rattle.oai_places.proofs.RecountLemmas.{spares_from, spares_none, spares_then}
 use Rattle.oai_places.proofs.SpendingLemmas.{err_of, spends_freed_err}
 
@@ -89,6 +90,12 @@ more_known bytes ends whole count size len h within entry is = record {
       ap (spells_items (whole - (count + 1))) behind ∙ (left_parts whole count (drop size bytes) within h.left).1;
 }
 
+-- where none is left, only zeros are
+pub zeros_known : (bytes ends : List ℕ) (whole count size : ℕ) → AreKnown bytes ends whole count size → whole ≤ count → list_all is_zero (drop size bytes) ≡ true
+zeros_known bytes ends whole count size h past =
+    let none : 0 ≡ whole - count = omega arith in
+    ap (λ k. spells_items k (drop size bytes)) none ∙ h.left
+
 -- ---- what is written
 
 -- the entry of an item spells it
@@ -110,15 +117,19 @@ written_entry item rest s =
     let enough : nat_le (4 + leading_number bytes) (length bytes) ≡ true = grind (arith, nat_tests) in
     (ap (λ b. b && is_some (item_in (text_in bytes))) enough ∙ some, back)
 
-written_entries : (items : List ItemState) (rest : List ℕ) → AreStorable items → spells_items (length items) (entries_of items ++ rest) ≡ true
-written_entries [] rest h = refl
-written_entries (item ∷ items) rest h =
+no_entries_written : (rest : List ℕ) → list_all is_zero rest ≡ true → spells_items 0 (entries_of [] ++ rest) ≡ true
+unfolding entries_of
+no_entries_written rest zeros = zeros
+
+written_entries : (items : List ItemState) (rest : List ℕ) → AreStorable items → list_all is_zero rest ≡ true → spells_items (length items) (entries_of items ++ rest) ≡ true
+written_entries [] rest h zeros = no_entries_written rest zeros
+written_entries (item ∷ items) rest h zeros =
     let bytes : List ℕ = entry_of item ++ (entries_of items ++ rest) in
     let parts : entries_of (item ∷ items) ++ rest ≡ bytes = ap (λ bs. bs ++ rest) (entries_of-cons item items) ∙ append_assoc (entry_of item) (entries_of items) rest in
     let one = written_entry item (entries_of items ++ rest) h.0 in
     ap (spells_items (suc (length items))) parts
     ∙ ap (λ b. b && spells_items (length items) (drop (4 + leading_number bytes) bytes)) one.0
-    ∙ ap (spells_items (length items)) one.1 ∙ written_entries items rest h.1
+    ∙ ap (spells_items (length items)) one.1 ∙ written_entries items rest h.1 zeros
 
 -- the page of items is known to be one
 has_items-spelled : (room : ℕ) (items : List ItemState) → length items < 2 ^ 32 → AreStorable items → has_items (page_spelling room items) ≡ true
@@ -128,13 +139,13 @@ has_items-spelled room items few h =
     let parts = page_parts room items in
     let number : leading_number (page_spelling room items) ≡ length items = ap leading_number parts ∙ number_back (length items) (entries_of items ++ zeros) few in
     let behind : drop 4 (page_spelling room items) ≡ entries_of items ++ zeros = ap (drop 4) parts ∙ behind_number (length items) (entries_of items ++ zeros) in
-    (λ k. spells_items (number k) (behind k)) ∙ written_entries items zeros h
+    (λ k. spells_items (number k) (behind k)) ∙ written_entries items zeros h (all_zeros (room - size_of items))
 
 pub has_items-page : (bytes : List ℕ) (items : List ItemState) → IsPage bytes items → has_items bytes ≡ true
 unfolding has_items
 has_items-page bytes items page =
     let read = page_read bytes items page in
-    (λ k. spells_items (read.0 k) (read.1 k)) ∙ written_entries items _ page.fit.storable
+    (λ k. spells_items (read.0 k) (read.1 k)) ∙ written_entries items _ page.fit.storable (all_zeros (length bytes - 4 - size_of items))
 
 pub known_page : (pages : Pages) (n : ℕ) (items : List ItemState) → IsPage (page_at pages n) items → (bytes : List ℕ) → pages n ≡ Some bytes → has_items bytes ≡ true
 known_page pages n items h bytes is = subst (λ (bs : List ℕ). has_items bs ≡ true) (ap (λ o. unwrap_or o []) is) (has_items-page (page_at pages n) items h)

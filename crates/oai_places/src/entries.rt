@@ -76,12 +76,16 @@ impl Entries {
     {
         let count = first_number(page);
         let (ends, size) = read_ends(alloc, &page[NUMBER_BYTES..], count)?;
-        let (entries, _) = page[NUMBER_BYTES..].split_at(size);
+        let (entries, behind) = page[NUMBER_BYTES..].split_at(size);
+        if !are_zeros(behind) {
+            return Err(DecodeFault::Damaged);
+        }
         let bytes = HeldBytes::copied(alloc, entries)?;
         Entries::ending(page, bytes, ends, size)
     }
 
-    /// The entries of a page, each of which is known to encode an item, and is not validated. They are not copied: the
+    /// The entries of a page, each of which is known to encode an item, and is not validated, as are the zeros after
+    /// them. They are not copied: the
     /// page stays in memory with them. The errors: `Damaged` if the bytes are not a page of items; `NoMemory`.
     pub(crate) fn of_page(alloc: Global, page: &Rc<Page>) -> Result<Entries, DecodeFault>
         requires { has_items page.now.value ≡ true }
@@ -94,8 +98,8 @@ impl Entries {
         Entries::ending(all, bytes, ends, size)
     }
 
-    /// The entries of a page, which are these bytes, of that many, and each of which ends at one of the numbers.
-    /// `Damaged` if the bytes are not a page of items.
+    /// The entries of a page, which are these bytes, of that many, and each of which ends at one of the numbers; zeros
+    /// follow them. `Damaged` if the bytes are not a page of items.
     fn ending(
         page: &[u8],
         bytes: HeldBytes,
@@ -105,14 +109,11 @@ impl Entries {
         requires long { 4 ≤ length page.now }
         requires entries { HasEntries (drop 4 page.now) ends.items (first_number page.now) size }
         requires bytes { bytes ≡ take size (drop 4 page.now) }
+        requires zeros { list_all (λ byte. byte == 0) (drop size (drop 4 page.now)) ≡ true }
         ensures { IsPageReading page.now result }
     {
         let count = first_number(page);
         if count == 0 {
-            return Err(DecodeFault::Damaged);
-        }
-        let (_, behind) = page[NUMBER_BYTES..].split_at(size);
-        if !are_zeros(behind) {
             return Err(DecodeFault::Damaged);
         }
         let entries = Entries { bytes, ends };

@@ -15,6 +15,7 @@ use oai_device::{HeldBytes, PAGE_BYTES};
 use oai_item::{DecodeFault, Item, Spelling, is_spelling};
 use oai_names::Prefix;
 use oai_pool::Page;
+pub(crate) use oai_pool::are_zeros;
 use std::alloc::{AllocError, Global};
 
 /// The prefixes of an item's records. The error is out of memory.
@@ -127,14 +128,15 @@ pub(crate) fn read_ends(
 }
 
 /// The offset behind each of that many entries at the start of the bytes, each of which is known to encode an item, and
-/// that of the last. The error is out of memory.
+/// that of the last, behind which only zeros are known to stand. The error is out of memory.
 pub(crate) fn ends_of(
     alloc: Global,
     bytes: &[u8],
     count: usize,
 ) -> Result<(Vec<usize>, usize), AllocError>
     requires { spells_items count bytes.now ≡ true }
-    ensures { IfOk result (λ read. HasEntries bytes.now read.0.items count read.1) }
+    ensures ends { IfOk result (λ read. HasEntries bytes.now read.0.items count read.1) }
+    ensures zeros { IfOk result (λ read. list_all (λ byte. byte == 0) (drop read.1 bytes.now) ≡ true) }
 {
     let mut ends = Vec::with_capacity(alloc, count)?;
     let mut end = 0;
@@ -161,19 +163,6 @@ fn push_end(ends: &mut Vec<usize>, end: usize) -> Result<(), AllocError>
 {
     ends.push(end)?;
     Ok(())
-}
-
-/// Whether each of the bytes is 0. The loop ends only at the last byte, and a separate function returns what it finds,
-/// so that it can be vectorized.
-#[inline(never)]
-pub(crate) fn are_zeros(bytes: &[u8]) -> bool
-    ensures { result ≡ list_all (λ byte. byte == 0) bytes.now }
-{
-    let mut zeros = true;
-    for byte in bytes {
-        zeros = zeros & (*byte == 0);
-    }
-    zeros
 }
 
 /// A copy of the numbers, with room for that many in all.

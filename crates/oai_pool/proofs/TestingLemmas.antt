@@ -1,5 +1,6 @@
 -- Entries in front of bytes that spell items, or do not.
-use Rattle.std.proofs.Common.{◌≡◌, ◌∙◌, ◌+◌, ◌-◌, ◌<◌, ◌≤◌, ◌&&◌, nat_le, ℕ, suc, Bool, true, false, is_some, List, length, take, drop, refl, sym, ap, arith}
+use Rattle.std.proofs.Common.{◌≡◌, ◌∙◌, ◌+◌, ◌-◌, ◌<◌, ◌≤◌, ◌&&◌, ◌==◌, nat_le, ℕ, suc, Bool, true, false, is_some, List, length, take, drop, refl, sym, ap, arith}
+use Rattle.std.specs.List.{list_all}
 use Rattle.std.proofs.lemmas.Bool.Decides.{nat_tests}
 use Rattle.oai_item.specs.Decoding.{item_in}
 use Rattle.oai_pool.specs.Kinds.{IsItemEntry, has_items, leading_number, spells_item, spells_items}
@@ -59,8 +60,8 @@ one_fails n done bytes has within none was =
     sym (ap (λ b. b && spells_items (n - (done + 1)) (drop (4 + leading_number bytes) bytes)) none)
     ∙ ap (λ k. spells_items k bytes) (sym (one_more n done within)) ∙ was
 
--- where none is left, all do
-pub none_left : (n done : ℕ) (bytes : List ℕ) (has : Bool) → n ≤ done → spells_items (n - done) bytes ≡ has → true ≡ has
+-- where none is left, the zeros decide
+pub none_left : (n done : ℕ) (bytes : List ℕ) (has : Bool) → n ≤ done → spells_items (n - done) bytes ≡ has → list_all (λ byte. byte == 0) bytes ≡ has
 none_left n done bytes has past was =
     let none : 0 ≡ n - done = omega arith in
     ap (λ k. spells_items k bytes) none ∙ was

@@ -1,6 +1,7 @@
 -- Pages of items, and other pages. How items are laid out on a page is this repository's own, and no part of OAI-PMH.
-use Rattle.std.specs.Prelude.{◌≡◌, ◌&&◌, ◌+◌, ◌≤◌, nat_le, ℕ, zero, suc, Bool, true, false, is_some, List, length, take, drop, Option, Some, None}
+use Rattle.std.specs.Prelude.{◌≡◌, ◌&&◌, ◌==◌, ◌+◌, ◌≤◌, nat_le, ℕ, zero, suc, Bool, true, false, is_some, List, length, take, drop, Option, Some, None}
 use Rattle.std.specs.Int.{w32, from_be_bytes}
+use Rattle.std.specs.List.{list_all}
 use Rattle.oai_item.specs.Decoding.{item_in}
 use Rattle.oai_pool.specs.declared.kinds.PageKind.{PageKind}
 use Rattle.oai_pool.specs.declared.kinds.PageKind.TheVariants.{Items, Bytes}
@@ -13,12 +14,12 @@ leading_number bytes = from_be_bytes w32 (take 4 bytes)
 unfoldable pub spells_item : List ℕ → Bool
 spells_item bytes = nat_le (4 + leading_number bytes) (length bytes) && is_some (item_in (take (leading_number bytes) (drop 4 bytes)))
 
--- the bytes begin with that many such entries
+-- the bytes are that many such entries, and zeros after them
 abbrev pub spells_items : ℕ → List ℕ → Bool
-spells_items zero bytes = true
+spells_items zero bytes = list_all (λ byte. byte == 0) bytes
 spells_items (suc n) bytes = spells_item bytes && spells_items n (drop (4 + leading_number bytes) bytes)
 
--- the bytes begin with a number and that many such entries, whatever follows
+-- the bytes are a number and that many such entries, and zeros after them
 unfoldable pub has_items : List ℕ → Bool
 has_items bytes = spells_items (leading_number bytes) (drop 4 bytes)
 

@@ -15,3 +15,4 @@ pub use kinds::PageKind;
 pub use oai_device::Page;
 pub use pool::Pool;
 pub use pools::{MAX_PAGES, PageNo, PagePool, PoolFault};
+pub use testing::are_zeros;

@@ -1,5 +1,6 @@
 //! Validates a page of items.
-ghost use Rattle.std.specs.Prelude.{◌≡◌, ◌≤◌, length, IfOk};
+ghost use Rattle.std.specs.Prelude.{◌≡◌, ◌==◌, ◌≤◌, length, IfOk};
+ghost use Rattle.std.specs.List.{list_all};
 ghost use Rattle.oai_pool.specs.Kinds.{IsEntryTest, has_items, is_of, leading_number};
 
 use crate::kinds::PageKind;
@@ -20,7 +21,7 @@ pub(crate) fn is_of(alloc: Global, kind: PageKind, page: &[u8]) -> Result<bool, 
     }
 }
 
-/// Whether each entry of the page encodes an item. The error is out of memory.
+/// Whether each entry of the page encodes an item, and only zeros follow them. The error is out of memory.
 fn has_items(alloc: Global, page: &[u8]) -> Result<bool, AllocError>
     requires { 4 ≤ length page.now }
     ensures { IfOk result (λ has. has ≡ has_items page.now) }
@@ -32,7 +33,20 @@ fn has_items(alloc: Global, page: &[u8]) -> Result<bool, AllocError>
             None => return Ok(false),
         }
     }
-    Ok(true)
+    Ok(are_zeros(rest))
+}
+
+/// Whether each of the bytes is 0. The loop ends only at the last byte, and a separate function returns what it finds,
+/// so that it can be vectorized.
+#[inline(never)]
+pub fn are_zeros(bytes: &[u8]) -> bool
+    ensures { result ≡ list_all (λ byte. byte == 0) bytes.now }
+{
+    let mut zeros = true;
+    for byte in bytes {
+        zeros = zeros & (*byte == 0);
+    }
+    zeros
 }
 
 /// The length of the entry at the start of the bytes, if it encodes an item; otherwise None. The error is out of

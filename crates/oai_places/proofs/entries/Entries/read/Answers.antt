@@ -1,8 +1,9 @@
-use Rattle.std.proofs.Common.{◌≡◌, ◌∙◌, Err, ap, arith, sym, take}
+use Rattle.std.proofs.Common.{◌≡◌, ◌∙◌, Err, ap, arith, drop, sym, take}
+use Rattle.std.specs.List.{list_all}
 use Rattle.std.proofs.lemmas.List.{take_rest}
 use Rattle.std.proofs.lemmas.Result.{err_from_is_err_and}
 use Rattle.oai_places.specs.Pages.{first_number}
-use Rattle.oai_places.proofs.ReadLemmas.{entries_seen, no_page-entries, page_fails, size_within}
+use Rattle.oai_places.proofs.ReadLemmas.{entries_seen, is_zero, no_page-entries, no_page-zeros, page_fails, size_within}
 use Rattle.oai_places.proofs.entries.Entries.read.Goals as goal
 
 pub returns-in_err-ends : goal.returns-in_err-ends
@@ -20,6 +21,16 @@ pub split_at-requires : goal.split_at-requires
 split_at-requires c =
     let within = size_within _ _ _ _ c.in_ok-ends.ensures.read in
     omega (arith, within)
+
+pub returns-then-not-are_zeros : goal.returns-then-not-are_zeros
+returns-then-not-are_zeros c =
+    let rest = take_rest c.args.page.now 4 in
+    no_page-zeros c.args.page.now _ _ (entries_seen c.args.page.now _ _ _ _ rest c.first_number-count.ensures c.in_ok-ends.ensures.read)
+    (sym (c.are_zeros.ensures ∙ ap (list_all is_zero) (c.split_at.ensures.back ∙ ap (drop c.in_ok-ends.size) rest)) ∙ c.if-not-are_zeros.true)
+
+pub ending-requires-clause-zeros : goal.ending-requires-clause-zeros
+ending-requires-clause-zeros c =
+    sym (c.are_zeros.ensures ∙ ap (list_all is_zero) (c.split_at.ensures.back ∙ ap (drop c.in_ok-ends.size) (take_rest c.args.page.now 4))) ∙ c.if-not-are_zeros.false
 
 pub ending-requires-clause-bytes : goal.ending-requires-clause-bytes
 ending-requires-clause-bytes c = c.in_ok-bytes.ensures ∙ c.split_at.ensures.front ∙ ap (take c.in_ok-ends.size) (take_rest c.args.page.now 4)

@@ -1,6 +1,6 @@
 use Rattle.std.proofs.Common.{◌≡◌, ◌==◌, take}
 use Rattle.std.specs.List.{list_all}
-use Rattle.oai_places.proofs.entry_bytes.are_zeros.Given as goal
+use Rattle.oai_pool.proofs.testing.are_zeros.Given as goal
 
 -- whether the bytes so far are 0
 abbrev pub invariant-loop-byte : goal.invariant-loop-byte
