@@ -8,6 +8,7 @@ mod kinds;
 mod names;
 mod pool;
 mod pools;
+mod spares;
 mod testing;
 mod transfers;
 

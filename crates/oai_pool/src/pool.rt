@@ -6,6 +6,7 @@ use crate::cache::PageCache;
 use crate::kinds::PageKind;
 use crate::names::Names;
 use crate::pools::{MAX_PAGES, PageNo, PagePool, PoolFault};
+use crate::spares::SparePages;
 use crate::testing::is_of;
 use crate::transfers::{load, load_range, room_for_a_page, store};
 use oai_device::{Page, PageDevice};
@@ -14,15 +15,15 @@ use std::alloc::{AllocError, Global};
 use std::num::NonZeroUsize;
 use std::rc::Rc;
 
-/// A pool of pages on a device, with a cache. Besides the cached pages it holds one spare page in memory, into which
-/// the next one is read.
+/// A pool of pages on a device, with a cache. Besides the cached pages it holds at most two spare pages in memory, into
+/// which the next ones are read.
 #[derive(Drop)]
 pub struct Pool<D: PageDevice> {
     alloc: Global,
     device: D,
     names: Names,
     cache: PageCache,
-    spare: Option<Rc<Page>>,
+    spares: SparePages,
     ghost written: { (n : ℕ) → 0 < count_of names.counts.items n → IsSome (D.pages device n) },
     ghost cached_are_named: { (n : ℕ) (bytes : List ℕ)
         → held cache n ≡ Some bytes → 0 < count_of names.counts.items n },
@@ -48,7 +49,7 @@ impl<D: PageDevice> PagePool for Pool<D> {
     ghost cache_size = { λ p. p.cache.pages.cap };
 
     fn page_to_fill(&mut self) -> Result<Rc<Page>, AllocError> {
-        room_for_a_page(self.alloc, self.spare.take())
+        room_for_a_page(self.alloc, self.spares.take())
     }
 
     fn add(&mut self, page: Rc<Page>, kind: PageKind) -> Result<PageNo, PoolFault> {
@@ -65,9 +66,7 @@ impl<D: PageDevice> PagePool for Pool<D> {
 
     fn drop_ref(&mut self, no: PageNo) {
         if self.names.drop_name(no) {
-            if let Some(page) = self.cache.forget(no) {
-                self.spare = Some(page);
-            }
+            self.spares.put(self.cache.forget(no));
         }
     }
 
@@ -75,7 +74,7 @@ impl<D: PageDevice> PagePool for Pool<D> {
         if let Some(page) = self.cache.find(no, kind) {
             return Ok(page);
         }
-        let page = load(self.alloc, &mut self.device, no, self.spare.take())?;
+        let page = load(self.alloc, &mut self.device, no, self.spares.take())?;
         if !is_of(self.alloc, kind, &page[..])? {
             return Err(PoolFault::Damaged);
         }
@@ -87,7 +86,7 @@ impl<D: PageDevice> PagePool for Pool<D> {
         if let Some(known) = self.cache.find_any(no) {
             return Ok(known);
         }
-        let loaded = load(self.alloc, &mut self.device, no, self.spare.take())?;
+        let loaded = load(self.alloc, &mut self.device, no, self.spares.take())?;
         self.keep_clone(no, &loaded, PageKind::Bytes);
         Ok((loaded, PageKind::Bytes))
     }
@@ -101,9 +100,7 @@ impl<D: PageDevice> PagePool for Pool<D> {
     }
 
     fn forget(&mut self, no: PageNo) {
-        if let Some(page) = self.cache.forget(no) {
-            self.spare = Some(page);
-        }
+        self.spares.put(self.cache.forget(no));
     }
 
     fn used(&self) -> usize {
@@ -143,7 +140,7 @@ impl<D: PageDevice> Pool<D> {
             device,
             names: Names::new(alloc),
             cache,
-            spare: None,
+            spares: SparePages::new(),
         })
     }
 
@@ -156,7 +153,7 @@ impl<D: PageDevice> Pool<D> {
         ensures device { device_of self.new ≡ device_of self.old }
         ensures size { self.new.cache.pages.cap ≡ self.old.cache.pages.cap }
     {
-        self.spare = self.cache.keep(no, page, kind);
+        self.spares.put(self.cache.keep(no, page, kind));
     }
 
     /// As `keep`, if the page's reference count can be raised.
