@@ -19,7 +19,9 @@ use crate::exchanges::{exchange, reserve};
 use oai_device::PAGE_BYTES;
 use oai_item::Fault;
 use oai_names::{Prefix, Sequence};
-use oai_places::{Cuts, Entries, SharedPlace, Statistics, drop_all, drop_numbers, fault_of};
+use oai_places::{
+    Cuts, Entries, MAX_REPLACED, SharedPlace, Statistics, drop_all, drop_numbers, fault_of,
+};
 use oai_pool::{Page, PageKind, PageNo, PagePool, PoolFault};
 use oai_sums::SetNames;
 use std::alloc::{AllocError, Global};
@@ -120,8 +122,8 @@ impl DirectoryLeaves {
     }
 }
 
-/// Adds the pages of the entries, split as they are cut, and returns their leaves. Any fault but `Damaged` may come;
-/// the pages are then unchanged.
+/// Adds the pages of the entries, split as they are cut, and returns their leaves, with space for those that they
+/// replace. Any fault but `Damaged` may come; the pages are then unchanged.
 fn add_all<P: PagePool>(
     alloc: Global,
     pages: &mut P,
@@ -135,7 +137,7 @@ fn add_all<P: PagePool>(
     ensures undone { OnErr result (Renames P.PagePool [] [] pages.old pages.new) }
     ensures pool { AddsPages P.PagePool cut.entry.entries.now result pages.old pages.new }
 {
-    let mut added = Vec::with_capacity(alloc, MAX_PARTS)?;
+    let mut added = Vec::with_capacity(alloc, MAX_PARTS + MAX_REPLACED)?;
     match add_parts(alloc, pages, names, cut, near, &mut added) {
         Ok(()) => Ok(added),
         Err(fault) => {
