@@ -14,14 +14,14 @@ ghost use Rattle.oai_places.specs.Places.{AreSetCounts, have_records};
 ghost use Rattle.oai_places.specs.declared.sizes.TheConstants.{MAX_ENTRY_BYTES, MAX_WHOLE_BYTES};
 
 use crate::entry_bytes::{
-    are_zeros, common, copied_ends, ends_of, entry_of, fill_with, first_number, has_each, joined,
-    prefixes_of, push_moved, read_ends,
+    common, copied_ends, ends_of, entry_of, fill_with, first_number, has_each, joined, prefixes_of,
+    push_moved, read_ends,
 };
 use crate::sizes::{FRONT_BYTES, FULL_BYTES, MAX_ENTRY_BYTES, MAX_WHOLE_BYTES, NUMBER_BYTES};
 use oai_device::{HeldBytes, PAGE_BYTES};
 use oai_item::{DecodeFault, Item, ItemKey, Spelling};
 use oai_names::{Identifier, Prefix, Sequence};
-use oai_pool::Page;
+use oai_pool::{Page, are_zeros};
 use oai_sums::{PackedCounts, SetCounts, SetNames, Span};
 use std::alloc::{AllocError, Global};
 use std::cmp::Ordering;

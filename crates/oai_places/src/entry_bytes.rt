@@ -15,7 +15,6 @@ use oai_device::{HeldBytes, PAGE_BYTES};
 use oai_item::{DecodeFault, Item, Spelling, is_spelling};
 use oai_names::Prefix;
 use oai_pool::Page;
-pub(crate) use oai_pool::are_zeros;
 use std::alloc::{AllocError, Global};
 
 /// The prefixes of an item's records. The error is out of memory.

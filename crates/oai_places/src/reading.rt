@@ -16,7 +16,6 @@ ghost use Rattle.oai_places.specs.Places.{FitPages, IsSoundPlace, are_below, byt
 ghost use Rattle.oai_places.specs.Searches.{MayBeAt, are_of};
 
 use crate::entries::Entries;
-use crate::entry_bytes::are_zeros;
 use crate::faults::{decoding_fault_of, fault_of};
 use crate::finding::{begins_on_page, find_on_page, has_items};
 use crate::leaves::LeafList;
@@ -27,7 +26,7 @@ use crate::sizes::FRONT_BYTES;
 use crate::untested::{find_untested, may_begin};
 use oai_device::PAGE_BYTES;
 use oai_item::{DecodeFault, Fault, Item, ItemKey};
-use oai_pool::{PageKind, PageNo, PagePool};
+use oai_pool::{PageKind, PageNo, PagePool, are_zeros};
 use std::alloc::Global;
 use std::cmp::Ordering;
 
