@@ -36,6 +36,16 @@ loop-item-preserved-else-not-is_first c =
       let was = at.invariant.2 in let gone = c.in-Some.ensures.steps.1 in let short = ap length steps in omega arith,
     )
 
+pub loop-item-preserved-else-not-is_first-2 : goal.loop-item-preserved-else-not-is_first-2
+loop-item-preserved-else-not-is_first-2 c =
+    let at = c.loop-item in
+    let steps = c.in-Some.ensures.steps.0 in
+    let same : is_first c.in-Some.item c.from-left.result.now ≡ true = sym c.is_first.ensures ∙ c.if-not-is_first.false in (
+      one_more_shared c.args.items.items c.args.others.now at.missing.items _ at.left.now c.in-Some.item _ c.from-left.result.now at.invariant.0 steps c.from-left.ensures same,
+      dropped at.missing.items _ _ c.in-Some.item _ steps at.invariant.1,
+      let was = at.invariant.2 in let gone = c.in-Some.ensures.steps.1 in let short = ap length steps in omega arith,
+    )
+
 pub loop-item-preserved : goal.loop-item-preserved
 loop-item-preserved c =
     let at = c.loop-item in
