@@ -26,6 +26,9 @@ FOLDERS = {"memory": "/dev/shm", "file": None}
 LONG = float(os.environ.get("LONG", "30"))
 SHORT = min(5.0, LONG)
 
+# For how many seconds lists are begun: the server holds 10,000 lists, and each of them for LIFETIME seconds.
+BEGINNING = min(1.0, LONG)
+
 # After how many seconds without a request a list ends.
 LIFETIME = 2
 
@@ -144,7 +147,7 @@ class Bench:
             " of a set, within bounds": f"&set={SET}" + self.within(),
         }.items():
             self.rest()
-            self.measure(f"first parts{name}{behind}", lambda it=arguments: as_many(lambda: self.first_part(it), SHORT))
+            self.measure(f"first parts{name}{behind}", lambda it=arguments: as_many(lambda: self.first_part(it), BEGINNING))
         self.rest()
 
     def write(self):
@@ -152,7 +155,7 @@ class Bench:
         self.measure(f"changed records, {OPEN} lists open", lambda: as_many(self.change, MEANWHILE))
         self.rest()
         self.measure("changed records", lambda: as_many(self.change, LONG))
-        self.measure("first parts, behind the changes", lambda: as_many(self.first_part, SHORT))
+        self.measure("first parts, behind the changes", lambda: as_many(self.first_part, BEGINNING))
         self.rest()
         self.measure("deletions", lambda: self.delete(self.chance.sample(range(self.size), self.size // 2)))
 
@@ -234,7 +237,7 @@ def bench(folder=None, *items: int):
     part of a list, and its last, again and again; first parts of lists, of all items, within bounds, of a set, and of a
     set within bounds; 20 lists that begin, and changed records while they are open; changed records, at random, each in
     a message of its own; first parts behind these; deletions of up to half of the items, at random. Changes and
-    deletions go on for LONG seconds, most else for five. At last it adds sets and lists them.
+    deletions go on for LONG seconds, first parts for one, most else for five. At last it adds sets and lists them.
 
     For each place and each cache it prints three tables, a row for each operation and a column for each size: how many
     for each second of the server's processor, which other work on the machine hardly changes; how many for each second
