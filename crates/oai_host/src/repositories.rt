@@ -16,7 +16,7 @@ ghost use Rattle.oai_settings.specs.Config.{is_repository_name};
 ghost use Rattle.std.specs.BTreeMap.{IsUnchanged, get_by_text};
 ghost use Rattle.std.specs.List.{list_all, list_any};
 ghost use Rattle.std.specs.Option.{option_copied};
-ghost use Rattle.std.specs.Prelude.{IsTrue, List, OnErr, OnOk, Some, [], false, if◌then◌else◌, true, ℕ, ◌++◌, ◌∷◌, ◌≡◌};
+ghost use Rattle.std.specs.Prelude.{IsTrue, List, OnErr, OnOk, Some, [], false, if◌then◌else◌, length, true, vec_capacity, vec_len, ℕ, ◌++◌, ◌<◌, ◌∷◌, ◌≡◌};
 ghost use Rattle.std.specs.Str.{bytes_eq};
 
 use crate::dispatch::perform_exchange;
@@ -129,10 +129,12 @@ impl Repositories {
         ensures ok { OnOk result (self.new ≡ self.old ++ one ∷ []) }
         ensures err { OnErr result (self.new ≡ self.old) }
     {
-        self.repos.reserve(1)?;
-        let place = self.repos.len();
-        note_place(self.alloc, &mut self.places, one.name.as_str(), place)?;
-        self.repos.push(one)?;
+        let name = one.name.as_str();
+        let Ok(()) = note_next(self.alloc, &mut self.repos, &mut self.places, name) else {
+            drop(one);
+            return Err(AllocError);
+        };
+        self.repos.push(one).unwrap();
         Ok(())
     }
 
@@ -249,6 +251,24 @@ impl Repositories {
             page.add_for("open_lists", "repository", one.name.as_str(), lists);
         }
     }
+}
+
+/// Reserves room for one more repository, and adds its position to the index under the name.
+fn note_next(
+    alloc: Global,
+    repos: &mut Vec<NamedRepo>,
+    places: &mut BTreeMap<String, usize>,
+    name: &str,
+) -> Result<(), AllocError>
+    ensures ok { OnOk result ((other : List ℕ) → get_by_text places.new other
+        ≡ (if bytes_eq name.now other then Some (length repos.old.items) else get_by_text places.old other)) }
+    ensures room { OnOk result (vec_len repos.new < vec_capacity repos.new) }
+    ensures repos { repos.new.items ≡ repos.old.items }
+    ensures err { OnErr result (IsUnchanged places.old places.new) }
+{
+    repos.reserve(1)?;
+    let place = repos.len();
+    note_place(alloc, places, name, place)
 }
 
 /// Adds the position to the index under the name.

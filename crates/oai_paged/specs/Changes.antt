@@ -71,6 +71,12 @@ pub record IsRange (from to : ℕ) (items : List ItemState) : Type 0 where
   pub alone : FitAlone (between from to items)
   pub rising : are_in_order items ≡ true
 
+-- the items from one position up to another one are some, and can be put on pages: they fit on one, or are one
+pub record HasPages (from to : ℕ) (items : List ItemState) : Type 0 where
+  pub order : from < to
+  pub within : to ≤ length items
+  pub alone : FitAlone (between from to items)
+
 -- they are the leaves of these items, in place of that many from `at` on
 pub record IsDirectoryChanged {P : Type 0} (g : Ghosts P) (items : List ItemState) (at len new_at new_len : ℕ) (gone before after : List PlaceState) (old new : P) : Type 0 where
   pub place : new_at ≡ at

@@ -7,7 +7,7 @@ ghost use Rattle.oai_item.specs.Order.{are_in_order};
 ghost use Rattle.oai_pool.specs.Calls.{IsAdded, SparesNumbers, SpendsNumbers};
 ghost use Rattle.oai_pool.specs.Counts.{KeepsNamed, count_of};
 ghost use Rattle.oai_places.specs.Calls.{Renames};
-ghost use Rattle.oai_paged.specs.Changes.{Adds, AddsPages, HasWayBack, IsRange, PutsRun};
+ghost use Rattle.oai_paged.specs.Changes.{Adds, AddsPages, HasPages, HasWayBack, IsRange, PutsRun};
 ghost use Rattle.oai_places.specs.Directory.{IsRunWithin, MayStand, StandsIn};
 ghost use Rattle.oai_places.specs.Pages.{AreCuts, FitAlone, between, kind_for, overflow_of, pages_of};
 ghost use Rattle.oai_places.specs.Places.{have_records, named_in};
@@ -211,6 +211,7 @@ fn add_part<P: PagePool>(
     if from == to {
         return Ok(());
     }
+    // (entries have fewer bytes than a `usize` counts, which the contract of their number says)
     let _all = entries.len();
     let place = add_page(alloc, pages, names, range, near)?;
     added.push(place).unwrap();
@@ -235,6 +236,7 @@ fn add_page<P: PagePool>(
     ensures pool { Spends P.room P.failures P.honest (1 + overflow_of (between range.entry.from range.entry.to range.entry.entries.now)) result pages.old pages.new }
 {
     let EntryRange { entries, from, to } = range;
+    // (entries have fewer bytes than a `usize` counts, which the contract of their number says)
     let _all = entries.len();
     let stamp = entries.stamp(from);
     let identifier = entries.identifier(alloc, from)?;
@@ -289,14 +291,13 @@ fn add_numbers<P: PagePool>(
     pages: &mut P,
     range: EntryRange<'_>,
 ) -> Result<Vec<PageNo>, Fault>
-    requires order { range.from < range.to }
-    requires within { range.to ≤ length range.entries.now }
-    requires alone { FitAlone (between range.from range.to range.entries.now) }
+    requires range { HasPages range.from range.to range.entries.now }
     ensures added { IfOk result (λ numbers. AddsNumbers P.PagePool (pages_of (between range.entry.from range.entry.to range.entry.entries.now)) numbers.items pages.old pages.new) }
     ensures undone { OnErr result (Recounts P.PagePool [] [] pages.old pages.new) }
     ensures pool { Spends P.room P.failures P.honest (1 + overflow_of (between range.entry.from range.entry.to range.entry.entries.now)) result pages.old pages.new }
 {
     let EntryRange { entries, from, to } = range;
+    // (entries have fewer bytes than a `usize` counts, which the contract of their number says)
     let _all = entries.len();
     let overflow = entries.overflow(from, to);
     let kind = kind_for(overflow);
@@ -321,9 +322,7 @@ fn add_filled<P: PagePool>(
     at: usize,
     kind: PageKind,
 ) -> Result<PageNo, PoolFault>
-    requires order { range.from < range.to }
-    requires within { range.to ≤ length range.entries.now }
-    requires alone { FitAlone (between range.from range.to range.entries.now) }
+    requires range { HasPages range.from range.to range.entries.now }
     requires there { at < length (pages_of (between range.from range.to range.entries.now)) }
     requires kind { kind ≡ kind_for (overflow_of (between range.from range.to range.entries.now)) }
     ensures added { IfOk result (λ no. HoldsAt (λ own. IsAdded P.counts P.pages own no pages.old pages.new) (pages_of (between range.entry.from range.entry.to range.entry.entries.now)) at) }
@@ -331,6 +330,7 @@ fn add_filled<P: PagePool>(
     ensures kept { KeepsNamed (P.counts pages.old) (P.pages pages.old) (P.pages pages.new) }
     ensures pool { SpendsNumbers P.room P.failures P.cache_size P.honest 1 result pages.old pages.new }
 {
+    // (entries have fewer bytes than a `usize` counts, which the contract of their number says)
     let _all = range.entries.len();
     let page = filled_page(alloc, pages, range, at)?;
     pages.add(page, kind)
@@ -343,9 +343,7 @@ fn filled_page<P: PagePool>(
     range: EntryRange<'_>,
     at: usize,
 ) -> Result<Rc<Page>, AllocError>
-    requires order { range.from < range.to }
-    requires within { range.to ≤ length range.entries.now }
-    requires alone { FitAlone (between range.from range.to range.entries.now) }
+    requires range { HasPages range.from range.to range.entries.now }
     requires there { at < length (pages_of (between range.from range.to range.entries.now)) }
     ensures value { IfOk result (λ page. HoldsAt (λ own. page.value ≡ own) (pages_of (between range.entry.from range.entry.to range.entry.entries.now)) at) }
     ensures counts { P.counts pages.new ≡ P.counts pages.old }
@@ -365,9 +363,7 @@ fn filled_page<P: PagePool>(
 
 /// The page of the entries in the range at that index, in a new one. The error is out of memory.
 fn filled_anew(alloc: Global, range: EntryRange<'_>, at: usize) -> Result<Rc<Page>, AllocError>
-    requires order { range.from < range.to }
-    requires within { range.to ≤ length range.entries.now }
-    requires alone { FitAlone (between range.from range.to range.entries.now) }
+    requires range { HasPages range.from range.to range.entries.now }
     requires there { at < length (pages_of (between range.from range.to range.entries.now)) }
     ensures { IfOk result (λ page. HoldsAt (λ own. page.value ≡ own) (pages_of (between range.entry.from range.entry.to range.entry.entries.now)) at) }
 {

@@ -14,7 +14,7 @@ use Rattle.oai_paged.proofs.changes.add_numbers.Goals as goal
 pub overflow_add-overflow : goal.overflow_add-overflow
 overflow_add-overflow g c =
     let items : List ItemState = between c.args.range.from c.args.range.to c.args.range.entries.now in
-    omega (arith, c.overflow-overflow.ensures, few_overflow items (storable-between c.args.range.from c.args.range.to c.args.range.entries.now c.len-all.ensures.storable) c.requires.alone)
+    omega (arith, c.overflow-overflow.ensures, few_overflow items (storable-between c.args.range.from c.args.range.to c.args.range.entries.now c.len-all.ensures.storable) c.requires.range.alone)
 
 pub loop-at-init : goal.loop-at-init
 loop-at-init g c = record {

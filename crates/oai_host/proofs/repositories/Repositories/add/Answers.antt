@@ -9,6 +9,5 @@ invariant_of-self-2 c =
     let inside = c.self.inside in
     let unused = rw (← c.self.view_is) at c.requires in
     let items : c.push.new.self.items ≡ inside.repos.items ++ c.args.one ∷ [] = search rules in
-    let last : c.len-place.result ≡ length inside.repos.items = search rules in
-    let noted = rw (last, c.as_str.ensures) at c.in_ok-note_place.ensures.ok in
-    rw items (place_added inside.repos.items c.args.one (get_by_text inside.places) (get_by_text c.note_place.new.places) (length inside.repos.items) c.self.invariant unused refl noted)
+    let noted = rw c.as_str-name.ensures at c.in-Ok.ensures.ok in
+    rw items (place_added inside.repos.items c.args.one (get_by_text inside.places) (get_by_text c.note_next.new.places) (length inside.repos.items) c.self.invariant unused refl noted)
