@@ -19,6 +19,11 @@ pub(crate) fn assert_same_at<T: PartialEq + Debug + Drop, P: Display + Drop>(
     assert_eq!(rt; found, wanted, "at {place}");
 }
 
+/// Fails the test, and shows the place, where the bytes do not begin with the others.
+pub(crate) fn assert_begins(rt: &impl Abort, bytes: &[u8], front: &[u8], place: usize) {
+    assert!(rt; bytes.starts_with(front), "at {place}");
+}
+
 /// Fails the test where the text of the value is not the one that is wanted, and shows both; or where memory runs out.
 pub(crate) fn assert_shown<T: Display + Drop>(
     rt: &impl Abort,

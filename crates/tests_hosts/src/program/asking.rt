@@ -1,9 +1,10 @@
 //! Lines that are performed on a new host, and what is written for them.
 use oai_catalogue::Versions;
 use oai_cli::ask_lines;
-use oai_device::MemoryDevice;
+use oai_device::{MemoryDevice, PageDevice};
 use oai_host::{Config, Host};
 use oai_item::Forms;
+use oai_paged::PagedVersions;
 use oai_startup::{Stop, config_in, host_on};
 use std::alloc::Global;
 use std::io::{Read, Write};
@@ -12,8 +13,22 @@ use std::process::Abort;
 use tests_fixtures::worked_configuration;
 
 /// The worked configuration.
-pub(crate) fn config(rt: &impl Abort, alloc: Global) -> Config {
+fn config(rt: &impl Abort, alloc: Global) -> Config {
     config_in(alloc, Forms::Fields, worked_configuration().as_bytes()).expect(rt, "config_in")
+}
+
+/// A new host over pages of the device.
+pub(crate) fn host_over<D: PageDevice>(
+    rt: &impl Abort,
+    alloc: Global,
+    device: D,
+) -> Host<PagedVersions<D>> {
+    host_on(alloc, config(rt, alloc), device).expect(rt, "host_on")
+}
+
+/// A new host over pages in memory, as the program has it.
+pub(crate) fn new_host(rt: &impl Abort, alloc: Global) -> Host<PagedVersions<MemoryDevice>> {
+    host_over(rt, alloc, MemoryDevice::new(alloc))
 }
 
 /// Performs the lines that the reader gives on the host; why that stopped, if it did.
@@ -26,16 +41,14 @@ fn performed_on<V: Versions + Drop, R: Read, W: Write>(
     ask_lines(alloc, &mut host, reader, writer)
 }
 
-/// The same on a new host over pages in memory, as the program does.
+/// The same on a new host.
 pub(crate) fn performed<R: Read, W: Write>(
     rt: &impl Abort,
     alloc: Global,
     reader: &mut R,
     writer: &mut W,
 ) -> Result<(), Stop> {
-    let device = MemoryDevice::new(alloc);
-    let host = host_on(alloc, config(rt, alloc), device).expect(rt, "host_on");
-    performed_on(alloc, host, reader, writer)
+    performed_on(alloc, new_host(rt, alloc), reader, writer)
 }
 
 /// What is written for the lines that the reader gives.

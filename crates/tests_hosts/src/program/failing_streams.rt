@@ -1,16 +1,23 @@
 //! A reader and a writer that fail.
 use std::io::{self, ErrorKind, Read, Write};
 
-/// Gives its text, and then fails.
+/// Gives its text in reads of at most so many bytes, and then fails.
 #[derive(Drop)]
-pub(crate) struct FailingReader<'a>(pub(crate) &'a [u8]);
+pub(crate) struct FailingReader<'a> {
+    pub(crate) text: &'a [u8],
+    pub(crate) piece: usize,
+}
 
 impl Read for FailingReader<'_> {
     fn read(&mut self, buffer: &mut [u8]) -> io::Result<usize> {
-        if self.0.is_empty() {
+        if self.text.is_empty() {
             return Err(io::Error::from(ErrorKind::BrokenPipe));
         }
-        self.0.read(buffer)
+        let most = self.piece.min(self.text.len());
+        let mut piece = &self.text[..most];
+        let count = piece.read(buffer)?;
+        self.text = self.text.get(count..).unwrap_or(&[]);
+        Ok(count)
     }
 }
 

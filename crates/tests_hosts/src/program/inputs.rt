@@ -1,7 +1,8 @@
 //! How the input is cut into lines, whatever the pieces in which it comes, and what is written
 //! where it, the output or memory fails.
-use crate::assertions::{assert_same, assert_same_at, assert_shown};
+use crate::assertions::{assert_begins, assert_same, assert_same_at, assert_shown};
 use crate::program::asking::{performed, stop_of, written};
+use crate::program::failing_streams::FailingReader;
 use oai_cli::write_answer;
 use oai_host::{Answer, ReadFault, Status};
 use oai_names::Sequence;
@@ -188,82 +189,70 @@ fn what_is_said(rt: HostRuntime) {
     }
 }
 
-/// An answer without a body.
-fn answer(alloc: Global, status: Status, seconds: Option<i64>, done: Option<u64>) -> Answer {
-    Answer {
+/// That is written of the answer without a body.
+fn assert_short(
+    rt: &impl Abort,
+    alloc: Global,
+    told: (Status, Option<i64>, Option<u64>),
+    wanted: &str,
+) {
+    let (status, seconds, done) = told;
+    let answer = Answer {
         status,
         seconds,
         done,
         body: Sequence::new(Vec::new(alloc)),
         fault: None,
-    }
+    };
+    let mut output = Vec::new(alloc);
+    write_answer(&answer, &mut output).expect(rt, "write_answer");
+    assert_same(rt, output.as_slice(), wanted.as_bytes());
 }
 
 /// What is written of answers without a body.
 #[test]
 fn short_answers(rt: HostRuntime) {
-    for (status, seconds, done, text) in [
-        (Status::ServiceUnavailable, Some(60), Some(0), "503 60 0\n"),
-        (Status::ServiceUnavailable, Some(60), None, "503 60\n"),
+    for (told, text) in [
         (
-            Status::ServiceUnavailable,
-            Some(60),
-            Some(12),
+            (Status::ServiceUnavailable, Some(60), Some(0)),
+            "503 60 0\n",
+        ),
+        ((Status::ServiceUnavailable, Some(60), None), "503 60\n"),
+        (
+            (Status::ServiceUnavailable, Some(60), Some(12)),
             "503 60 12\n",
         ),
-        (Status::ServiceUnavailable, Some(1), None, "503 1\n"),
-        (Status::InternalServerError, None, None, "500\n"),
-        (Status::InternalServerError, None, Some(3), "500 3\n"),
-        (Status::NotFound, None, None, "404\n"),
+        ((Status::ServiceUnavailable, Some(1), None), "503 1\n"),
+        ((Status::InternalServerError, None, None), "500\n"),
+        ((Status::InternalServerError, None, Some(3)), "500 3\n"),
+        ((Status::NotFound, None, None), "404\n"),
     ] {
-        let mut output = Vec::new(rt.alloc());
-        write_answer(&answer(rt.alloc(), status, seconds, done), &mut output).expect(
-            &rt,
-            "write_answer",
-        );
-        assert_same(&rt, output.as_slice(), text.as_bytes());
+        assert_short(&rt, rt.alloc(), told, text);
     }
 }
 
-/// Gives one byte a read, and fails at the read after so many.
-#[derive(Drop)]
-struct ByteReader<'a> {
-    text: &'a [u8],
-    reads: usize,
+/// The text comes in pieces of so many bytes, and then a read fails. What was answered before stays written, and the
+/// line begun is not performed.
+pub(crate) fn assert_input_fails(
+    rt: &impl Abort,
+    alloc: Global,
+    text: &[u8],
+    piece: usize,
+    wanted: &str,
+) {
+    let mut reader = FailingReader { text, piece };
+    let mut output = Vec::new(alloc);
+    let done = performed(rt, alloc, &mut reader, &mut output);
+    assert_same_at(rt, done, Err(Stop::InputFault), text.len());
+    assert_same_at(rt, output.as_slice(), wanted.as_bytes(), text.len());
 }
 
-impl Read for ByteReader<'_> {
-    fn read(&mut self, buffer: &mut [u8]) -> io::Result<usize> {
-        if self.reads == 0 {
-            return Err(io::Error::from(ErrorKind::BrokenPipe));
-        }
-        self.reads -= 1;
-        let mut piece = match self.text {
-            [byte, ..] => std::slice::from_ref(byte),
-            [] => &[],
-        };
-        let count = piece.read(buffer)?;
-        self.text = self.text.get(count..).unwrap_or(&[]);
-        Ok(count)
-    }
-}
-
-/// What was answered before a read that fails stays written, and the line begun is not performed.
+/// A byte comes a read, and each read fails in turn.
 #[test]
 fn each_read_fails(rt: HostRuntime) {
-    let alloc = rt.alloc();
     let text = script().as_bytes();
     for reads in 0..=text.len() {
-        let mut reader = ByteReader { text, reads };
-        let mut output = Vec::new(alloc);
-        let done = performed(&rt, alloc, &mut reader, &mut output);
-        assert_same_at(&rt, done, Err(Stop::InputFault), reads);
-        assert_same_at(
-            &rt,
-            output.as_slice(),
-            answer_to_front(reads).as_bytes(),
-            reads,
-        );
+        assert_input_fails(&rt, rt.alloc(), &text[..reads], 1, answer_to_front(reads));
     }
 }
 
@@ -293,37 +282,56 @@ impl Write for CountingWriter {
     }
 }
 
+/// What comes of the script where its answers are written so.
+fn script_performed(
+    rt: &impl Abort,
+    alloc: Global,
+    writer: &mut CountingWriter,
+) -> Result<(), Stop> {
+    let mut reader = script().as_bytes();
+    performed(rt, alloc, &mut reader, writer)
+}
+
 /// What is written before a write that fails is a prefix of the responses; nothing is written after it.
+fn assert_write_fails(rt: &impl Abort, alloc: Global, writes: usize) {
+    let mut writer = CountingWriter {
+        taken: Vec::new(alloc),
+        writes,
+        flushes: true,
+    };
+    let done = script_performed(rt, alloc, &mut writer);
+    assert_begins(
+        rt,
+        script_answer().as_bytes(),
+        writer.taken.as_slice(),
+        writes,
+    );
+    let is_whole = writer.taken.len() == script_answer().len();
+    let wanted = if is_whole {
+        Ok(())
+    } else {
+        Err(Stop::OutputFault)
+    };
+    assert_same_at(rt, done, wanted, writes);
+}
+
+/// Each write fails in turn.
 #[test]
 fn each_write_fails(rt: HostRuntime) {
-    let alloc = rt.alloc();
-    let wanted = script_answer().as_bytes();
     for writes in 0..20 {
-        let mut reader = script().as_bytes();
-        let mut writer = CountingWriter {
-            taken: Vec::new(alloc),
-            writes,
-            flushes: true,
-        };
-        let done = performed(&rt, alloc, &mut reader, &mut writer);
-        assert!(rt; wanted.starts_with(writer.taken.as_slice()), "{writes}");
-        let is_whole = writer.taken.len() == wanted.len();
-        assert_same_at(&rt, done.is_ok(), is_whole, writes);
-        assert!(rt; is_whole || done == Err(Stop::OutputFault), "{writes}");
+        assert_write_fails(&rt, rt.alloc(), writes);
     }
 }
 
 /// A flush that fails is a fault of the output, though all was written.
 #[test]
 fn flush_fails(rt: HostRuntime) {
-    let alloc = rt.alloc();
-    let mut reader = script().as_bytes();
     let mut writer = CountingWriter {
-        taken: Vec::new(alloc),
+        taken: Vec::new(rt.alloc()),
         writes: 100,
         flushes: false,
     };
-    let done = performed(&rt, alloc, &mut reader, &mut writer);
+    let done = script_performed(&rt, rt.alloc(), &mut writer);
     assert_same(&rt, done, Err(Stop::OutputFault));
     assert_same(&rt, writer.taken.as_slice(), script_answer().as_bytes());
 }
@@ -343,14 +351,17 @@ impl Read for EmptyLines {
     }
 }
 
+/// That comes of so many empty lines, and nothing is written.
+fn assert_reads(rt: &impl Abort, alloc: Global, lines: u64, wanted: Result<(), Stop>) {
+    let mut output = Vec::new(alloc);
+    let done = performed(rt, alloc, &mut EmptyLines(lines), &mut output);
+    assert_same_at(rt, done, wanted, lines);
+    assert_same_at(rt, output.len(), 0, lines);
+}
+
 /// The end has to come at the read of number 1,000,000 at the latest.
 #[test]
 fn most_reads(rt: HostRuntime) {
-    let alloc = rt.alloc();
-    for (lines, wanted) in [(999_999, Ok(())), (1_000_000, Err(Stop::InputFault))] {
-        let mut output = Vec::new(alloc);
-        let done = performed(&rt, alloc, &mut EmptyLines(lines), &mut output);
-        assert_same_at(&rt, done, wanted, lines);
-        assert!(rt; output.is_empty());
-    }
+    assert_reads(&rt, rt.alloc(), 999_999, Ok(()));
+    assert_reads(&rt, rt.alloc(), 1_000_000, Err(Stop::InputFault));
 }

@@ -1,13 +1,13 @@
 //! The file that has the pages of a host: how it is opened, what lies in it, and what comes of it where another program
 //! cuts it, or writes over a page.
 use crate::assertions::{assert_same, assert_same_at, assert_shown};
-use crate::program::asking::config;
+use crate::program::asking::host_over;
 use oai_catalogue::Versions;
 use oai_cli::ask_lines;
 use oai_device::{FileDevice, PAGE_BYTES};
 use oai_host::Host;
 use oai_paged::PagedVersions;
-use oai_startup::{Stop, empty_file, host_on, read_file};
+use oai_startup::{Stop, empty_file, read_file};
 use std::alloc::Global;
 use std::fs::{self, File, OpenOptions};
 use std::io::{Seek, SeekFrom, Write};
@@ -35,8 +35,7 @@ fn assert_length<R: Files<File = File> + AllocGlobal + Abort>(rt: &R, path: &str
 
 /// A new host whose pages are in the file.
 fn host_in(rt: &impl Abort, alloc: Global, file: File) -> FiledHost {
-    let device = FileDevice::new(file);
-    host_on(alloc, config(rt, alloc), device).expect(rt, "host_on")
+    host_over(rt, alloc, FileDevice::new(file))
 }
 
 /// The lines of the input are answered so.

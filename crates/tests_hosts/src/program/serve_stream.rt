@@ -1,19 +1,15 @@
 //! Connections over streams: of the tests, and of the system.
 ghost use Rattle.std.specs.Prelude.{◌≤◌};
 
-use crate::assertions::{assert_same, assert_same_at, assert_shown};
-use crate::program::asking::config;
+use crate::assertions::{assert_begins, assert_same, assert_same_at, assert_shown};
+use crate::program::asking::new_host;
 use crate::program::trace_lines::{
     answer_with, but_the_last, later_set_answer, not_found, set_again_answer, set_answer,
     set_message,
 };
 use oai_cli::{StreamFault, serve_stream};
-use oai_device::MemoryDevice;
 use oai_front::{ConnId, Front};
-use oai_host::Host;
 use oai_http::Handler;
-use oai_paged::PagedVersions;
-use oai_startup::host_on;
 use std::alloc::Global;
 use std::cell::Cell;
 use std::io::{self, ErrorKind, Read, Write};
@@ -64,8 +60,8 @@ impl Clock for MovedClock {
     }
 }
 
-/// Gives its text in reads of at most so many bytes and keeps what is written, until so many reads and
-/// so many writes were made; the next one fails. It keeps how much room the last read had.
+/// Gives its text in reads of at most so many bytes and keeps what is written, until so many reads, so many writes or
+/// so many of both were made; the next one fails. It keeps how much room the last read had.
 #[derive(Drop)]
 struct Wire<'a> {
     text: &'a [u8],
@@ -73,15 +69,17 @@ struct Wire<'a> {
     room: usize,
     reads: usize,
     writes: usize,
+    calls: usize,
     written: Vec<u8>,
 }
 
 impl Read for Wire<'_> {
     fn read(&mut self, buffer: &mut [u8]) -> io::Result<usize> {
-        if self.reads == 0 {
+        if self.reads == 0 || self.calls == 0 {
             return Err(io::Error::from(ErrorKind::ConnectionReset));
         }
         self.reads -= 1;
+        self.calls -= 1;
         self.room = buffer.len();
         let most = self.piece.min(self.text.len());
         let mut piece = &self.text[..most];
@@ -93,10 +91,12 @@ impl Read for Wire<'_> {
 
 impl Write for Wire<'_> {
     fn write(&mut self, bytes: &[u8]) -> io::Result<usize> {
-        if self.writes == 0 || self.written.extend_from_slice(bytes).is_err() {
+        let fails = self.writes == 0 || self.calls == 0;
+        if fails || self.written.extend_from_slice(bytes).is_err() {
             return Err(io::Error::from(ErrorKind::ConnectionReset));
         }
         self.writes -= 1;
+        self.calls -= 1;
         Ok(bytes.len())
     }
 
@@ -113,6 +113,7 @@ fn wire_of(alloc: Global, text: &[u8], piece: usize) -> Wire<'_> {
         room: 0,
         reads: 1_000,
         writes: 1_000,
+        calls: 2_000,
         written: Vec::new(alloc),
     }
 }
@@ -142,302 +143,186 @@ impl Write for SlowWire<'_> {
     }
 }
 
-/// A front over a host on pages in memory.
-type PagedFront = Front<Host<PagedVersions<MemoryDevice>>>;
+// ---- streams, each on a new front
 
-/// A front with a new host, on which one connection may be open.
-fn new_front(rt: &impl Abort, alloc: Global) -> PagedFront {
-    let device = MemoryDevice::new(alloc);
-    let host = host_on(alloc, config(rt, alloc), device).expect(rt, "host_on");
-    Front::new(alloc, host, 1)
+/// What comes of the stream on a new front, on which one connection may be open. A set that is added on the next
+/// connection is answered so.
+fn served<S: Read + Write, C: Clock>(
+    rt: &impl Abort,
+    alloc: Global,
+    stream: &mut S,
+    clock: &C,
+    next: &str,
+) -> Result<(), StreamFault> {
+    let host = new_host(rt, alloc);
+    served_by(rt, alloc, host, stream, clock, next)
 }
 
-/// A connection on which a set is added is answered so, and another one can be opened behind it.
+/// The same on a front of that handler.
+fn served_by<H: Handler + Drop, S: Read + Write, C: Clock>(
+    rt: &impl Abort,
+    alloc: Global,
+    handler: H,
+    stream: &mut S,
+    clock: &C,
+    next: &str,
+) -> Result<(), StreamFault> {
+    let mut front = Front::new(alloc, handler, 1);
+    let served = serve_stream(alloc, &mut front, stream, clock);
+    assert_set(rt, alloc, &mut front, next);
+    served
+}
+
+/// A connection on which a set is added is answered so.
 fn assert_set<H: Handler + Drop>(
     rt: &impl Abort,
     alloc: Global,
     front: &mut Front<H>,
     wanted: &str,
 ) {
-    let mut stream = wire_of(alloc, set_message().as_bytes(), 1_000);
-    let served = serve_stream(alloc, front, &mut stream, &StandingClock);
+    let mut wire = wire_of(alloc, set_message().as_bytes(), 1_000);
+    let served = serve_stream(alloc, front, &mut wire, &StandingClock);
     assert_same(rt, served, Ok(()));
-    assert_same(rt, stream.written.as_slice(), wanted.as_bytes());
+    assert_same(rt, wire.written.as_slice(), wanted.as_bytes());
+}
+
+/// That comes of the wire at the place in a test, and that is all that is written; the next connection is answered so.
+fn assert_served(
+    rt: &impl Abort,
+    alloc: Global,
+    wire: &mut Wire<'_>,
+    wanted: (Result<(), StreamFault>, &str),
+    next: &str,
+    place: usize,
+) {
+    let served = served(rt, alloc, wire, &StandingClock, next);
+    assert_same_at(rt, served, wanted.0, place);
+    assert_same_at(rt, wire.written.as_slice(), wanted.1.as_bytes(), place);
+}
+
+/// The texts, one behind the other.
+fn joined(rt: &impl Abort, alloc: Global, texts: &[&str]) -> String {
+    let mut all = String::new(alloc);
+    for text in texts {
+        all.push_str(text).expect(rt, "memory");
+    }
+    all
 }
 
 /// Two messages, the second of which is the last, and one that is not read any more.
 fn three_messages(rt: &impl Abort, alloc: Global) -> String {
-    let mut text = String::from_str(alloc, set_message()).expect(rt, "memory");
-    text.push_str("GET / HTTP/1.1\r\nHost: h\r\nConnection: close\r\n\r\n")
-        .expect(rt, "memory");
-    text.push_str(set_message()).expect(rt, "memory");
-    text
+    let last = "GET / HTTP/1.1\r\nHost: h\r\nConnection: close\r\n\r\n";
+    joined(rt, alloc, &[set_message(), last, set_message()])
 }
 
 /// The answers to the two.
 fn two_answers(rt: &impl Abort, alloc: Global) -> String {
-    let mut text = String::from_str(alloc, set_answer()).expect(rt, "memory");
-    text.push_str("HTTP/1.1 404 Not Found\r\nConnection: close\r\nContent-Length: 0\r\n\r\n")
-        .expect(rt, "memory");
-    text
+    let last = "HTTP/1.1 404 Not Found\r\nConnection: close\r\nContent-Length: 0\r\n\r\n";
+    joined(rt, alloc, &[set_answer(), last])
 }
 
-/// That is written on the wire; so many bytes were read in pieces of so many, each with room for
-/// 65,536 bytes.
-fn assert_wire(rt: &impl Abort, wire: &Wire<'_>, wanted: &str, bytes: usize, piece: usize)
+/// So many bytes were read in pieces of so many, each with room for 65,536 bytes.
+fn assert_reads(rt: &impl Abort, wire: &Wire<'_>, bytes: usize, piece: usize)
     requires { 1 ≤ piece }
 {
-    assert_same_at(rt, wire.written.as_slice(), wanted.as_bytes(), piece);
     let reads = 1_000_usize.saturating_sub(wire.reads);
     assert_same_at(rt, reads, bytes.div_ceil(piece), piece);
     assert_same_at(rt, wire.room, 65_536, piece);
 }
 
-/// The three messages come in pieces of so many bytes, and are not read any more once the connection
-/// closes.
-fn assert_read_in_pieces<H: Handler + Drop>(
-    rt: &impl Abort,
-    alloc: Global,
-    front: &mut Front<H>,
-    text: &str,
-    wanted: &str,
-    piece: usize,
-)
+/// The three messages come in pieces of so many bytes, and are answered so; they are not read any more once the
+/// connection closes.
+fn assert_pieces(rt: &impl Abort, alloc: Global, text: &str, wanted: &str, piece: usize)
     requires { 1 ≤ piece }
 {
-    let mut stream = wire_of(alloc, text.as_bytes(), piece);
-    let served = serve_stream(alloc, front, &mut stream, &StandingClock);
-    assert_same_at(rt, served, Ok(()), piece);
+    let mut wire = wire_of(alloc, text.as_bytes(), piece);
+    let wanted = (Ok(()), wanted);
+    assert_served(rt, alloc, &mut wire, wanted, set_again_answer(), piece);
     let bytes = text.len().saturating_sub(set_message().len());
-    assert_wire(rt, &stream, wanted, bytes, piece);
-}
-
-/// They are answered so, and the next connection is served.
-fn assert_pieces<H: Handler + Drop>(
-    rt: &impl Abort,
-    alloc: Global,
-    mut front: Front<H>,
-    text: &str,
-    wanted: &str,
-    piece: usize,
-)
-    requires { 1 ≤ piece }
-{
-    assert_read_in_pieces(rt, alloc, &mut front, text, wanted, piece);
-    assert_set(rt, alloc, &mut front, set_again_answer());
+    assert_reads(rt, &wire, bytes, piece);
 }
 
 /// However the bytes are cut, the answers are the same.
 #[test]
 fn streams_in_pieces(rt: HostRuntime) {
-    let alloc = rt.alloc();
-    let text = three_messages(&rt, alloc);
-    let wanted = two_answers(&rt, alloc);
+    let text = three_messages(&rt, rt.alloc());
+    let wanted = two_answers(&rt, rt.alloc());
     for piece in 1..=text.len() {
-        let front = new_front(&rt, alloc);
-        assert_pieces(&rt, alloc, front, text.as_str(), wanted.as_str(), piece);
+        assert_pieces(&rt, rt.alloc(), text.as_str(), wanted.as_str(), piece);
     }
-}
-
-/// A message but for its last byte is served, and nothing is written.
-fn assert_unwritten<H: Handler + Drop>(rt: &impl Abort, alloc: Global, front: &mut Front<H>) {
-    let message = set_message().as_bytes();
-    let mut stream = wire_of(alloc, but_the_last(message), 1_000);
-    let served = serve_stream(alloc, front, &mut stream, &StandingClock);
-    assert_same(rt, served, Ok(()));
-    assert_same(rt, stream.written.len(), 0);
-}
-
-fn assert_end_in_a_body<H: Handler + Drop>(rt: &impl Abort, alloc: Global, mut front: Front<H>) {
-    assert_unwritten(rt, alloc, &mut front);
-    assert_set(rt, alloc, &mut front, set_answer());
 }
 
 /// A stream ends in the middle of a message: nothing is performed of it.
 #[test]
 fn stream_ends_in_a_body(rt: HostRuntime) {
-    let front = new_front(&rt, rt.alloc());
-    assert_end_in_a_body(&rt, rt.alloc(), front);
+    let message = set_message().as_bytes();
+    let mut wire = wire_of(rt.alloc(), but_the_last(message), 1_000);
+    assert_served(&rt, rt.alloc(), &mut wire, (Ok(()), ""), set_answer(), 0);
 }
 
-/// The message comes a byte a read, and the read behind so many fails; that is written for it.
-fn assert_read_fails<H: Handler + Drop>(
-    rt: &impl Abort,
-    alloc: Global,
-    front: &mut Front<H>,
-    reads: usize,
-    wanted: &str,
-) {
-    let mut stream = wire_of(alloc, set_message().as_bytes(), 1);
-    stream.reads = reads;
-    let served = serve_stream(alloc, front, &mut stream, &StandingClock);
-    assert_same_at(rt, served, Err(StreamFault::ReadFault), reads);
-    assert_same_at(rt, stream.written.as_slice(), wanted.as_bytes(), reads);
+/// A message comes a byte a read, and the read behind so many fails; that is written for it, and for the next one.
+fn assert_read_fails(rt: &impl Abort, alloc: Global, reads: usize, wanted: &str, next: &str) {
+    let mut wire = wire_of(alloc, set_message().as_bytes(), 1);
+    wire.reads = reads;
+    let wanted = (Err(StreamFault::ReadFault), wanted);
+    assert_served(rt, alloc, &mut wire, wanted, next, reads);
 }
 
-/// What was performed where that read fails stays, and the next connection is served.
-fn assert_served_behind_reads<H: Handler + Drop>(
-    rt: &impl Abort,
-    alloc: Global,
-    mut front: Front<H>,
-    reads: usize,
-) {
-    let (wanted, next) = if reads == set_message().len() {
-        (set_answer(), set_again_answer())
-    } else {
-        ("", set_answer())
-    };
-    assert_read_fails(rt, alloc, &mut front, reads, wanted);
-    assert_set(rt, alloc, &mut front, next);
-}
-
-/// Each read fails in turn.
+/// Each read fails in turn, and what was performed stays.
 #[test]
 fn reads_of_a_stream_fail(rt: HostRuntime) {
-    for reads in 0..=set_message().len() {
-        let front = new_front(&rt, rt.alloc());
-        assert_served_behind_reads(&rt, rt.alloc(), front, reads);
+    let all = set_message().len();
+    for reads in 0..all {
+        assert_read_fails(&rt, rt.alloc(), reads, "", set_answer());
     }
+    assert_read_fails(&rt, rt.alloc(), all, set_answer(), set_again_answer());
 }
 
-/// The messages come, and the write behind so many fails; what is written is a front of that.
-fn assert_write_fails<H: Handler + Drop>(
-    rt: &impl Abort,
-    alloc: Global,
-    front: &mut Front<H>,
-    text: &str,
-    wanted: &str,
-    writes: usize,
-) {
-    let mut stream = wire_of(alloc, text.as_bytes(), set_message().len());
-    stream.writes = writes;
-    let served = serve_stream(alloc, front, &mut stream, &StandingClock);
+/// The messages come, and the write behind so many fails; what is written is a front of that, and what was performed
+/// stays.
+fn assert_write_fails(rt: &impl Abort, alloc: Global, text: &str, wanted: &str, writes: usize) {
+    let mut wire = wire_of(alloc, text.as_bytes(), set_message().len());
+    wire.writes = writes;
+    let served = served(rt, alloc, &mut wire, &StandingClock, set_again_answer());
     assert_same_at(rt, served, Err(StreamFault::WriteFault), writes);
-    assert!(rt;
-        wanted.as_bytes().starts_with(stream.written.as_slice()),
-        "{writes}"
-    );
-}
-
-/// What was performed where that write fails stays, and the next connection is served.
-fn assert_served_behind_writes<H: Handler + Drop>(
-    rt: &impl Abort,
-    alloc: Global,
-    mut front: Front<H>,
-    writes: usize,
-) {
-    let text = three_messages(rt, alloc);
-    let wanted = two_answers(rt, alloc);
-    assert_write_fails(
-        rt,
-        alloc,
-        &mut front,
-        text.as_str(),
-        wanted.as_str(),
-        writes,
-    );
-    assert_set(rt, alloc, &mut front, set_again_answer());
+    assert_begins(rt, wanted.as_bytes(), wire.written.as_slice(), writes);
 }
 
 /// Each write fails in turn.
 #[test]
 fn writes_of_a_stream_fail(rt: HostRuntime) {
-    let front = new_front(&rt, rt.alloc());
-    assert_served_behind_writes(&rt, rt.alloc(), front, 0);
-    let front = new_front(&rt, rt.alloc());
-    assert_served_behind_writes(&rt, rt.alloc(), front, 1);
-}
-
-/// A wire of which so many calls succeed, reads and writes, and the next one fails.
-#[derive(Drop)]
-struct BrokenWire<'a> {
-    wire: Wire<'a>,
-    calls: usize,
-}
-
-impl BrokenWire<'_> {
-    /// One call more; an error where it is the one that fails.
-    fn call(&mut self) -> io::Result<()> {
-        if self.calls == 0 {
-            return Err(io::Error::from(ErrorKind::ConnectionReset));
-        }
-        self.calls -= 1;
-        Ok(())
+    let text = three_messages(&rt, rt.alloc());
+    let wanted = two_answers(&rt, rt.alloc());
+    for writes in 0..2 {
+        assert_write_fails(&rt, rt.alloc(), text.as_str(), wanted.as_str(), writes);
     }
 }
 
-impl Read for BrokenWire<'_> {
-    fn read(&mut self, buffer: &mut [u8]) -> io::Result<usize> {
-        self.call()?;
-        self.wire.read(buffer)
-    }
-}
-
-impl Write for BrokenWire<'_> {
-    fn write(&mut self, bytes: &[u8]) -> io::Result<usize> {
-        self.call()?;
-        self.wire.write(bytes)
-    }
-
-    fn flush(&mut self) -> io::Result<()> {
-        self.wire.flush()
-    }
-}
-
-/// The messages come in pieces of 30 bytes, and what is written for them is a front of that; what comes of it where a call fails.
-fn served_with_calls<H: Handler + Drop>(
-    rt: &impl Abort,
-    alloc: Global,
-    front: &mut Front<H>,
-    text: &str,
-    wanted: &str,
-    calls: usize,
-) -> (Result<(), StreamFault>, usize) {
-    let wire = wire_of(alloc, text.as_bytes(), 30);
-    let mut stream = BrokenWire { wire, calls };
-    let served = serve_stream(alloc, front, &mut stream, &StandingClock);
-    assert!(rt;
-        wanted
-            .as_bytes()
-            .starts_with(stream.wire.written.as_slice()),
-        "{calls}"
-    );
-    (served, text.len().saturating_sub(stream.wire.text.len()))
-}
-
-/// What was performed where that call fails stays, and the next connection is served; whether a call failed.
-fn fails_behind<H: Handler + Drop>(
-    rt: &impl Abort,
-    alloc: Global,
-    mut front: Front<H>,
-    calls: usize,
-) -> bool {
-    let text = three_messages(rt, alloc);
-    let wanted = two_answers(rt, alloc);
-    let (served, read) = served_with_calls(
-        rt,
-        alloc,
-        &mut front,
-        text.as_str(),
-        wanted.as_str(),
-        calls,
-    );
-    let performed = read >= set_message().len();
+/// The messages come in pieces of 30 bytes, the third of which has the end of the first message, and the call behind so
+/// many fails. What is written is a front of that, and what was performed stays; whether a call failed.
+fn fails_behind(rt: &impl Abort, alloc: Global, text: &str, wanted: &str, calls: usize) -> bool {
+    let mut wire = wire_of(alloc, text.as_bytes(), 30);
+    wire.calls = calls;
+    let performed = calls >= 3;
     let next = if performed {
         set_again_answer()
     } else {
         set_answer()
     };
-    assert_set(rt, alloc, &mut front, next);
+    let served = served(rt, alloc, &mut wire, &StandingClock, next);
+    let read = text.len().saturating_sub(wire.text.len());
+    assert_same_at(rt, read >= set_message().len(), performed, calls);
+    assert_begins(rt, wanted.as_bytes(), wire.written.as_slice(), calls);
     served.is_err()
 }
 
-/// Each call of a stream fails in turn, up to the first time that none does.
+/// Each call of a stream fails in turn, a read or a write, up to the first time that none does.
 #[test]
 fn calls_of_a_stream_fail(rt: HostRuntime) {
+    let text = three_messages(&rt, rt.alloc());
+    let wanted = two_answers(&rt, rt.alloc());
     for calls in 0..100usize {
-        let front = new_front(&rt, rt.alloc());
-        if !fails_behind(&rt, rt.alloc(), front, calls) {
+        if !fails_behind(&rt, rt.alloc(), text.as_str(), wanted.as_str(), calls) {
             assert!(rt; calls > 0);
             return;
         }
@@ -446,53 +331,39 @@ fn calls_of_a_stream_fail(rt: HostRuntime) {
 }
 
 /// A message comes whose moment cannot be read, and nothing is written.
-fn assert_no_moment<H: Handler + Drop>(rt: &impl Abort, alloc: Global, front: &mut Front<H>) {
-    let mut stream = wire_of(alloc, set_message().as_bytes(), 1_000);
-    let served = serve_stream(alloc, front, &mut stream, &StoppedClock);
-    assert_same(rt, served, Err(StreamFault::ClockFault));
-    assert_same(rt, stream.written.len(), 0);
-}
-
-fn assert_stopped_clock<H: Handler + Drop>(rt: &impl Abort, alloc: Global, mut front: Front<H>) {
-    assert_no_moment(rt, alloc, &mut front);
-    assert_set(rt, alloc, &mut front, set_answer());
-}
-
 #[test]
 fn clock_of_a_stream_fails(rt: HostRuntime) {
-    let front = new_front(&rt, rt.alloc());
-    assert_stopped_clock(&rt, rt.alloc(), front);
+    let mut wire = wire_of(rt.alloc(), set_message().as_bytes(), 1_000);
+    let served = served(&rt, rt.alloc(), &mut wire, &StoppedClock, set_answer());
+    assert_same(&rt, served, Err(StreamFault::ClockFault));
+    assert_same(&rt, wire.written.len(), 0);
 }
 
-/// The second read ends twenty seconds behind the first moment.
-fn assert_moments<H: Handler + Drop>(rt: &impl Abort, alloc: Global, mut front: Front<H>) {
-    let clock = MovedClock(Cell::new(1_704_067_210));
-    let mut stream = SlowWire {
-        wire: wire_of(alloc, set_message().as_bytes(), 60),
-        clock: &clock,
-    };
-    let served = serve_stream(alloc, &mut front, &mut stream, &clock);
-    assert_same(rt, served, Ok(()));
-    let written = stream.wire.written.as_slice();
-    assert_same(rt, written, later_set_answer().as_bytes());
-}
-
-/// A message is performed at the moment of the clock behind the read that completes it.
+/// A message is performed at the moment of the clock behind the read that completes it: the second read ends twenty
+/// seconds behind the first moment.
 #[test]
 fn moments_of_a_stream(rt: HostRuntime) {
-    let front = new_front(&rt, rt.alloc());
-    assert_moments(&rt, rt.alloc(), front);
+    let clock = MovedClock(Cell::new(1_704_067_210));
+    let mut stream = SlowWire {
+        wire: wire_of(rt.alloc(), set_message().as_bytes(), 60),
+        clock: &clock,
+    };
+    let served = served(&rt, rt.alloc(), &mut stream, &clock, set_again_answer());
+    assert_same(&rt, served, Ok(()));
+    let written = stream.wire.written.as_slice();
+    assert_same(&rt, written, later_set_answer().as_bytes());
 }
 
 /// No connection is opened for a stream.
 fn assert_not_opened<H: Handler + Drop>(rt: &impl Abort, alloc: Global, front: &mut Front<H>) {
-    let mut stream = wire_of(alloc, set_message().as_bytes(), 1_000);
-    let served = serve_stream(alloc, front, &mut stream, &StandingClock);
+    let mut wire = wire_of(alloc, set_message().as_bytes(), 1_000);
+    let served = serve_stream(alloc, front, &mut wire, &StandingClock);
     assert!(rt; matches!(served, Err(StreamFault::NotOpened(_))));
 }
 
 /// A connection is opened; none is opened beside it, and it stays.
-fn assert_one_opened<H: Handler + Drop>(rt: &impl Abort, alloc: Global, mut front: Front<H>) {
+fn assert_one_opened<H: Handler + Drop>(rt: &impl Abort, alloc: Global, handler: H) {
+    let mut front = Front::new(alloc, handler, 1);
     let conn = front.open().expect(rt, "open");
     assert_not_opened(rt, alloc, &mut front);
     assert_same(rt, front.closing(conn), Some(false));
@@ -502,21 +373,25 @@ fn assert_one_opened<H: Handler + Drop>(rt: &impl Abort, alloc: Global, mut fron
 /// Where as many connections are open as may be, none is opened.
 #[test]
 fn no_room_for_a_stream(rt: HostRuntime) {
-    let front = new_front(&rt, rt.alloc());
-    assert_one_opened(&rt, rt.alloc(), front);
+    let host = new_host(&rt, rt.alloc());
+    assert_one_opened(&rt, rt.alloc(), host);
+}
+
+/// The text so many times.
+fn times(rt: &impl Abort, alloc: Global, text: &str, count: usize) -> String {
+    let mut all = String::new(alloc);
+    for _ in 0..count {
+        all.push_str(text).expect(rt, "memory");
+    }
+    all
 }
 
 /// A deposit of a record whose title is so many of the letter, a request of it, and one of what is not there.
 fn long_record(rt: &impl Abort, alloc: Global, letter: &str, letters: usize) -> String {
-    let mut line = String::from_str(
-        alloc,
-        "{\"deposit\":\"oai:a:1\",\"sets\":[],\"records\":{\"oai_dc\":[[\"title\",\"",
-    )
-    .expect(rt, "memory");
-    for _ in 0..letters {
-        line.push_str(letter).expect(rt, "memory");
-    }
-    line.push_str("\"]]}}").expect(rt, "memory");
+    let title = times(rt, alloc, letter, letters);
+    let line = format!(in alloc;
+        "{{\"deposit\":\"oai:a:1\",\"sets\":[],\"records\":{{\"oai_dc\":[[\"title\",\"{title}\"]]}}}}"
+    ).expect(rt, "memory");
     format!(in alloc;
         "POST /deposit/a HTTP/1.1\r\nHost: h\r\nContent-Length: {}\r\n\r\n{}GET /oai/a?verb=GetRecord&identifier=oai:a:1&metadataPrefix=oai_dc HTTP/1.1\r\nHost: h\r\n\r\nGET / HTTP/1.1\r\nHost: h\r\n\r\n",
         line.len(),
@@ -532,29 +407,17 @@ fn front_of_the_record() -> &'static str {
 
 /// The answers to the three, where the letter is shown so.
 fn long_answers(rt: &impl Abort, alloc: Global, shown: &str, letters: usize) -> String {
-    let mut document = String::from_str(alloc, front_of_the_record()).expect(rt, "memory");
-    for _ in 0..letters {
-        document.push_str(shown).expect(rt, "memory");
-    }
-    document
-        .push_str("</dc:title></oai_dc:dc></metadata></record></GetRecord></OAI-PMH>")
-        .expect(rt, "memory");
+    let title = times(rt, alloc, shown, letters);
+    let end = "</dc:title></oai_dc:dc></metadata></record></GetRecord></OAI-PMH>";
+    let document = joined(rt, alloc, &[front_of_the_record(), title.as_str(), end]);
     let answer = answer_with(rt, alloc, document.as_str());
-    format!(in alloc; "{}{}{}", set_answer(), answer, not_found()).expect(rt, "memory")
+    joined(rt, alloc, &[set_answer(), answer.as_str(), not_found()])
 }
 
-/// What comes on the stream is answered so, and that is all that is written.
-fn assert_served<H: Handler + Drop>(
-    rt: &impl Abort,
-    alloc: Global,
-    mut front: Front<H>,
-    text: &str,
-    wanted: &str,
-) {
-    let mut stream = wire_of(alloc, text.as_bytes(), 65_536);
-    let served = serve_stream(alloc, &mut front, &mut stream, &StandingClock);
-    assert_same(rt, served, Ok(()));
-    assert_same(rt, stream.written.as_slice(), wanted.as_bytes());
+/// What comes on a stream is answered so, and that is all that is written.
+fn assert_answered(rt: &impl Abort, alloc: Global, text: &str, wanted: &str, place: usize) {
+    let mut wire = wire_of(alloc, text.as_bytes(), 65_536);
+    assert_served(rt, alloc, &mut wire, (Ok(()), wanted), set_answer(), place);
 }
 
 /// A record of a short document, one whose document is not gathered, and one whose document has 79,725 bytes of
@@ -565,18 +428,8 @@ fn long_outputs(rt: HostRuntime) {
     for (letter, shown, letters) in [("t", "t", 1), ("t", "t", 4_096), ("&", "&amp;", 15_945)] {
         let text = long_record(&rt, alloc, letter, letters);
         let wanted = long_answers(&rt, alloc, shown, letters);
-        let front = new_front(&rt, alloc);
-        assert_served(&rt, alloc, front, text.as_str(), wanted.as_str());
+        assert_answered(&rt, alloc, text.as_str(), wanted.as_str(), letters);
     }
-}
-
-/// The text so many times.
-fn times(rt: &impl Abort, alloc: Global, text: &str, count: usize) -> String {
-    let mut all = String::new(alloc);
-    for _ in 0..count {
-        all.push_str(text).expect(rt, "memory");
-    }
-    all
 }
 
 /// A hundred short answers, which are more bytes than are gathered.
@@ -585,31 +438,28 @@ fn many_short_outputs(rt: HostRuntime) {
     let alloc = rt.alloc();
     let text = times(&rt, alloc, "GET / HTTP/1.1\r\nHost: h\r\n\r\n", 100);
     let wanted = times(&rt, alloc, not_found(), 100);
-    let front = new_front(&rt, alloc);
-    assert_served(&rt, alloc, front, text.as_str(), wanted.as_str());
+    assert_answered(&rt, alloc, text.as_str(), wanted.as_str(), 100);
 }
 
 /// What comes of the text where so many writes are made and the next one fails.
-fn served_with_writes<H: Handler + Drop>(
+fn served_with_writes(
+    rt: &impl Abort,
     alloc: Global,
-    mut front: Front<H>,
     text: &str,
     writes: usize,
 ) -> Result<(), StreamFault> {
-    let mut stream = wire_of(alloc, text.as_bytes(), 65_536);
-    stream.writes = writes;
-    serve_stream(alloc, &mut front, &mut stream, &StandingClock)
+    let mut wire = wire_of(alloc, text.as_bytes(), 65_536);
+    wire.writes = writes;
+    served(rt, alloc, &mut wire, &StandingClock, set_answer())
 }
 
 /// What is short is written together: an answer, the head of the next, then its long body, and the last.
 #[test]
 fn short_outputs_are_gathered(rt: HostRuntime) {
-    let alloc = rt.alloc();
-    let text = long_record(&rt, alloc, "t", 4_096);
+    let text = long_record(&rt, rt.alloc(), "t", 4_096);
     for (writes, wanted) in [(2, Err(StreamFault::WriteFault)), (3, Ok(()))] {
-        let front = new_front(&rt, alloc);
-        let served = served_with_writes(alloc, front, text.as_str(), writes);
-        assert_same(&rt, served, wanted);
+        let served = served_with_writes(&rt, rt.alloc(), text.as_str(), writes);
+        assert_same_at(&rt, served, wanted, writes);
     }
 }
 
@@ -642,25 +492,15 @@ impl Write for EndlessWire<'_> {
 }
 
 /// A stream that gives a byte a read for ever is given up at the read of number 1,000,000.
-fn assert_endless<H: Handler + Drop>(rt: &impl Abort, alloc: Global, front: &mut Front<H>) {
+#[test]
+fn endless_streams(rt: HostRuntime) {
     let mut stream = EndlessWire {
         head: b"POST /deposit/a HTTP/1.1\r\nHost: h\r\nContent-Length: 1048576\r\n\r\n",
         reads: 0,
     };
-    let served = serve_stream(alloc, front, &mut stream, &StandingClock);
-    assert_same(rt, served, Err(StreamFault::Endless));
-    assert_same(rt, stream.reads, 1_000_000);
-}
-
-fn assert_given_up<H: Handler + Drop>(rt: &impl Abort, alloc: Global, mut front: Front<H>) {
-    assert_endless(rt, alloc, &mut front);
-    assert_set(rt, alloc, &mut front, set_answer());
-}
-
-#[test]
-fn endless_streams(rt: HostRuntime) {
-    let front = new_front(&rt, rt.alloc());
-    assert_given_up(&rt, rt.alloc(), front);
+    let served = served(&rt, rt.alloc(), &mut stream, &StandingClock, set_answer());
+    assert_same(&rt, served, Err(StreamFault::Endless));
+    assert_same(&rt, stream.reads, 1_000_000);
 }
 
 /// What is reported of each fault of a stream.
@@ -677,6 +517,8 @@ fn faults_of_streams(rt: HostRuntime) {
     }
 }
 
+// ---- sockets
+
 /// Asks for a set and for Identify, and ends its writing side.
 fn ask(rt: &impl Abort, client: &mut TcpStream) {
     client
@@ -689,14 +531,10 @@ fn ask(rt: &impl Abort, client: &mut TcpStream) {
 }
 
 /// Serves the next connection to its end.
-fn serve_next<H: Handler + Drop>(
-    rt: &impl Abort,
-    alloc: Global,
-    listener: &TcpListener,
-    mut front: Front<H>,
-) {
+fn serve_next(rt: &impl Abort, alloc: Global, listener: &TcpListener) {
     let (mut stream, _) = listener.accept().expect(rt, "accept");
-    serve_stream(alloc, &mut front, &mut stream, &StandingClock).expect(rt, "serve_stream");
+    let served = served(rt, alloc, &mut stream, &StandingClock, set_again_answer());
+    assert_same(rt, served, Ok(()));
 }
 
 /// What the client is answered by a new host that listens.
@@ -707,8 +545,7 @@ fn answers_to(
     listener: &TcpListener,
 ) -> Vec<u8> {
     ask(rt, client);
-    let front = new_front(rt, alloc);
-    serve_next(rt, alloc, listener, front);
+    serve_next(rt, alloc, listener);
     let mut answers = Vec::new(alloc);
     client.read_to_end(&mut answers).expect(rt, "read_to_end");
     answers
@@ -722,14 +559,17 @@ fn connected(rt: &HostRuntime) -> io::Result<(TcpListener, TcpStream)> {
     Ok((listener, client))
 }
 
+/// The answers to what is asked.
+fn wanted_answers(rt: &impl Abort, alloc: Global) -> String {
+    let document = answer_with(rt, alloc, identify_document());
+    joined(rt, alloc, &[set_answer(), document.as_str()])
+}
+
 /// A client asks, ends its writing side, and reads the answers.
 #[test]
 fn sockets(rt: HostRuntime) {
-    let alloc = rt.alloc();
     let (listener, mut client) = connected(&rt).expect(&rt, "connected");
-    let answers = answers_to(&rt, alloc, &mut client, &listener);
-    let mut wanted = String::from_str(alloc, set_answer()).expect(&rt, "memory");
-    let document = answer_with(&rt, alloc, identify_document());
-    wanted.push_str(document.as_str()).expect(&rt, "memory");
+    let answers = answers_to(&rt, rt.alloc(), &mut client, &listener);
+    let wanted = wanted_answers(&rt, rt.alloc());
     assert_same(&rt, answers.as_slice(), wanted.as_bytes());
 }

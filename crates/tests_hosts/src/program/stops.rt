@@ -1,7 +1,8 @@
 //! What stops the program: an input and an output that fail.
 use crate::assertions::assert_same;
 use crate::program::asking::performed;
-use crate::program::failing_streams::{FailingReader, FailingWriter};
+use crate::program::failing_streams::FailingWriter;
+use crate::program::inputs::assert_input_fails;
 use oai_startup::Stop;
 use std::alloc::Global;
 use std::panic::Expect;
@@ -17,12 +18,9 @@ fn identified(rt: &impl Abort, alloc: Global) -> String {
 
 #[test]
 fn input_fails_in_mid_line(rt: HostRuntime) {
-    let alloc = rt.alloc();
-    let mut reader = FailingReader(b"1704067200 GET /oai/a?verb=Identify\n1704067200 GE");
-    let mut output = Vec::new(alloc);
-    let asked = performed(&rt, alloc, &mut reader, &mut output);
-    assert_same(&rt, asked, Err(Stop::InputFault));
-    assert_same(&rt, output.as_slice(), identified(&rt, alloc).as_bytes());
+    let text = b"1704067200 GET /oai/a?verb=Identify\n1704067200 GE";
+    let wanted = identified(&rt, rt.alloc());
+    assert_input_fails(&rt, rt.alloc(), text, 1_000, wanted.as_str());
 }
 
 #[test]

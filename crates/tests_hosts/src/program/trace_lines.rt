@@ -1,13 +1,12 @@
 //! Connections whose pieces stand in lines, where the input or the output fails.
 use crate::assertions::{assert_same, assert_same_at};
-use crate::program::asking::config;
+use crate::program::asking::new_host;
 use crate::program::failing_streams::{FailingReader, FailingWriter};
 use crate::program::inputs::{CountingWriter, EmptyLines};
 use oai_cli::{MAX_CONNECTIONS, trace_lines};
-use oai_device::MemoryDevice;
 use oai_front::Front;
 use oai_http::Handler;
-use oai_startup::{Stop, host_on};
+use oai_startup::Stop;
 use std::alloc::Global;
 use std::io::{Read, Write};
 use std::panic::Expect;
@@ -22,9 +21,7 @@ fn traced<R: Read, W: Write>(
     reader: &mut R,
     writer: &mut W,
 ) -> Result<(), Stop> {
-    let device = MemoryDevice::new(alloc);
-    let host = host_on(alloc, config(rt, alloc), device).expect(rt, "host_on");
-    traced_by(alloc, host, reader, writer)
+    traced_by(alloc, new_host(rt, alloc), reader, writer)
 }
 
 /// The same on that handler.
@@ -36,13 +33,6 @@ fn traced_by<H: Handler + Drop, R: Read, W: Write>(
 ) -> Result<(), Stop> {
     let mut front = Front::new(alloc, handler, MAX_CONNECTIONS);
     trace_lines(alloc, &mut front, reader, writer)
-}
-
-/// Adds a line: the piece comes on the connection of the label at the moment 1704067200.
-fn push_piece(rt: &impl Abort, alloc: Global, label: u64, piece: &[u8], lines: &mut String) {
-    let digits = hex::encode(alloc, piece).expect(rt, "hex::encode");
-    let line = format!(in alloc; "1704067200 {label} {digits}\n").expect(rt, "memory");
-    lines.push_str(line.as_str()).expect(rt, "memory");
 }
 
 /// A message that adds a set.
@@ -91,6 +81,14 @@ pub(crate) fn answer_with(rt: &impl Abort, alloc: Global, document: &str) -> Str
 }
 
 /// What was sent before a read that fails stays written.
+fn assert_input_fails(rt: &impl Abort, alloc: Global, text: &[u8], wanted: &str) {
+    let mut reader = FailingReader { text, piece: 1_000 };
+    let mut output = Vec::new(alloc);
+    let done = traced(rt, alloc, &mut reader, &mut output);
+    assert_same_at(rt, done, Err(Stop::InputFault), text.len());
+    assert_same_at(rt, output.as_slice(), wanted.as_bytes(), text.len());
+}
+
 #[test]
 fn input_of_a_trace_fails(rt: HostRuntime) {
     let text = b"1 1 end\n1 2 end\n1 3 e".as_slice();
@@ -102,23 +100,22 @@ fn input_of_a_trace_fails(rt: HostRuntime) {
         (16, "1 close\n2 close\n"),
         (20, "1 close\n2 close\n"),
     ] {
-        let mut reader = FailingReader(&text[..length]);
-        let mut output = Vec::new(rt.alloc());
-        let done = traced(&rt, rt.alloc(), &mut reader, &mut output);
-        assert_same_at(&rt, done, Err(Stop::InputFault), length);
-        assert_same_at(&rt, output.as_slice(), wanted.as_bytes(), length);
+        assert_input_fails(&rt, rt.alloc(), &text[..length], wanted);
     }
+}
+
+/// What comes of a trace whose output has so much room: on a connection comes `GET / HTTP/1.0`, and an empty line.
+fn traced_with_room(rt: &impl Abort, alloc: Global, room: usize) -> Result<(), Stop> {
+    let mut reader = b"1704067200 1 474554202f20485454502f312e300d0a0d0a\n".as_slice();
+    let mut writer = FailingWriter { room };
+    traced(rt, alloc, &mut reader, &mut writer)
 }
 
 /// An output that fails at any byte is a fault.
 #[test]
 fn output_of_a_trace_fails(rt: HostRuntime) {
-    let mut lines = String::new(rt.alloc());
-    push_piece(&rt, rt.alloc(), 1, b"GET / HTTP/1.0\r\n\r\n", &mut lines);
     for room in 0..139 {
-        let mut reader = lines.as_bytes();
-        let mut writer = FailingWriter { room };
-        let done = traced(&rt, rt.alloc(), &mut reader, &mut writer);
+        let done = traced_with_room(&rt, rt.alloc(), room);
         assert_same_at(&rt, done, Err(Stop::OutputFault), room);
     }
 }
@@ -137,13 +134,17 @@ fn flush_of_a_trace_fails(rt: HostRuntime) {
     assert_same(&rt, writer.taken.as_slice(), b"1 close\n".as_slice());
 }
 
+/// That comes of so many empty lines, and nothing is written.
+fn assert_reads(rt: &impl Abort, alloc: Global, lines: u64, wanted: Result<(), Stop>) {
+    let mut output = Vec::new(alloc);
+    let done = traced(rt, alloc, &mut EmptyLines(lines), &mut output);
+    assert_same_at(rt, done, wanted, lines);
+    assert_same_at(rt, output.len(), 0, lines);
+}
+
 /// The end has to come at the read of number 1,000,000 at the latest.
 #[test]
 fn most_reads_of_a_trace(rt: HostRuntime) {
-    for (lines, wanted) in [(999_999, Ok(())), (1_000_000, Err(Stop::InputFault))] {
-        let mut output = Vec::new(rt.alloc());
-        let done = traced(&rt, rt.alloc(), &mut EmptyLines(lines), &mut output);
-        assert_same_at(&rt, done, wanted, lines);
-        assert!(rt; output.is_empty());
-    }
+    assert_reads(&rt, rt.alloc(), 999_999, Ok(()));
+    assert_reads(&rt, rt.alloc(), 1_000_000, Err(Stop::InputFault));
 }
