@@ -232,91 +232,94 @@ fn at(cursor: u64, size: u64) -> Extent {
     Extent { size, cursor }
 }
 
-#[test]
-fn identify(rt: HostRuntime) {
-    let alloc = rt.alloc();
-    let addresses = [Text::new(alloc, "a@host.example").expect(&rt, "memory")];
-    let identity = Identity {
-        name: "Archive A",
-        addresses: &addresses,
-        earliest: DATE,
-        deleted: DeletedRecord::Persistent,
-        granularity: Granularity::Second,
-        descriptions: &[],
-    };
-    let body = Body::Identify(identity);
-    assert_answer(&rt, alloc, verb("Identify"), body, expected::identify());
+/// The texts.
+fn texts(rt: &impl Abort, alloc: Global, all: &[&str]) -> Vec<Text> {
+    let mut texts = Vec::new(alloc);
+    for text in all {
+        let text = Text::new(alloc, text).expect(rt, "memory");
+        texts.push(text).expect(rt, "memory");
+    }
+    texts
 }
 
-#[test]
-fn identify_of_days(rt: HostRuntime) {
-    let alloc = rt.alloc();
-    let addresses = [
-        Text::new(alloc, "b@host.example").expect(&rt, "memory"),
-        Text::new(alloc, "c@host.example").expect(&rt, "memory"),
-    ];
+/// Identify, with these addresses and these elements that describe the repository, is spelled so.
+fn assert_identify(
+    rt: &impl Abort,
+    alloc: Global,
+    identity: Identity<'_>,
+    addresses: &[&str],
+    descriptions: &[&str],
+    wanted: &str,
+)
+    requires { IsStamp identity.earliest }
+{
+    let addresses = texts(rt, alloc, addresses);
+    let descriptions = texts(rt, alloc, descriptions);
     let identity = Identity {
-        name: "Archive B",
-        addresses: &addresses,
-        earliest: DATE + 86_399,
-        deleted: DeletedRecord::No,
-        granularity: Granularity::Day,
-        descriptions: &[],
+        addresses: addresses.as_slice(),
+        descriptions: descriptions.as_slice(),
+        ..identity
     };
     let body = Body::Identify(identity);
-    assert_answer(
-        &rt,
-        alloc,
-        verb("Identify"),
-        body,
-        expected::identify_of_days(),
-    );
+    assert_answer(rt, alloc, verb("Identify"), body, wanted);
 }
 
-/// Two elements in containers, behind `granularity`, as they stand.
-#[test]
-fn identify_described(rt: HostRuntime) {
-    let alloc = rt.alloc();
-    let descriptions = [
-        Text::new(alloc, r#"<a xmlns="u" b="&quot;">&lt;</a>"#).expect(&rt, "memory"),
-        Text::new(alloc, r#"<p:c xmlns:p="v" xmlns=""></p:c>"#).expect(&rt, "memory"),
-    ];
-    let identity = Identity {
+/// The identity of Archive A.
+fn archive_a() -> Identity<'static>
+    ensures { IsStamp result.earliest }
+{
+    Identity {
         name: "Archive A",
         addresses: &[],
         earliest: DATE,
         deleted: DeletedRecord::Persistent,
         granularity: Granularity::Second,
-        descriptions: &descriptions,
+        descriptions: &[],
+    }
+}
+
+#[test]
+fn identify(rt: HostRuntime) {
+    let addresses = ["a@host.example"];
+    let wanted = expected::identify();
+    assert_identify(&rt, rt.alloc(), archive_a(), &addresses, &[], wanted);
+}
+
+#[test]
+fn identify_of_days(rt: HostRuntime) {
+    let identity = Identity {
+        name: "Archive B",
+        earliest: DATE + 86_399,
+        deleted: DeletedRecord::No,
+        granularity: Granularity::Day,
+        ..archive_a()
     };
-    let body = Body::Identify(identity);
-    assert_answer(
-        &rt,
-        alloc,
-        verb("Identify"),
-        body,
-        expected::identify_described(),
-    );
+    let addresses = ["b@host.example", "c@host.example"];
+    let wanted = expected::identify_of_days();
+    assert_identify(&rt, rt.alloc(), identity, &addresses, &[], wanted);
+}
+
+/// Two elements in containers, behind `granularity`, as they stand.
+#[test]
+fn identify_described(rt: HostRuntime) {
+    let descriptions = [
+        r#"<a xmlns="u" b="&quot;">&lt;</a>"#,
+        r#"<p:c xmlns:p="v" xmlns=""></p:c>"#,
+    ];
+    let wanted = expected::identify_described();
+    assert_identify(&rt, rt.alloc(), archive_a(), &[], &descriptions, wanted);
 }
 
 #[test]
 fn identify_transient(rt: HostRuntime) {
     let identity = Identity {
         name: "",
-        addresses: &[],
         earliest: -62_167_219_200,
         deleted: DeletedRecord::Transient,
-        granularity: Granularity::Second,
-        descriptions: &[],
+        ..archive_a()
     };
-    let body = Body::Identify(identity);
-    assert_answer(
-        &rt,
-        rt.alloc(),
-        verb("Identify"),
-        body,
-        expected::identify_transient(),
-    );
+    let wanted = expected::identify_transient();
+    assert_identify(&rt, rt.alloc(), identity, &[], &[], wanted);
 }
 
 /// All eight errors. All arguments were given; two of the errors repeat none.
