@@ -6,10 +6,9 @@ use crate::copy_samples::{Told, deleted, items, live};
 use crate::records::push_records;
 use oai_catalogue::{PlainVersions, Versions};
 use oai_copy::Copy;
-use oai_device::MemoryDevice;
+use oai_device::{MemoryDevice, PageDevice};
 use oai_host::{Answer, Config, Exchange, Host, Target};
 use oai_item::Forms;
-use oai_paged::PagedVersions;
 use oai_startup::{config_in, host_on, host_over};
 use std::alloc::Global;
 use std::panic::Expect;
@@ -42,16 +41,6 @@ const DELETE_2: &str = r#"{"delete":"oai:a:2"}"#;
 /// The worked configuration.
 fn config(rt: &impl Abort, alloc: Global) -> Config {
     config_in(alloc, Forms::Fields, worked_configuration().as_bytes()).expect(rt, "config_in")
-}
-
-/// A new host over plain lists.
-fn host_on_lists(rt: &impl Abort, alloc: Global) -> Host<PlainVersions> {
-    host_over(alloc, config(rt, alloc), PlainVersions::new(alloc)).expect(rt, "host_over")
-}
-
-/// A new host over pages in memory.
-fn host_on_pages(rt: &impl Abort, alloc: Global) -> Host<PagedVersions<MemoryDevice>> {
-    host_on(alloc, config(rt, alloc), MemoryDevice::new(alloc)).expect(rt, "host_on")
 }
 
 /// What the host answers at that second, with the status 200; a body is posted.
@@ -181,61 +170,111 @@ fn at_the_eighth_second() -> [Told<'static>; 3] {
     ]
 }
 
-/// The copy that two harvests made holds what is selected at the seventh second, and the third goes on with it.
-fn assert_second_harvest<V: Versions + Drop>(rt: &impl Abort, alloc: Global, mut host: Host<V>) {
-    let mut copy = Copy::new(alloc);
-    begin(rt, alloc, &mut host, &mut copy);
-    go_on(rt, alloc, &mut host, &mut copy);
-    assert_selected(rt, alloc, &mut host, 7, &at_the_seventh_second());
-    end(rt, alloc, &mut host, &mut copy);
-}
-
-/// The copy that three harvests made holds what is selected at the eighth second.
-fn assert_third_harvest<V: Versions + Drop>(rt: &impl Abort, alloc: Global, mut host: Host<V>) {
-    let mut copy = Copy::new(alloc);
-    begin(rt, alloc, &mut host, &mut copy);
-    go_on(rt, alloc, &mut host, &mut copy);
-    end(rt, alloc, &mut host, &mut copy);
-    assert_selected(rt, alloc, &mut host, 8, &at_the_eighth_second());
-}
-
-#[test]
-fn second_harvest_misses_nothing(rt: HostRuntime) {
-    let host = host_on_lists(&rt, rt.alloc());
-    assert_second_harvest(&rt, rt.alloc(), host);
-    let host = host_on_pages(&rt, rt.alloc());
-    assert_second_harvest(&rt, rt.alloc(), host);
-}
-
-#[test]
-fn third_harvest_misses_nothing(rt: HostRuntime) {
-    let host = host_on_lists(&rt, rt.alloc());
-    assert_third_harvest(&rt, rt.alloc(), host);
-    let host = host_on_pages(&rt, rt.alloc());
-    assert_third_harvest(&rt, rt.alloc(), host);
-}
-
 /// The document that the host answers to the second harvest where nothing came between.
 fn no_records() -> &'static str {
     r#"<responseDate>2024-01-01T00:00:07Z</responseDate><request verb="ListRecords" metadataPrefix="oai_dc" from="2024-01-01T00:00:05Z">http://host.example/oai/a</request><error code="noRecordsMatch">No records match.</error></OAI-PMH>
 "#
 }
 
+// ---- what is done with a host and a copy
+
+/// How it goes on behind the first harvest.
+#[derive(Clone, Copy)]
+enum Course {
+    /// The copy of the second harvest holds what is selected at the seventh second, and the third goes on with it.
+    Second,
+    /// The copy of the third harvest holds what is selected at the eighth second.
+    Third,
+    /// Nothing comes between the first two: the host says so, and the copy stays as it is.
+    NothingBetween,
+}
+
+/// The copy goes through the two harvests behind the first one.
+fn harvest_again<V: Versions + Drop>(
+    rt: &impl Abort,
+    alloc: Global,
+    host: &mut Host<V>,
+    copy: &mut Copy,
+    course: Course,
+) {
+    go_on(rt, alloc, host, copy);
+    if matches!(course, Course::Second) {
+        assert_selected(rt, alloc, host, 7, &at_the_seventh_second());
+    }
+    end(rt, alloc, host, copy);
+    if matches!(course, Course::Third) {
+        assert_selected(rt, alloc, host, 8, &at_the_eighth_second());
+    }
+}
+
 /// The host answers so to the second harvest, and the copy stays as it is.
-fn assert_nothing_between<V: Versions + Drop>(rt: &impl Abort, alloc: Global, mut host: Host<V>) {
-    let mut copy = Copy::new(alloc);
-    begin(rt, alloc, &mut host, &mut copy);
-    let answer = answered(rt, &mut host, 7, FROM_5, "");
+fn harvest_nothing<V: Versions + Drop>(
+    rt: &impl Abort,
+    alloc: Global,
+    host: &mut Host<V>,
+    copy: &mut Copy,
+) {
+    let answer = answered(rt, host, 7, FROM_5, "");
     let document = from_utf8(answer.body.as_slice()).expect(rt, "from_utf8");
     assert_same(rt, document.ends_with(no_records()), true);
-    catch_up(rt, alloc, &mut copy, document);
-    assert_holds(rt, &copy, &[live("oai:a:1", 0), live("oai:a:2", 0)]);
+    catch_up(rt, alloc, copy, document);
+    assert_holds(rt, copy, &[live("oai:a:1", 0), live("oai:a:2", 0)]);
+}
+
+/// A copy of the host is harvested so.
+fn assert_copied<V: Versions + Drop>(
+    rt: &impl Abort,
+    alloc: Global,
+    mut host: Host<V>,
+    course: Course,
+) {
+    let mut copy = Copy::new(alloc);
+    begin(rt, alloc, &mut host, &mut copy);
+    match course {
+        Course::NothingBetween => harvest_nothing(rt, alloc, &mut host, &mut copy),
+        _ => harvest_again(rt, alloc, &mut host, &mut copy, course),
+    }
+}
+
+/// The same of a new host over plain lists.
+fn assert_copied_from_lists<V: Versions + Drop>(
+    rt: &impl Abort,
+    alloc: Global,
+    store: V,
+    course: Course,
+) {
+    let host = host_over(alloc, config(rt, alloc), store).expect(rt, "host_over");
+    assert_copied(rt, alloc, host, course);
+}
+
+/// And of one over pages of the device.
+fn assert_copied_from_pages<D: PageDevice>(
+    rt: &impl Abort,
+    alloc: Global,
+    device: D,
+    course: Course,
+) {
+    let host = host_on(alloc, config(rt, alloc), device).expect(rt, "host_on");
+    assert_copied(rt, alloc, host, course);
+}
+
+/// And of both, in memory.
+fn assert_harvests(rt: &impl Abort, alloc: Global, course: Course) {
+    assert_copied_from_lists(rt, alloc, PlainVersions::new(alloc), course);
+    assert_copied_from_pages(rt, alloc, MemoryDevice::new(alloc), course);
+}
+
+#[test]
+fn second_harvest_misses_nothing(rt: HostRuntime) {
+    assert_harvests(&rt, rt.alloc(), Course::Second);
+}
+
+#[test]
+fn third_harvest_misses_nothing(rt: HostRuntime) {
+    assert_harvests(&rt, rt.alloc(), Course::Third);
 }
 
 #[test]
 fn nothing_between_two_harvests(rt: HostRuntime) {
-    let host = host_on_lists(&rt, rt.alloc());
-    assert_nothing_between(&rt, rt.alloc(), host);
-    let host = host_on_pages(&rt, rt.alloc());
-    assert_nothing_between(&rt, rt.alloc(), host);
+    assert_harvests(&rt, rt.alloc(), Course::NothingBetween);
 }
