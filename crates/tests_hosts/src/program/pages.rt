@@ -257,8 +257,8 @@ fn failures_at<R: Files<File = File> + AllocGlobal + Abort>(
     failures_with(rt, path, host, number, seed)
 }
 
-/// Each page is filled with zeros, and with bytes at random: what needs it fails, and nothing is answered that is wrong. The page in the cache is
-/// not read, and that of the last item is in it.
+/// Each page is filled with zeros, and with bytes at random: what needs it fails, and nothing is answered that is
+/// wrong. The page in the cache is not read, and that of the last item is in it.
 #[test]
 fn pages_written_over(rt: HostRuntime) {
     let path = "written-over.pages";
