@@ -1,5 +1,5 @@
 -- A journal that is replaced by a checkpoint.
-use Rattle.std.proofs.Common.{◌≡◌, ◌∙◌, ℕ, Bool, IfOk, IsTrue, List, Option, Result, Ok, Err, arith, length, map, refl, subst, sym, take, take_all}
+use Rattle.std.proofs.Common.{◌≡◌, ◌∙◌, ℕ, Bool, IfOk, IsTrue, List, Option, Result, Ok, Err, length, map, refl, subst, sym, take, take_all}
 use Rattle.oai_item.specs.declared.forms.Forms.{Forms}
 use Rattle.oai_item.specs.declared.forms.Forms.TheVariants.{Elements}
 use Rattle.oai_config.specs.Configs.{HostConfig}

@@ -1,5 +1,5 @@
 -- A journal that is replaced by a checkpoint. This repository's own.
-use Rattle.std.specs.Prelude.{◌≡◌, ℕ, Bool, true, false, IsTrue, List, map, Option, Ok}
+use Rattle.std.specs.Prelude.{ℕ, Bool, true, false, IsTrue, List, map, Option, Ok}
 use Rattle.oai_item.specs.declared.forms.Forms.{Forms}
 use Rattle.oai_item.specs.declared.forms.Forms.TheVariants.{Elements}
 use Rattle.oai_config.specs.Configs.{HostConfig}
@@ -9,7 +9,6 @@ use Rattle.oai_host.specs.Hosts.{HostState, Repository, begun}
 use Rattle.oai_journal.specs.Changes.{IsUndamaged}
 use Rattle.oai_journal.specs.Records.{Entry}
 use Rattle.oai_journal.specs.Recovered.{disk_of}
-use Rattle.oai_journal.specs.declared.file.FileJournal.{FileJournal}
 use Rattle.oai_journal.specs.declared.journals.Journal as journal
 use Rattle.oai_journal.specs.declared.recovery.Recovery.{Recovery}
 use Rattle.oai_durable.specs.Checkpoints.{HoldsCheckpoint, Saving}

@@ -118,8 +118,9 @@ fn shorten<P: Place, C: Clock>(
     ensures renewed { IfOk result (λ started. IsTrue (is_checkpoint started.origin)
         → HasRenewed P.Disk.Disk.seen P.Disk.Disk.is_clean ⟦<FileJournal<P::NewDisk> as Journal>⟧ P.is_honest 0) }
 {
-    drop(save(alloc, place, clock, text, &mut found.handler, 0)?);
+    let saved = save(alloc, place, clock, text, &mut found.handler, 0);
     drop(found);
+    drop(saved?);
     let config = config_in(alloc, Forms::Elements, text)?;
     let prepared = prepare_begun(alloc, place, text, Origin::Shortened)?;
     start_at(alloc, place, clock, text, config, prepared)
