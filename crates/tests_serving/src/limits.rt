@@ -1,26 +1,18 @@
 //! The limits of connections: how many are open, for how long, and how much one that takes nothing holds.
 use crate::assertions::assert_same;
-use crate::handler::Count;
-use crate::memory::{Manner, PLAIN, Seen, Waiting};
-use crate::served::{
-    EchoServer, assert_received, come, go_round, new_count, new_seen, new_server, times,
-};
+use crate::memory::{Manner, PLAIN, Seen};
+use crate::served::{Stage, assert_received, come, go_round, new_seen, new_stage, times};
 use std::alloc::Global;
 use std::panic::Expect;
 use std::process::Abort;
 use std::rc::Rc;
 
 /// A client that comes now is served.
-fn assert_other_served(
-    rt: &impl Abort,
-    alloc: Global,
-    server: &mut EchoServer,
-    waiting: &mut Waiting,
-) {
-    let other = new_seen(rt, alloc);
-    let one = times(rt, alloc, b"GET /a HTTP/1.0\r\n\r\n", 1);
-    come(rt, waiting, one, &other, PLAIN);
-    go_round(rt, server, waiting, 0, 5);
+fn assert_other_served(rt: &impl Abort, stage: &mut Stage) {
+    let other = new_seen(rt, stage.alloc);
+    let one = times(rt, stage.alloc, b"GET /a HTTP/1.0\r\n\r\n", 1);
+    come(rt, stage, one, &other, PLAIN);
+    go_round(rt, stage, 0, 5);
     assert_received(
         rt,
         &other,
@@ -30,68 +22,54 @@ fn assert_other_served(
 
 /// A client that sends 1,000 requests, each answered with 2,000 bytes, and takes none, has at most two of them
 /// performed; another is served beside it.
-fn assert_stalled(
-    rt: &impl Abort,
-    alloc: Global,
-    server: &mut EchoServer,
-    waiting: &mut Waiting,
-    count: &Rc<Count>,
-    stalled: &Rc<Seen>,
-) {
-    let many = times(rt, alloc, b"GET /l HTTP/1.1\r\nHost: h\r\n\r\n", 1_000);
-    come(rt, waiting, many, stalled, Manner { takes: 0, ..PLAIN });
-    go_round(rt, server, waiting, 0, 50);
-    assert!(rt; count.performed.get() <= 2);
-    assert_other_served(rt, alloc, server, waiting);
+fn assert_stalled(rt: &impl Abort, stage: &mut Stage, stalled: &Rc<Seen>) {
+    let many = times(
+        rt,
+        stage.alloc,
+        b"GET /l HTTP/1.1\r\nHost: h\r\n\r\n",
+        1_000,
+    );
+    come(rt, stage, many, stalled, Manner { takes: 0, ..PLAIN });
+    go_round(rt, stage, 0, 50);
+    assert!(rt; stage.count.performed.get() <= 2);
+    assert_other_served(rt, stage);
     assert_received(rt, stalled, b"");
     assert_same(rt, Rc::strong_count(stalled), 2);
-    go_round(rt, server, waiting, 60, 2);
+    go_round(rt, stage, 60, 2);
     assert_same(rt, Rc::strong_count(stalled), 1);
 }
 
 #[test]
 fn client_that_stops_taking(rt: HostRuntime) {
-    let alloc = rt.alloc();
-    let count = new_count(&rt, alloc);
-    let stalled = new_seen(&rt, alloc);
-    let mut waiting = Waiting::new(alloc, 0);
-    let mut server = new_server(&rt, alloc, &count, 0);
-    assert_stalled(&rt, alloc, &mut server, &mut waiting, &count, &stalled);
+    let stalled = new_seen(&rt, rt.alloc());
+    assert_stalled(&rt, &mut new_stage(&rt, rt.alloc(), 0, 0), &stalled);
 }
 
 /// 1,100 clients come and send nothing: 1,024 are open, the others wait; once the first have been idle for 60
 /// seconds the others are accepted.
-fn assert_places(
-    rt: &impl Abort,
-    alloc: Global,
-    server: &mut EchoServer,
-    waiting: &mut Waiting,
-    seen: &Rc<Seen>,
-) {
+fn assert_places(rt: &impl Abort, stage: &mut Stage, seen: &Rc<Seen>) {
     let idle = Manner {
         ends: false,
         ..PLAIN
     };
     for _ in 0..1_100 {
-        come(rt, waiting, Vec::new(alloc), seen, idle);
+        let nothing = Vec::new(stage.alloc);
+        come(rt, stage, nothing, seen, idle);
     }
     for second in 0..60 {
-        go_round(rt, server, waiting, second, 1);
+        go_round(rt, stage, second, 1);
     }
-    assert_same(rt, waiting.len(), 76);
+    assert_same(rt, stage.waiting.len(), 76);
     assert_same(rt, Rc::strong_count(seen), 1_101);
-    go_round(rt, server, waiting, 60, 2);
-    assert_same(rt, waiting.len(), 0);
+    go_round(rt, stage, 60, 2);
+    assert_same(rt, stage.waiting.len(), 0);
     assert_same(rt, Rc::strong_count(seen), 77);
 }
 
 #[test]
 fn clients_beyond_the_places(rt: HostRuntime) {
-    let alloc = rt.alloc();
-    let seen = new_seen(&rt, alloc);
-    let mut waiting = Waiting::new(alloc, 0);
-    let mut server = new_server(&rt, alloc, &new_count(&rt, alloc), 0);
-    assert_places(&rt, alloc, &mut server, &mut waiting, &seen);
+    let seen = new_seen(&rt, rt.alloc());
+    assert_places(&rt, &mut new_stage(&rt, rt.alloc(), 0, 0), &seen);
 }
 
 /// A message that is too long, and 100,000 bytes of its body.
@@ -105,33 +83,30 @@ fn too_long(rt: &impl Abort, alloc: Global) -> Vec<u8> {
 }
 
 /// A client whose message is too long gets its answer, is shut, and what it still sends is dropped, for 2 seconds.
-fn assert_shut(rt: &impl Abort, server: &mut EchoServer, waiting: &mut Waiting, seen: &Rc<Seen>) {
-    go_round(rt, server, waiting, 0, 50);
+fn assert_shut(rt: &impl Abort, stage: &mut Stage, seen: &Rc<Seen>) {
+    let slow = Manner {
+        read: 1_000,
+        ends: false,
+        ..PLAIN
+    };
+    let sends = too_long(rt, stage.alloc);
+    come(rt, stage, sends, seen, slow);
+    go_round(rt, stage, 0, 50);
     assert_received(
         rt,
         seen,
         b"HTTP/1.1 413 Content Too Large\r\nConnection: close\r\nContent-Length: 0\r\n\r\n",
     );
     assert!(rt; seen.finished.get());
-    go_round(rt, server, waiting, 1, 1);
+    go_round(rt, stage, 1, 1);
     assert_same(rt, Rc::strong_count(seen), 2);
-    go_round(rt, server, waiting, 2, 2);
+    go_round(rt, stage, 2, 2);
     assert_same(rt, Rc::strong_count(seen), 1);
+    assert_same(rt, stage.count.performed.get(), 0);
 }
 
 #[test]
 fn client_that_still_sends(rt: HostRuntime) {
-    let alloc = rt.alloc();
-    let count = new_count(&rt, alloc);
-    let seen = new_seen(&rt, alloc);
-    let slow = Manner {
-        read: 1_000,
-        ends: false,
-        ..PLAIN
-    };
-    let mut waiting = Waiting::new(alloc, 0);
-    come(&rt, &mut waiting, too_long(&rt, alloc), &seen, slow);
-    let mut server = new_server(&rt, alloc, &count, 0);
-    assert_shut(&rt, &mut server, &mut waiting, &seen);
-    assert_same(&rt, count.performed.get(), 0);
+    let seen = new_seen(&rt, rt.alloc());
+    assert_shut(&rt, &mut new_stage(&rt, rt.alloc(), 0, 0), &seen);
 }

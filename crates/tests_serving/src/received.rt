@@ -1,6 +1,6 @@
 //! What a client receives does not depend on the sizes of reads and writes, nor on calls that would block.
-use crate::memory::{Manner, PLAIN, Seen, Waiting};
-use crate::served::{come, go_round, new_count, new_seen, new_server, times};
+use crate::memory::{Manner, PLAIN, Seen};
+use crate::served::{Stage, come, go_round, new_seen, new_stage, times};
 use std::alloc::Global;
 use std::process::Abort;
 use std::rc::Rc;
@@ -17,30 +17,36 @@ HTTP/1.1 200 OK\r\nContent-Type: text/plain; version=0.0.4\r\nConnection: close\
 /// A client of that manner sends the bytes, and is served in so many rounds.
 fn serve(
     rt: &impl Abort,
-    alloc: Global,
+    stage: &mut Stage,
     sent: &[u8],
     manner: Manner,
     rounds: usize,
     seen: &Rc<Seen>,
 ) {
-    let mut waiting = Waiting::new(alloc, 0);
-    come(rt, &mut waiting, times(rt, alloc, sent, 1), seen, manner);
-    let mut server = new_server(rt, alloc, &new_count(rt, alloc), 0);
-    go_round(rt, &mut server, &mut waiting, 0, rounds);
+    let sends = times(rt, stage.alloc, sent, 1);
+    come(rt, stage, sends, seen, manner);
+    go_round(rt, stage, 0, rounds);
 }
 
 /// What a client of that manner receives in so many rounds.
 fn received(rt: &impl Abort, alloc: Global, sent: &[u8], manner: Manner, rounds: usize) -> Vec<u8> {
     let seen = new_seen(rt, alloc);
-    serve(rt, alloc, sent, manner, rounds, &seen);
+    let mut stage = new_stage(rt, alloc, 0, 0);
+    serve(rt, &mut stage, sent, manner, rounds, &seen);
+    drop(stage);
     seen.bytes()
+}
+
+/// It receives what is wanted.
+fn assert_answered(rt: &impl Abort, alloc: Global, manner: Manner, rounds: usize) {
+    assert!(rt; received(rt, alloc, SENT, manner, rounds).as_slice() == WANTED);
 }
 
 #[test]
 fn reads_of_each_size(rt: HostRuntime) {
     for read in 1..100 {
         let manner = Manner { read, ..PLAIN };
-        assert!(&rt; received(&rt, rt.alloc(), SENT, manner, 150 / read + 10).as_slice() == WANTED);
+        assert_answered(&rt, rt.alloc(), manner, 150 / read + 10);
     }
 }
 
@@ -48,7 +54,7 @@ fn reads_of_each_size(rt: HostRuntime) {
 fn writes_of_each_size(rt: HostRuntime) {
     for write in 1..100 {
         let manner = Manner { write, ..PLAIN };
-        assert!(&rt; received(&rt, rt.alloc(), SENT, manner, 16).as_slice() == WANTED);
+        assert_answered(&rt, rt.alloc(), manner, 16);
     }
 }
 
@@ -60,7 +66,7 @@ fn calls_that_would_block(rt: HostRuntime) {
         blocks: true,
         ..PLAIN
     };
-    assert!(&rt; received(&rt, rt.alloc(), SENT, manner, 300).as_slice() == WANTED);
+    assert_answered(&rt, rt.alloc(), manner, 300);
 }
 
 /// A client that ends its side within a message receives what was whole before.
