@@ -1,12 +1,11 @@
 //! Clocks in memory, and what a server does whose clock jumps.
 use crate::assertions::assert_same;
-use crate::daemon::places::{MemoryPlace, configuration, served};
+use crate::daemon::places::{MemoryPlace, Outset, configuration, served, with_journal};
 use oai_archive::ServerStop;
 use oai_startup::Stop;
 use std::alloc::Global;
 use std::cell::Cell;
 use std::io;
-use std::panic::Expect;
 use std::process::Abort;
 use std::rt::Clock;
 use std::time::Duration;
@@ -53,8 +52,11 @@ fn assert_ended(rt: &impl Abort, alloc: Global, seconds: u64, wanted: ServerStop
         seconds,
         shown: Cell::new(FIRST),
     };
-    let mut place = MemoryPlace::new(alloc, 100).expect(rt, "place");
-    place.rounds = 10;
+    let outset = Outset {
+        rounds: 10,
+        ..with_journal()
+    };
+    let mut place = MemoryPlace::new(alloc, outset);
     let ended = served(&mut place, &clock, configuration());
     assert_same(rt, ended, Ok(Err(wanted)));
 }
@@ -73,13 +75,27 @@ fn clock_gains_a_day(rt: HostRuntime) {
     assert_ended(&rt, rt.alloc(), 86_400, waits);
 }
 
-/// A start in a place whose journal ends with a tick at that moment makes these calls.
-fn assert_calls(rt: &impl Abort, alloc: Global, moment: i64, calls: &str) {
-    let mut place = MemoryPlace::new(alloc, 100).expect(rt, "place");
-    place.tick = Some(moment);
-    let ended = served(&mut place, &Standing, configuration());
+/// A start on that place with the configuration in the text makes these calls, and waits, which fails.
+pub(crate) fn assert_waits(
+    rt: &impl Abort,
+    alloc: Global,
+    outset: Outset<'_>,
+    text: &[u8],
+    calls: &str,
+) {
+    let mut place = MemoryPlace::new(alloc, outset);
+    let ended = served(&mut place, &Standing, text);
     assert_same(rt, ended, Ok(Err(ServerStop::Common(Stop::SocketFault))));
     assert_same(rt, place.calls.as_str(), calls);
+}
+
+/// A start in a place whose journal ends with a tick at that moment makes these calls.
+fn assert_calls(rt: &impl Abort, alloc: Global, moment: i64, calls: &str) {
+    let outset = Outset {
+        tick: Some(moment),
+        ..with_journal()
+    };
+    assert_waits(rt, alloc, outset, configuration(), calls);
 }
 
 /// A clock that is more than 366 days ahead of the last record, or more than an hour behind it, is reported, and ends

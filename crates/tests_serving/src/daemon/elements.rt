@@ -1,11 +1,8 @@
 //! Journals whose records may be elements, dumped and loaded again; and journals of version 1, whose records are lists
 //! of fields.
-use crate::assertions::assert_same;
-use crate::daemon::clocks::Standing;
+use crate::daemon::clocks::assert_waits;
 use crate::daemon::dumps::{assert_dumped, begun_with, deposit};
-use crate::daemon::places::{MemoryPlace, configuration, first_body, served};
-use oai_archive::ServerStop;
-use oai_startup::Stop;
+use crate::daemon::places::{Outset, configuration, first_body, with_journal};
 use std::alloc::Global;
 use std::panic::Expect;
 use std::process::Abort;
@@ -136,12 +133,13 @@ fn journals_of_version_1_have_no_elements(rt: HostRuntime) {
 /// A start on a journal of version 1, with the configuration in the text, whose first record would have that body,
 /// makes these calls.
 fn assert_calls(rt: &impl Abort, alloc: Global, body: &'static [u8], text: &[u8], calls: &str) {
-    let mut place = MemoryPlace::new(alloc, 100).expect(rt, "place");
-    place.other = Some(old_body(rt, alloc));
-    place.body = body;
-    let ended = served(&mut place, &Standing, text);
-    assert_same(rt, ended, Ok(Err(ServerStop::Common(Stop::SocketFault))));
-    assert_same(rt, place.calls.as_str(), calls);
+    let old = old_body(rt, alloc);
+    let outset = Outset {
+        other: Some(old.as_str()),
+        body,
+        ..with_journal()
+    };
+    assert_waits(rt, alloc, outset, text, calls);
 }
 
 /// It is gone on with, and that is reported; with a format that has no fields the server goes on by a checkpoint.

@@ -1,7 +1,7 @@
 //! The figures of a server: the page that is answered, and the line that is reported each hour.
 use crate::assertions::assert_same;
 use crate::daemon::clocks::Standing;
-use crate::daemon::places::{MemoryPlace, configuration, received, served};
+use crate::daemon::places::{MemoryPlace, Outset, configuration, received, served, with_journal};
 use std::alloc::Global;
 use std::cell::Cell;
 use std::io;
@@ -86,9 +86,12 @@ HTTP/1.1 405 Method Not Allowed\r\nAllow: GET\r\nConnection: close\r\nContent-Le
 
 /// What the client received.
 fn answered(rt: &impl Abort, alloc: Global) -> Vec<u8> {
-    let mut place = MemoryPlace::new(alloc, 100).expect(rt, "place");
-    place.rounds = 12;
-    place.sends = Some(SENT);
+    let outset = Outset {
+        rounds: 12,
+        sends: Some(SENT),
+        ..with_journal()
+    };
+    let mut place = MemoryPlace::new(alloc, outset);
     received(&mut place, &Standing, configuration()).expect(rt, "served")
 }
 
@@ -118,22 +121,24 @@ impl Clock for Running {
     }
 }
 
-/// A place behind a service of nine rounds by that clock.
-fn served_place(rt: &impl Abort, alloc: Global) -> MemoryPlace {
+/// A service in that place by that clock.
+fn serve(place: &mut MemoryPlace<'_>) {
     let clock = Running {
         shown: Cell::new(0),
     };
-    let mut place = MemoryPlace::new(alloc, 100).expect(rt, "place");
-    place.rounds = 9;
-    drop(served(&mut place, &clock, configuration()));
-    place
+    drop(served(place, &clock, configuration()));
 }
 
 /// Each round reads the clock once, so it takes 900 seconds: the first line comes in the second, the second in the
 /// sixth.
 #[test]
 fn lines(rt: HostRuntime) {
-    let place = served_place(&rt, rt.alloc());
+    let outset = Outset {
+        rounds: 9,
+        ..with_journal()
+    };
+    let mut place = MemoryPlace::new(rt.alloc(), outset);
+    serve(&mut place);
     assert_same(
         &rt,
         place.calls.as_str(),

@@ -14,7 +14,7 @@ use oai_recovery::{Notice, Place};
 use oai_serving::{Readiness, Sockets, Stream};
 use oai_startup::{Stop, WrittenConfig};
 use sqlite_disk::{Disk, Memory};
-use std::alloc::{AllocError, Global};
+use std::alloc::Global;
 use std::io::{self, ErrorKind};
 use std::rt::Clock;
 use std::time::Duration;
@@ -35,7 +35,7 @@ pub(crate) fn first_body() -> &'static [u8] {
 
 /// How a service of the configuration in the text ended in that place, with no keys, or why it did not begin.
 pub(crate) fn served<C: Clock>(
-    place: &mut MemoryPlace,
+    place: &mut MemoryPlace<'_>,
     clock: &C,
     text: &[u8],
 ) -> Result<Result<(), ServerStop>, ServerStop> {
@@ -47,7 +47,7 @@ pub(crate) fn served<C: Clock>(
 
 /// What the client of that place received of a service of the configuration in the text, with no keys.
 pub(crate) fn received<C: Clock>(
-    place: &mut MemoryPlace,
+    place: &mut MemoryPlace<'_>,
     clock: &C,
     text: &[u8],
 ) -> Result<Vec<u8>, ServerStop> {
@@ -66,7 +66,7 @@ struct EndedService {
 
 /// The service of the configuration in the text, with no keys.
 fn service<C: Clock>(
-    place: &mut MemoryPlace,
+    place: &mut MemoryPlace<'_>,
     clock: &C,
     text: &[u8],
 ) -> Result<EndedService, ServerStop> {
@@ -101,21 +101,18 @@ fn service_of<S: Drop, K: OneClient + Drop, H: Drop>(
     }
 }
 
-/// A place that takes note of the calls that are made, and fails at one of them.
-#[derive(Drop)]
-pub(crate) struct MemoryPlace {
-    alloc: Global,
-    /// The calls, each with a space behind it.
-    pub(crate) calls: String,
+/// What a place is before a service begins.
+#[derive(Clone, Copy)]
+pub(crate) struct Outset<'a> {
     /// How many calls are done before one fails.
-    left: u32,
+    pub(crate) left: u32,
     /// Whether there is a journal.
     pub(crate) found: bool,
     /// The name and the body of the first record of the journal.
     pub(crate) name: &'static [u8],
     pub(crate) body: &'static [u8],
     /// Another body in its place, if there is one, until a journal of the configuration that is served is kept.
-    pub(crate) other: Option<String>,
+    pub(crate) other: Option<&'a str>,
     /// The moment of a tick of the repository behind the first record, if there is one.
     pub(crate) tick: Option<i64>,
     /// The kind of long records behind that, which make the journal longer than 64 MiB, if there are some.
@@ -126,28 +123,50 @@ pub(crate) struct MemoryPlace {
     pub(crate) rounds: u32,
     /// What the one client of its port sends, if there is one.
     pub(crate) sends: Option<&'static [u8]>,
+}
+
+/// A place with a journal of its first record alone, no call of which fails.
+pub(crate) fn with_journal() -> Outset<'static> {
+    Outset {
+        left: 100,
+        found: true,
+        name: b"oaihostd",
+        body: first_body(),
+        other: None,
+        tick: None,
+        long: None,
+        behind: None,
+        rounds: 0,
+        sends: None,
+    }
+}
+
+/// A place that takes note of the calls that are made, and fails at one of them.
+#[derive(Drop)]
+pub(crate) struct MemoryPlace<'a> {
+    alloc: Global,
+    outset: Outset<'a>,
+    /// How many calls are done before one fails.
+    left: u32,
+    /// Another body of the first record, if there is one.
+    other: Option<&'a str>,
+    /// The calls, each with a space behind it.
+    pub(crate) calls: String,
     /// The line of figures that was reported last.
     pub(crate) figures: String,
 }
 
-impl MemoryPlace {
-    /// A place with a journal, of which the call behind so many fails.
-    pub(crate) fn new(alloc: Global, left: u32) -> Result<MemoryPlace, AllocError> {
-        Ok(MemoryPlace {
+impl<'a> MemoryPlace<'a> {
+    /// A place in which no call was made.
+    pub(crate) fn new(alloc: Global, outset: Outset<'a>) -> MemoryPlace<'a> {
+        MemoryPlace {
             alloc,
+            outset,
+            left: outset.left,
+            other: outset.other,
             calls: String::new(alloc),
-            left,
-            found: true,
-            name: b"oaihostd",
-            body: first_body(),
-            other: None,
-            tick: None,
-            long: None,
-            behind: None,
-            rounds: 0,
-            sends: None,
             figures: String::new(alloc),
-        })
+        }
     }
 
     /// Where its memory comes from.
@@ -168,10 +187,11 @@ impl MemoryPlace {
 
     /// A disk with the folder's journal: the first record, the tick, and the long records.
     fn journal(&self) -> Result<Memory, ServerStop> {
-        match &self.other {
-            Some(other) => self.journal_of(other.as_bytes(), self.tick, self.long),
-            None => self.journal_of(self.body, self.tick, self.long),
-        }
+        let body = match self.other {
+            Some(other) => other.as_bytes(),
+            None => self.outset.body,
+        };
+        self.journal_of(body, self.outset.tick, self.outset.long)
     }
 
     /// A disk with a journal of a first record with that body, of the tick, and of long records of that kind.
@@ -184,7 +204,7 @@ impl MemoryPlace {
         let first = LogRecord {
             moment: 1_704_067_200,
             kind: Kind::Journal,
-            name: self.name,
+            name: self.outset.name,
             body,
         };
         if !first.is_fit() {
@@ -270,7 +290,7 @@ fn commit<J: Journal>(journal: &mut J) -> Result<(), ServerStop> {
     }
 }
 
-impl Place for MemoryPlace {
+impl Place for MemoryPlace<'_> {
     type Disk = Memory;
 
     type OldDisk = Memory;
@@ -293,15 +313,15 @@ impl Place for MemoryPlace {
         self.call("listen")?;
         Ok(Quiet {
             alloc: self.alloc,
-            rounds: self.rounds,
-            sends: self.sends,
+            rounds: self.outset.rounds,
+            sends: self.outset.sends,
             received: Vec::new(self.alloc),
         })
     }
 
     fn find_journal(&mut self) -> Result<bool, ServerStop> {
         self.call("find")?;
-        Ok(self.found)
+        Ok(self.outset.found)
     }
 
     fn read_journal(&mut self) -> Result<Memory, ServerStop> {
@@ -316,7 +336,7 @@ impl Place for MemoryPlace {
 
     fn open_begun(&mut self) -> Result<Memory, ServerStop> {
         self.call("begun")?;
-        self.journal_of(self.body, self.behind, None)
+        self.journal_of(self.outset.body, self.outset.behind, None)
     }
 
     fn keep_journal(&mut self, _begun: &Recovery<Memory>) -> Result<(), ServerStop>

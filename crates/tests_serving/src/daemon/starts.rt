@@ -1,7 +1,7 @@
 //! The order of the steps at startup, and where startup stops.
 use crate::assertions::assert_same;
 use crate::daemon::clocks::Standing;
-use crate::daemon::places::{MemoryPlace, configuration, first_body, served};
+use crate::daemon::places::{MemoryPlace, Outset, configuration, first_body, served, with_journal};
 use oai_archive::{Aspect, Difference, ServerStop};
 use oai_journal::Kind;
 use oai_startup::Stop;
@@ -15,8 +15,15 @@ const FOUND: &str = "lock listen find open pages recovered announce ";
 const BEGUN: &str = "lock listen find begin begun pages recovered keep announce ";
 
 /// A start in that place, or the service behind it, stops so, after these calls.
-fn assert_start(rt: &impl Abort, place: &mut MemoryPlace, wanted: ServerStop, calls: &str) {
-    let stop = match served(place, &Standing, configuration()) {
+fn assert_start(
+    rt: &impl Abort,
+    alloc: Global,
+    outset: Outset<'_>,
+    wanted: ServerStop,
+    calls: &str,
+) {
+    let mut place = MemoryPlace::new(alloc, outset);
+    let stop = match served(&mut place, &Standing, configuration()) {
         Ok(ended) => ended,
         Err(stop) => Err(stop),
     };
@@ -26,19 +33,24 @@ fn assert_start(rt: &impl Abort, place: &mut MemoryPlace, wanted: ServerStop, ca
 
 /// A start with a journal, or without one, goes so far that the server waits, which fails.
 fn assert_waits(rt: &impl Abort, alloc: Global, found: bool, calls: &str) {
-    let mut place = MemoryPlace::new(alloc, 100).expect(rt, "place");
-    place.found = found;
-    assert_start(rt, &mut place, ServerStop::Common(Stop::SocketFault), calls);
+    let outset = Outset {
+        found,
+        ..with_journal()
+    };
+    assert_start(
+        rt,
+        alloc,
+        outset,
+        ServerStop::Common(Stop::SocketFault),
+        calls,
+    );
 }
 
-/// How many calls were made.
-fn calls(place: &MemoryPlace) -> usize {
-    place
-        .calls
-        .as_bytes()
-        .iter()
-        .filter(|b| **b == b' ')
-        .count()
+/// So many calls were made: the first ones without a journal.
+fn assert_calls(rt: &impl Abort, calls: &str, count: usize) {
+    assert!(rt; BEGUN.starts_with(calls));
+    let made = calls.as_bytes().iter().filter(|b| **b == b' ').count();
+    assert_same(rt, made, count);
 }
 
 /// With and without a journal, all is done in order; then the server waits, which fails here.
@@ -73,30 +85,44 @@ fn body_with(rt: &impl Abort, alloc: Global, version: &str) -> String {
 
 /// A start on a journal of that version with long records of that kind makes these calls.
 fn assert_long(rt: &impl Abort, alloc: Global, version: &str, kind: Kind, calls: &str) {
-    let mut place = MemoryPlace::new(alloc, 100).expect(rt, "place");
-    place.other = Some(body_with(rt, alloc, version));
-    place.long = Some(kind);
-    assert_start(rt, &mut place, ServerStop::Common(Stop::SocketFault), calls);
+    let body = body_with(rt, alloc, version);
+    let outset = Outset {
+        other: Some(body.as_str()),
+        long: Some(kind),
+        ..with_journal()
+    };
+    assert_start(
+        rt,
+        alloc,
+        outset,
+        ServerStop::Common(Stop::SocketFault),
+        calls,
+    );
 }
 
 /// A journal that was begun and has a record when it is read back is not kept.
 #[test]
 fn begun_journal_has_a_record(rt: HostRuntime) {
-    let mut place = MemoryPlace::new(rt.alloc(), 100).expect(&rt, "place");
-    place.found = false;
-    place.behind = Some(1_704_067_200);
+    let outset = Outset {
+        found: false,
+        behind: Some(1_704_067_200),
+        ..with_journal()
+    };
     let calls = "lock listen find begin begun pages recovered ";
-    assert_start(&rt, &mut place, ServerStop::CannotWrite, calls);
+    assert_start(&rt, rt.alloc(), outset, ServerStop::CannotWrite, calls);
 }
 
 /// A fault of the call behind so many ends a start without a journal there.
 fn assert_fault(rt: &impl Abort, alloc: Global, count: u32) {
-    let mut place = MemoryPlace::new(alloc, count).expect(rt, "place");
-    place.found = false;
+    let outset = Outset {
+        left: count,
+        found: false,
+        ..with_journal()
+    };
+    let mut place = MemoryPlace::new(alloc, outset);
     let stop = served(&mut place, &Standing, configuration());
     assert_same(rt, stop, Err(ServerStop::Common(Stop::DeviceFault)));
-    assert!(rt; BEGUN.starts_with(place.calls.as_str()));
-    assert_same(rt, calls(&place), (count as usize).wrapping_add(1));
+    assert_calls(rt, place.calls.as_str(), (count as usize).wrapping_add(1));
 }
 
 /// A fault at any step ends a start there, but one of a report.
@@ -115,10 +141,12 @@ fn assert_not_read(
     body: &'static [u8],
     wanted: ServerStop,
 ) {
-    let mut place = MemoryPlace::new(alloc, 100).expect(rt, "place");
-    place.name = name;
-    place.body = body;
-    assert_start(rt, &mut place, wanted, "lock listen find open ");
+    let outset = Outset {
+        name,
+        body,
+        ..with_journal()
+    };
+    assert_start(rt, alloc, outset, wanted, "lock listen find open ");
 }
 
 /// Another program, another version.
@@ -158,17 +186,19 @@ fn body_of(
 }
 
 /// A start on a journal of that body ends so, behind these calls.
-fn assert_other(rt: &impl Abort, alloc: Global, body: String, wanted: ServerStop, calls: &str) {
-    let mut place = MemoryPlace::new(alloc, 100).expect(rt, "place");
-    place.other = Some(body);
-    assert_start(rt, &mut place, wanted, calls);
+fn assert_other(rt: &impl Abort, alloc: Global, body: &str, wanted: ServerStop, calls: &str) {
+    let outset = Outset {
+        other: Some(body),
+        ..with_journal()
+    };
+    assert_start(rt, alloc, outset, wanted, calls);
 }
 
 /// A start on a journal of a repository `a` with that cache and title makes these calls, and waits.
 fn assert_goes_on(rt: &impl Abort, alloc: Global, cache: u32, title: &str, calls: &str) {
     let body = body_of(rt, alloc, "a", cache, "seconds", title);
     let waits = ServerStop::Common(Stop::SocketFault);
-    assert_other(rt, alloc, body, waits, calls);
+    assert_other(rt, alloc, body.as_str(), waits, calls);
 }
 
 /// A start on a journal of a repository with that name and granularity stops: the server cannot go on with another
@@ -177,7 +207,7 @@ fn assert_differs(rt: &impl Abort, alloc: Global, name: &str, granularity: &str,
     let body = body_of(rt, alloc, name, 1, granularity, "A");
     let repository = String::from_str(alloc, name).expect(rt, "memory");
     let stop = ServerStop::OtherConfig(Difference { repository, aspect });
-    assert_other(rt, alloc, body, stop, "lock listen find open ");
+    assert_other(rt, alloc, body.as_str(), stop, "lock listen find open ");
 }
 
 /// Another order of members and another cache are the same configuration; with another name for people the server goes
@@ -193,14 +223,18 @@ fn other_configurations(rt: HostRuntime) {
     assert_differs(&rt, alloc, "a", "days", Aspect::Granularity);
 }
 
+/// It was not a configuration.
+fn assert_bad_config(rt: &impl Abort, stop: Result<Result<(), ServerStop>, ServerStop>) {
+    match stop {
+        Err(ServerStop::Common(Stop::BadConfig(_))) => {}
+        _ => assert!(rt; false),
+    }
+}
+
 /// A configuration that is none stops it before anything is opened.
 #[test]
 fn no_configuration(rt: HostRuntime) {
-    let mut place = MemoryPlace::new(rt.alloc(), 100).expect(&rt, "place");
-    let stop = served(&mut place, &Standing, b"{}");
-    match stop {
-        Err(ServerStop::Common(Stop::BadConfig(_))) => {}
-        _ => assert!(&rt; false),
-    }
+    let mut place = MemoryPlace::new(rt.alloc(), with_journal());
+    assert_bad_config(&rt, served(&mut place, &Standing, b"{}"));
     assert_same(&rt, place.calls.as_str(), "");
 }
