@@ -1,15 +1,19 @@
 //! Archives over a journal that can crash.
+ghost use Rattle.std.specs.Prelude.{⊤};
+
 use crate::assertions::assert_same;
 use oai_device::{MemoryDevice, PageDevice};
-use oai_durable::{Journaled, Progress, recover, resume};
+use oai_durable::{Journaled, OnlineCheckpoint, Progress, recover, resume};
 use oai_host::{Config, Host};
-use oai_http::{Answer, Handler, Settled};
+use oai_http::{Answer, Exchange, Handler, SettleFault, Settled};
 use oai_item::Forms;
 use oai_journal::{FileJournal, Kind, LogRecord, Recovery};
 use oai_paged::{PagedVersions, VersionsOver};
 use oai_pool::Pool;
+use oai_replay::Replayed;
 use sqlite_disk::{Disk, Memory};
 use std::alloc::Global;
+use std::mem;
 use std::panic::Expect;
 use std::process::Abort;
 use tests_fixtures::{
@@ -37,7 +41,10 @@ pub(crate) fn worked(cache: usize) -> Setting {
 pub(crate) type Pages<D> = Host<PagedVersions<D>>;
 
 /// The host and its journal.
-pub(crate) type Archive<D> = Journaled<Pages<D>, FileJournal<Memory>>;
+type Archive<D> = Journaled<Pages<D>, FileJournal<Memory>>;
+
+/// A checkpoint in memory.
+pub(crate) type WrittenCheckpoint = OnlineCheckpoint<FileJournal<Memory>>;
 
 /// A recovery whose progress is not reported.
 #[derive(Drop)]
@@ -57,21 +64,34 @@ fn first() -> LogRecord<'static> {
     }
 }
 
+/// The configuration of that setting.
+fn config_of(rt: &impl Abort, alloc: Global, setting: Setting) -> Config {
+    let text = setting.configuration.as_bytes();
+    Config::read(alloc, setting.forms, text).expect(rt, "Config::read")
+}
+
+/// A store over pages of the device, with a cache of so many.
+fn store_on<D: PageDevice + Drop>(
+    rt: &impl Abort,
+    alloc: Global,
+    device: D,
+    cache: usize,
+) -> PagedVersions<D> {
+    assert!(rt; cache >= 1);
+    assert!(rt; cache <= 65_536);
+    let pool = Pool::new(alloc, device, cache).expect(rt, "Pool::new");
+    VersionsOver::new(alloc, pool)
+}
+
 /// A new host of that setting over the device.
-pub(crate) fn host_on<D: PageDevice + Drop>(
+fn host_on<D: PageDevice + Drop>(
     rt: &impl Abort,
     alloc: Global,
     device: D,
     setting: Setting,
 ) -> Pages<D> {
-    let config = Config::read(alloc, setting.forms, setting.configuration.as_bytes()).expect(
-        rt,
-        "Config::read",
-    );
-    assert!(rt; setting.cache >= 1);
-    assert!(rt; setting.cache <= 65_536);
-    let pool = Pool::new(alloc, device, setting.cache).expect(rt, "Pool::new");
-    Host::new(alloc, config, VersionsOver::new(alloc, pool)).expect(rt, "Host::new")
+    let store = store_on(rt, alloc, device, setting.cache);
+    Host::new(alloc, config_of(rt, alloc, setting), store).expect(rt, "Host::new")
 }
 
 /// A journal of no records on the disk.
@@ -98,33 +118,109 @@ pub(crate) fn begun_on<D: PageDevice + Drop>(
     Journaled::new(alloc, host, journal, 0)
 }
 
-/// An archive that begins over pages in memory.
-pub(crate) fn begun(rt: &impl Abort, alloc: Global, setting: Setting) -> Archive<MemoryDevice> {
-    begun_on(rt, alloc, MemoryDevice::new(alloc), setting)
+/// An archive over pages in memory, which may crash.
+#[derive(Drop)]
+pub(crate) struct MemoryArchive {
+    alloc: Global,
+    setting: Setting,
+    archive: Archive<MemoryDevice>,
 }
 
 /// Replays all log records.
-fn redo_all(
+fn redo_all<H: Replayed>(rt: &impl Abort, host: &mut H, recovery: &mut Recovery<Memory>) {
+    recovery.begin().expect(rt, "begin");
+    recover(host, recovery, &mut Quiet).expect(rt, "recover");
+}
+
+/// The handler and its journal, whose records it replays behind a crash.
+fn resumed<H: Replayed + Drop>(
     rt: &impl Abort,
     alloc: Global,
-    mut host: Pages<MemoryDevice>,
-    mut recovery: Recovery<Memory>,
-) -> Archive<MemoryDevice> {
-    recovery.begin().expect(rt, "begin");
-    recover(&mut host, &mut recovery, &mut Quiet).expect(rt, "recover");
+    mut host: H,
+    journal: FileJournal<Memory>,
+) -> Journaled<H, FileJournal<Memory>> {
+    let mut recovery = journal.crash(alloc);
+    redo_all(rt, &mut host, &mut recovery);
     resume(alloc, host, recovery, 0).expect(rt, "resume")
 }
 
-/// The archive that is found after a crash of the other.
-pub(crate) fn found_after<D: PageDevice + Drop>(
-    rt: &impl Abort,
-    alloc: Global,
-    archive: Archive<D>,
-    setting: Setting,
-) -> Archive<MemoryDevice> {
-    let recovery = archive.into_journal().crash(alloc);
-    let host = host_on(rt, alloc, MemoryDevice::new(alloc), setting);
-    redo_all(rt, alloc, host, recovery)
+impl MemoryArchive {
+    /// An archive that begins.
+    pub(crate) fn begun(rt: &impl Abort, alloc: Global, setting: Setting) -> MemoryArchive {
+        MemoryArchive {
+            alloc,
+            setting,
+            archive: begun_on(rt, alloc, MemoryDevice::new(alloc), setting),
+        }
+    }
+
+    /// The archive that goes on from the journal behind a crash.
+    pub(crate) fn found(
+        rt: &impl Abort,
+        alloc: Global,
+        journal: FileJournal<Memory>,
+        setting: Setting,
+    ) -> MemoryArchive {
+        let host = host_on(rt, alloc, MemoryDevice::new(alloc), setting);
+        MemoryArchive {
+            alloc,
+            setting,
+            archive: resumed(rt, alloc, host, journal),
+        }
+    }
+
+    /// Its journal.
+    pub(crate) fn into_journal(self) -> FileJournal<Memory> {
+        self.archive.into_journal()
+    }
+
+    /// It crashes, and goes on from its journal.
+    pub(crate) fn crash(&mut self, rt: &impl Abort) {
+        let (alloc, setting) = (self.alloc, self.setting);
+        let ended = mem::replace(self, MemoryArchive::begun(rt, alloc, setting));
+        *self = MemoryArchive::found(rt, alloc, ended.into_journal(), setting);
+    }
+
+    /// Begins a checkpoint.
+    pub(crate) fn begin_checkpoint(&mut self, rt: &impl Abort) -> WrittenCheckpoint {
+        let journal = empty_journal_on(rt, self.alloc, Memory::new(self.alloc));
+        let begun = self.archive.begin_checkpoint(journal);
+        begun.expect(rt, "begin_checkpoint")
+    }
+
+    /// Writes so many bytes of records to the checkpoint; returns whether more may be left.
+    pub(crate) fn write_checkpoint(
+        &mut self,
+        rt: &impl Abort,
+        checkpoint: &mut WrittenCheckpoint,
+        bytes: usize,
+    ) -> bool {
+        let written = self.archive.write_checkpoint(checkpoint, bytes);
+        written.expect(rt, "write_checkpoint")
+    }
+
+    /// The journal of the checkpoint takes the place of the archive's.
+    pub(crate) fn switch(&mut self, rt: &impl Abort, checkpoint: WrittenCheckpoint) {
+        let other = MemoryArchive::begun(rt, self.alloc, self.setting);
+        let MemoryArchive { archive, .. } = mem::replace(self, other);
+        self.archive = archive.switched(checkpoint.into_journal(), 0);
+    }
+}
+
+impl Handler for MemoryArchive {
+    ghost step = { λ old moment asked answer new. ⊤ };
+
+    fn exchange(&mut self, moment: i64, exchange: &Exchange<'_>) -> Answer {
+        self.archive.exchange(moment, exchange)
+    }
+}
+
+impl Settled for MemoryArchive {
+    ghost settled = { λ old result new. ⊤ };
+
+    fn settle(&mut self) -> Result<(), SettleFault> {
+        self.archive.settle()
+    }
 }
 
 /// What the handler answers to the exchange of the line.

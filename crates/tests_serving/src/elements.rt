@@ -1,6 +1,8 @@
 //! An archive whose records may be elements, found after a crash: each record is of the kind that it was.
-use crate::archives::{Setting, assert_told, begun, found_after, worked};
+use crate::archives::{MemoryArchive, Setting, assert_told, worked};
 use oai_item::Forms;
+use std::alloc::Global;
+use std::process::Abort;
 
 /// An element and a list of each format, a text that is no element, and a list of a field without a name.
 fn deposits() -> &'static str {
@@ -22,16 +24,20 @@ DOC <responseDate>2024-01-01T00:00:07Z</responseDate><request verb="ListRecords"
 DOC <responseDate>2024-01-01T00:00:07Z</responseDate><request verb="ListRecords" metadataPrefix="oai_dc">http://host.example/oai/a</request><ListRecords><record><header><identifier>oai:a:1</identifier><datestamp>2024-01-01T00:00:07Z</datestamp></header><metadata>{dc}<dc:title>&lt;T&gt;</dc:title></oai_dc:dc></metadata></record><record><header><identifier>oai:a:2</identifier><datestamp>2024-01-01T00:00:07Z</datestamp></header><metadata><o:dc xmlns:o="http://www.openarchives.org/OAI/2.0/oai_dc/" xmlns="">é</o:dc></metadata></record></ListRecords></OAI-PMH>"#
 }
 
+/// What is deposited has these records, before a crash of the archive and behind it.
+fn assert_found(rt: &impl Abort, alloc: Global, archive: &mut MemoryArchive) {
+    assert_told(rt, alloc, archive, deposits());
+    assert_told(rt, alloc, archive, records());
+    archive.crash(rt);
+    assert_told(rt, alloc, archive, records());
+}
+
 #[test]
 fn elements_are_found_after_a_crash(rt: HostRuntime) {
-    let alloc = rt.alloc();
     let setting = Setting {
         forms: Forms::Elements,
         ..worked(1)
     };
-    let mut archive = begun(&rt, alloc, setting);
-    assert_told(&rt, alloc, &mut archive, deposits());
-    assert_told(&rt, alloc, &mut archive, records());
-    let mut found = found_after(&rt, alloc, archive, setting);
-    assert_told(&rt, alloc, &mut found, records());
+    let mut archive = MemoryArchive::begun(&rt, rt.alloc(), setting);
+    assert_found(&rt, rt.alloc(), &mut archive);
 }

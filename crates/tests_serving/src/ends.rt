@@ -1,50 +1,42 @@
 //! Ends, and what goes on behind them.
 use crate::archives::{
-    Archive, Setting, answer_of, assert_told, assert_wanted, begun, found_after, tell, worked,
+    MemoryArchive, Setting, answer_of, assert_told, assert_wanted, tell, worked,
 };
 use crate::assertions::assert_same;
-use oai_device::MemoryDevice;
 use oai_http::{Settled, Status};
 use std::alloc::Global;
 use std::panic::Expect;
 use std::process::Abort;
 use tests_fixtures::{long, script, short};
 
-/// The archive that goes on behind the exchange of the line and an end.
-fn exchanged(
-    rt: &impl Abort,
-    alloc: Global,
-    mut archive: Archive<MemoryDevice>,
-    line: &str,
-    setting: Setting,
-    output: &mut Vec<u8>,
-) -> Archive<MemoryDevice> {
-    tell(rt, alloc, &mut archive, line, output);
-    found_after(rt, alloc, archive, setting)
-}
-
-/// Writes what an archive answers to the transcript that ends after each exchange and goes on from its journal.
+/// Writes what the archive answers to the transcript; it ends after each exchange and goes on from its journal.
 fn write_answers(
     rt: &impl Abort,
     alloc: Global,
+    archive: &mut MemoryArchive,
     transcript: &str,
-    setting: Setting,
     output: &mut Vec<u8>,
 ) {
-    let mut archive = begun(rt, alloc, setting);
     for line in transcript.lines() {
         if let Some(line) = line.strip_prefix("> ") {
-            archive = exchanged(rt, alloc, archive, line, setting, output);
+            tell(rt, alloc, archive, line, output);
+            archive.crash(rt);
         }
     }
 }
 
 /// The archive ends after each exchange of the transcript and goes on from its journal; the answers are those of the
 /// transcript.
-fn assert_goes_on(rt: &impl Abort, alloc: Global, transcript: &str, setting: Setting) {
+fn assert_answers(rt: &impl Abort, alloc: Global, archive: &mut MemoryArchive, transcript: &str) {
     let mut output = Vec::new(alloc);
-    write_answers(rt, alloc, transcript, setting, &mut output);
+    write_answers(rt, alloc, archive, transcript, &mut output);
     assert_wanted(rt, alloc, &output, transcript);
+}
+
+/// So does a new archive of that setting.
+fn assert_goes_on(rt: &impl Abort, alloc: Global, transcript: &str, setting: Setting) {
+    let mut archive = MemoryArchive::begun(rt, alloc, setting);
+    assert_answers(rt, alloc, &mut archive, transcript);
 }
 
 /// The script goes on over caches of 1, 2 and 64 pages.
@@ -119,21 +111,20 @@ fn assert_ok<H: Settled>(rt: &impl Abort, alloc: Global, handler: &mut H, line: 
     assert_same(rt, answer.status, Status::Ok);
 }
 
-/// An archive of two deposits, of which the first one had settled.
-fn deposited_twice(rt: &impl Abort, alloc: Global) -> Archive<MemoryDevice> {
-    let mut archive = begun(rt, alloc, worked(1));
-    assert_ok(rt, alloc, &mut archive, deposit(1));
-    archive.settle().expect(rt, "settle");
-    assert_ok(rt, alloc, &mut archive, deposit(2));
-    archive
+/// Two deposits, of which the first one settles.
+fn deposit_twice<H: Settled>(rt: &impl Abort, alloc: Global, handler: &mut H) {
+    assert_ok(rt, alloc, handler, deposit(1));
+    handler.settle().expect(rt, "settle");
+    assert_ok(rt, alloc, handler, deposit(2));
 }
 
 /// An answer that was held back may be lost, and what had settled is there.
 #[test]
 fn answer_that_was_held_back(rt: HostRuntime) {
     let alloc = rt.alloc();
-    let archive = deposited_twice(&rt, alloc);
-    let mut archive = found_after(&rt, alloc, archive, worked(1));
+    let mut archive = MemoryArchive::begun(&rt, alloc, worked(1));
+    deposit_twice(&rt, alloc, &mut archive);
+    archive.crash(&rt);
     assert_only_first(&rt, alloc, &mut archive);
 }
 

@@ -1,7 +1,6 @@
 //! Twenty lives, one behind the other, as a model answers what is asked in them.
-use crate::archives::{Archive, Setting, begun, found_after};
+use crate::archives::{MemoryArchive, Setting};
 use crate::written_lives::{configuration, lives};
-use oai_device::MemoryDevice;
 use oai_http::{Answer, Exchange, FORM, Handler, Settled, Target};
 use oai_item::Forms;
 use std::alloc::Global;
@@ -71,19 +70,20 @@ fn live<H: Settled>(rt: &impl Abort, handler: &mut H, line: &str) {
     assert_told(rt, &answer, line);
 }
 
-/// The archive behind what the line asks, or behind an end.
-fn behind(
-    rt: &impl Abort,
-    alloc: Global,
-    mut archive: Archive<MemoryDevice>,
-    line: &str,
-    setting: Setting,
-) -> Archive<MemoryDevice> {
+/// Performs what the line asks, or ends, and goes on behind the end.
+fn live_or_end(rt: &impl Abort, archive: &mut MemoryArchive, line: &str) {
     if line == "end" {
-        return found_after(rt, alloc, archive, setting);
+        archive.crash(rt);
+    } else {
+        live(rt, archive, line);
     }
-    live(rt, &mut archive, line);
-    archive
+}
+
+/// All lives of the text.
+fn live_all(rt: &impl Abort, archive: &mut MemoryArchive) {
+    for line in lives().lines() {
+        live_or_end(rt, archive, line);
+    }
 }
 
 /// All lives of the text, over a cache of so many pages.
@@ -93,10 +93,7 @@ fn assert_lives(rt: &impl Abort, alloc: Global, cache: usize) {
         forms: Forms::Fields,
         cache,
     };
-    let mut archive = begun(rt, alloc, setting);
-    for line in lives().lines() {
-        archive = behind(rt, alloc, archive, line, setting);
-    }
+    live_all(rt, &mut MemoryArchive::begun(rt, alloc, setting));
 }
 
 #[test]

@@ -1,19 +1,11 @@
 //! Checkpoints that are written while exchanges go on.
-use crate::archives::{
-    Archive, Setting, assert_wanted, begun, empty_journal_on, found_after, tell, worked,
-};
-use oai_device::MemoryDevice;
-use oai_durable::OnlineCheckpoint;
+use crate::archives::{MemoryArchive, Setting, WrittenCheckpoint, assert_wanted, tell, worked};
+use oai_http::Settled;
 use oai_item::Forms;
-use oai_journal::FileJournal;
-use sqlite_disk::Memory;
 use std::alloc::Global;
 use std::panic::Expect;
 use std::process::Abort;
 use tests_fixtures::{long, script, short};
-
-/// A checkpoint in memory.
-type Written = OnlineCheckpoint<FileJournal<Memory>>;
 
 /// The worked configuration, in journals that may have open lists.
 fn setting() -> Setting {
@@ -33,23 +25,13 @@ struct Span {
     end: usize,
 }
 
-/// Begins a checkpoint.
-fn begin(rt: &impl Abort, alloc: Global, archive: &mut Archive<MemoryDevice>) -> Written {
-    let journal = empty_journal_on(rt, alloc, Memory::new(alloc));
-    archive
-        .begin_checkpoint(journal)
-        .expect(rt, "begin_checkpoint")
-}
-
 /// Writes a step of the checkpoint; returns whether more may be left.
-fn step(rt: &impl Abort, archive: &mut Archive<MemoryDevice>, checkpoint: &mut Written) -> bool {
-    archive
-        .write_checkpoint(checkpoint, STEP_BYTES)
-        .expect(rt, "write_checkpoint")
+fn step(rt: &impl Abort, archive: &mut MemoryArchive, checkpoint: &mut WrittenCheckpoint) -> bool {
+    archive.write_checkpoint(rt, checkpoint, STEP_BYTES)
 }
 
 /// Writes all that is left of the checkpoint.
-fn write_all(rt: &impl Abort, archive: &mut Archive<MemoryDevice>, checkpoint: &mut Written) {
+fn write_all(rt: &impl Abort, archive: &mut MemoryArchive, checkpoint: &mut WrittenCheckpoint) {
     for _ in 0..10_000u32 {
         if !step(rt, archive, checkpoint) {
             break;
@@ -58,10 +40,10 @@ fn write_all(rt: &impl Abort, archive: &mut Archive<MemoryDevice>, checkpoint: &
 }
 
 /// Performs the exchanges of the transcript from the one of a number to before that of another.
-fn tell_from(
+fn tell_from<H: Settled>(
     rt: &impl Abort,
     alloc: Global,
-    archive: &mut Archive<MemoryDevice>,
+    archive: &mut H,
     transcript: &str,
     (first, last): (usize, usize),
     output: &mut Vec<u8>,
@@ -81,8 +63,8 @@ fn tell_from(
 fn tell_beside(
     rt: &impl Abort,
     alloc: Global,
-    archive: &mut Archive<MemoryDevice>,
-    checkpoint: &mut Written,
+    archive: &mut MemoryArchive,
+    checkpoint: &mut WrittenCheckpoint,
     transcript: &str,
     span: Span,
     output: &mut Vec<u8>,
@@ -94,40 +76,52 @@ fn tell_beside(
     }
 }
 
-/// The archive over the journal of a checkpoint of that span, of which all that is left was written, behind its
-/// exchanges.
-fn switched(
+/// The journal of a checkpoint of that span, of which all that is left is written behind the exchanges of the span,
+/// takes the place of the archive's.
+fn switch_behind(
     rt: &impl Abort,
     alloc: Global,
+    archive: &mut MemoryArchive,
     transcript: &str,
     span: Span,
     output: &mut Vec<u8>,
-) -> Archive<MemoryDevice> {
-    let mut archive = begun(rt, alloc, setting());
-    tell_from(rt, alloc, &mut archive, transcript, (0, span.begin), output);
-    let mut checkpoint = begin(rt, alloc, &mut archive);
+) {
+    let mut checkpoint = archive.begin_checkpoint(rt);
     tell_beside(
         rt,
         alloc,
-        &mut archive,
+        archive,
         &mut checkpoint,
         transcript,
         span,
         output,
     );
-    write_all(rt, &mut archive, &mut checkpoint);
-    archive.switched(checkpoint.into_journal(), 0)
+    write_all(rt, archive, &mut checkpoint);
+    archive.switch(rt, checkpoint);
 }
 
 /// The answers to the exchanges of the transcript are its own, with a checkpoint of that span, and a crash where it
 /// takes the place of the journal.
-fn assert_goes_on(rt: &impl Abort, alloc: Global, transcript: &str, span: Span) {
+fn assert_answers(
+    rt: &impl Abort,
+    alloc: Global,
+    archive: &mut MemoryArchive,
+    transcript: &str,
+    span: Span,
+) {
     let mut output = Vec::new(alloc);
-    let archive = switched(rt, alloc, transcript, span, &mut output);
-    let mut found = found_after(rt, alloc, archive, setting());
+    tell_from(rt, alloc, archive, transcript, (0, span.begin), &mut output);
+    switch_behind(rt, alloc, archive, transcript, span, &mut output);
+    archive.crash(rt);
     let rest = (span.end.saturating_add(1), usize::MAX);
-    tell_from(rt, alloc, &mut found, transcript, rest, &mut output);
+    tell_from(rt, alloc, archive, transcript, rest, &mut output);
     assert_wanted(rt, alloc, &output, transcript);
+}
+
+/// So they are of a new archive.
+fn assert_goes_on(rt: &impl Abort, alloc: Global, transcript: &str, span: Span) {
+    let mut archive = MemoryArchive::begun(rt, alloc, setting());
+    assert_answers(rt, alloc, &mut archive, transcript, span);
 }
 
 /// How many exchanges the transcript has.

@@ -1,5 +1,5 @@
 //! What is performed and leaves no log record.
-use crate::archives::{answer_of, begun, worked};
+use crate::archives::{MemoryArchive, answer_of, worked};
 use oai_http::Settled;
 use oai_journal::Recovery;
 use sqlite_disk::Memory;
@@ -22,13 +22,17 @@ fn assert_no_record(rt: &impl Abort, mut recovery: Recovery<Memory>) {
     assert!(rt; !more);
 }
 
-/// A deposit of blank lines alone.
+/// A deposit of blank lines alone settles.
+fn deposit_blank_lines<H: Settled>(rt: &impl Abort, alloc: Global, handler: &mut H) {
+    let line = "1704067207 POST /deposit/a | - |  ¶\t¶\r¶¶ ";
+    assert_no_line(rt, alloc, handler, line);
+    handler.settle().expect(rt, "settle");
+}
+
 #[test]
 fn blank_lines_leave_no_record(rt: HostRuntime) {
     let alloc = rt.alloc();
-    let mut archive = begun(&rt, alloc, worked(1));
-    let line = "1704067207 POST /deposit/a | - |  ¶\t¶\r¶¶ ";
-    assert_no_line(&rt, alloc, &mut archive, line);
-    archive.settle().expect(&rt, "settle");
+    let mut archive = MemoryArchive::begun(&rt, alloc, worked(1));
+    deposit_blank_lines(&rt, alloc, &mut archive);
     assert_no_record(&rt, archive.into_journal().crash(alloc));
 }
