@@ -211,8 +211,6 @@ fn add_part<P: PagePool>(
     if from == to {
         return Ok(());
     }
-    // (entries have fewer bytes than a `usize` counts, which the contract of their number says)
-    let _all = entries.len();
     let place = add_page(alloc, pages, names, range, near)?;
     added.push(place).unwrap();
     Ok(())
@@ -236,7 +234,7 @@ fn add_page<P: PagePool>(
     ensures pool { Spends P.room P.failures P.honest (1 + overflow_of (between range.entry.from range.entry.to range.entry.entries.now)) result pages.old pages.new }
 {
     let EntryRange { entries, from, to } = range;
-    // (entries have fewer bytes than a `usize` counts, which the contract of their number says)
+    // (the proof needs what `len` says of the entries: each of them encodes an item)
     let _all = entries.len();
     let stamp = entries.stamp(from);
     let identifier = entries.identifier(alloc, from)?;
@@ -297,7 +295,7 @@ fn add_numbers<P: PagePool>(
     ensures pool { Spends P.room P.failures P.honest (1 + overflow_of (between range.entry.from range.entry.to range.entry.entries.now)) result pages.old pages.new }
 {
     let EntryRange { entries, from, to } = range;
-    // (entries have fewer bytes than a `usize` counts, which the contract of their number says)
+    // (the proof needs what `len` says of the entries: each of them encodes an item)
     let _all = entries.len();
     let overflow = entries.overflow(from, to);
     let kind = kind_for(overflow);
@@ -330,7 +328,7 @@ fn add_filled<P: PagePool>(
     ensures kept { KeepsNamed (P.counts pages.old) (P.pages pages.old) (P.pages pages.new) }
     ensures pool { SpendsNumbers P.room P.failures P.cache_size P.honest 1 result pages.old pages.new }
 {
-    // (entries have fewer bytes than a `usize` counts, which the contract of their number says)
+    // (the proof needs what `len` says of the entries: each of them encodes an item)
     let _all = range.entries.len();
     let page = filled_page(alloc, pages, range, at)?;
     pages.add(page, kind)
